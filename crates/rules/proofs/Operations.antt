@@ -1,0 +1,107 @@
+-- Laws of operations and their table. Assumes nothing.
+use mathlib.Core.Path.{_≡_, refl, sym, ap, _∙_}
+use mathlib.Core.Bool.{Bool, true, false, cond, not, _&&_}
+use mathlib.Core.List.{List, [], _∷_, _++_, map}
+use Prim.Native.Nat.{ℕ, zero, suc, _+_, _≤_, _<_}
+use native.Mathlib.Nat.{le-of-suc-le-suc, not-suc-le-zero}
+use native.Mathlib.Numerals.{add-one}
+use native.Mathlib.Omega.{arith}
+use borrow.Author.Tests.{ltb-true, lt-ltb, le-ltb, le-leb, lt-leb, leb-true, eqb-true, eq-eqb}
+use lib.ListN.{length, getD, drop, drop-of-length-le}
+use lib.Seq.{drop-cons, drop-nil}
+use lib.Dec.{leb, ltb, eqb}
+use Rattle.rules.specs.Lists.{every}
+use Rattle.rules.specs.Operations.{Op, operations, codes, values, kindOf, goodTable, noop, assigned, valued, hasImmediate, field, valueRight, admissible, opFault}
+
+-- ---- tests
+
+pub true-left : (a b : Bool) → (a && b) ≡ true → a ≡ true
+true-left true b h = refl
+true-left false b h = h
+
+pub true-right : (a b : Bool) → (a && b) ≡ true → b ≡ true
+true-right true b h = h
+true-right false b h = let y : _≡_ {A = ℕ} 0 1 = cc in absurd (omega arith)
+
+pub true-both : (a b : Bool) → a ≡ true → b ≡ true → (a && b) ≡ true
+true-both a b h k = rw (h, k)
+
+-- what a walk over a list finds of `every`
+module _ {A : Type 0} (d : A) (test : A → Bool) (xs : List A) (i : ℕ) where
+  pub every-turn : i < length xs → test (getD xs i d) ≡ true → every test (drop (i + 1) xs) ≡ every test (drop i xs)
+  unfolding every
+  every-turn h e = rw (add-one i, drop-cons xs i d h, e)
+
+  pub every-stop : i < length xs → test (getD xs i d) ≡ false → every test (drop i xs) ≡ false
+  unfolding every
+  every-stop h e = rw (drop-cons xs i d h, e)
+
+  pub every-end : length xs ≤ i → every test (drop i xs) ≡ true
+  unfolding every
+  every-end h = rw (drop-of-length-le xs {i = i} h)
+
+-- ---- the table
+
+-- within the table an opcode's kind is what stands there
+pub kind-at : (t : List ℕ) (c : ℕ) → c < length t → kindOf t c ≡ getD t c 0
+kind-at [] c h = absurd (not-suc-le-zero h)
+kind-at (k ∷ t) zero h = refl
+kind-at (k ∷ t) (suc c) h = kind-at t c (le-of-suc-le-suc h)
+
+pub table-128 : (t : List ℕ) → goodTable t ≡ true → length t ≡ 128
+unfolding goodTable
+table-128 t h = eqb-true (length t) 128 (true-left (eqb (length t) 128) (eqb (kindOf t 0) 0 && every (λ (k : ℕ). leb k 3) t) h)
+
+pub noop-kind : (t : List ℕ) → goodTable t ≡ true → kindOf t 0 ≡ 0
+unfolding goodTable
+noop-kind t h = eqb-true (kindOf t 0) 0 (true-left (eqb (kindOf t 0) 0) (every (λ (k : ℕ). leb k 3) t) (true-right (eqb (length t) 128) (eqb (kindOf t 0) 0 && every (λ (k : ℕ). leb k 3) t) h))
+
+pub noop-plain : (t : List ℕ) → goodTable t ≡ true → hasImmediate t noop ≡ false
+unfolding hasImmediate noop
+noop-plain t h = rw (noop-kind t h)
+
+-- ---- the operations of two runs
+
+abbrev pub op : ℕ → ℕ → Op
+op c v = record { code = c; value = v }
+
+pub length-operations : (cs vs : List ℕ) → length cs ≡ length vs → length (operations cs vs) ≡ length cs
+unfolding operations
+length-operations [] vs h = refl
+length-operations (c ∷ cs) [] h = absurd (omega arith)
+length-operations (c ∷ cs) (v ∷ vs) h = ap suc (length-operations cs vs (omega arith))
+
+pub operations-turn : (cs vs : List ℕ) (i : ℕ) → i < length cs → i < length vs
+    → operations (drop i cs) (drop i vs) ≡ op (getD cs i 0) (getD vs i 0) ∷ operations (drop (i + 1) cs) (drop (i + 1) vs)
+unfolding operations
+operations-turn cs vs i h k = rw (add-one i, drop-cons cs i 0 h, drop-cons vs i 0 k)
+
+pub operations-end : (cs vs : List ℕ) (i : ℕ) → length cs ≤ i → operations (drop i cs) (drop i vs) ≡ []
+unfolding operations
+operations-end cs vs i h = rw (drop-of-length-le cs {i = i} h)
+
+pub codes-back : (xs : List Op) → operations (codes xs) (values xs) ≡ xs
+unfolding operations codes values
+codes-back [] = refl
+codes-back (x ∷ xs) = ap (λ (l : List Op). x ∷ l) (codes-back xs)
+
+-- ---- admissible
+
+pub record Admissible (t : List ℕ) (x : Op) : Type 0 where
+  pub code : x .code < 128
+  pub kind : kindOf t (x .code) < 3
+  pub value : cond (valued t (x .code)) (ltb (x .value) field) (eqb (x .value) 0) ≡ true
+
+pub admitted : (t : List ℕ) (x : Op) → opFault t x ≡ 0 → Admissible t x
+unfolding opFault admissible assigned valueRight
+admitted t x h = go (admissible t x) refl h
+  where
+    go : (b : Bool) → admissible t x ≡ b → _≡_ {A = ℕ} (cond b 0 4) 0 → Admissible t x
+    go true e k =
+        let a = true-left (ltb (x .code) 128 && ltb (kindOf t (x .code)) 3) (cond (valued t (x .code)) (ltb (x .value) field) (eqb (x .value) 0)) e in
+        record {
+          code = ltb-true (x .code) 128 (true-left (ltb (x .code) 128) (ltb (kindOf t (x .code)) 3) a);
+          kind = ltb-true (kindOf t (x .code)) 3 (true-right (ltb (x .code) 128) (ltb (kindOf t (x .code)) 3) a);
+          value = true-right (ltb (x .code) 128 && ltb (kindOf t (x .code)) 3) (cond (valued t (x .code)) (ltb (x .value) field) (eqb (x .value) 0)) e;
+        }
+    go false e k = absurd (omega arith)

@@ -1,0 +1,159 @@
+-- Document 01, "Numbers of refusal": the whole answer of each public function, its refusals in document 01's order, and what it leaves in lent outputs.
+use mathlib.Core.Bool.{Bool, true, false, cond, not, _&&_, _||_}
+use mathlib.Core.List.{List, [], _∷_, map}
+use mathlib.Core.Option.{Option}
+use Prim.Native.Nat.{ℕ, _+_, _/_, _%_}
+use lib.ListN.{length}
+use lib.Dec.{leb, ltb, eqb}
+use lib.Seq.{sets}
+use Rattle.rules.specs.Lists.{fitted}
+use Rattle.rules.specs.Answer.{Answer, good, refused, Item, Read, refuse, refuseFirst}
+use Rattle.rules.specs.Operations.{Op, operations, codes, values, goodTable, opFault}
+use Rattle.rules.specs.Batching.{batchesOf}
+use Rattle.rules.specs.Record.{Record, Block, blockOf, noBlock, recordSize, recordsBytes, recordsIn}
+use Rattle.rules.specs.Block.{Room, blockBytes, blockAt}
+use Rattle.rules.specs.Checks.{recordRight, structureFaults, paddingFaults, commitmentFaults}
+use Rattle.rules.specs.Lookups.{Place, groupOf, nextGroup, rawTable, paddedTable}
+
+-- ---- an arena: the three lent runs of a block
+
+pub record Arena : Type 0 where
+  pub codes : List ℕ
+  pub values : List ℕ
+  pub records : List ℕ
+
+abbrev pub arena : List ℕ → List ℕ → List ℕ → Arena
+arena cs vs rs = record { codes = cs; values = vs; records = rs }
+
+-- the block that lies in an arena
+unfoldable pub blockIn : Arena → Block
+blockIn a = record { ops = operations (a .codes) (a .values); records = recordsIn (a .records) }
+
+-- "65,535 padded operations and 16,384 batches in a block"; lists of equal length; records whole
+unfoldable pub within : Arena → Bool
+within a =
+    eqb (length (a .codes)) (length (a .values)) &&
+    (leb (length (a .codes)) 65535 &&
+    (eqb (length (a .records) % recordSize) 0 &&
+    leb (length (a .records) / recordSize) 16384))
+
+-- what an arena has room for: whole records
+unfoldable pub roomIn : Arena → Room
+roomIn a = record { codes = length (a .codes); values = length (a .values); records = length (a .records) / recordSize }
+
+-- an arena of the same lengths with a block in it: content, then zeros
+unfoldable pub filled : Arena → Block → Arena
+filled a b =
+    arena
+    (fitted (length (a .codes)) (codes (b .ops)))
+    (fitted (length (a .values)) (values (b .ops)))
+    (fitted (length (a .records)) (recordsBytes (b .records)))
+
+-- ---- build: "3, 14, 12, 4, 13"
+
+-- "13: lent output smaller than the result needs"
+unfoldable pub roomFor : Block → Room → Bool
+roomFor b room = leb (length (b .ops)) (room .codes) && (leb (length (b .ops)) (room .values) && leb (length (b .records)) (room .records))
+
+unfoldable pub built : ℕ → List ℕ → List ℕ → List ℕ → Room → Answer Block
+built w t cs vs room =
+    let xs = operations cs vs in
+    let b = blockOf (batchesOf w t xs) in
+    refuse (not (eqb (length cs) (length vs)) || ltb 16384 (length cs)) 3 0
+    (refuse (not (goodTable t)) 14 0
+    (refuse (eqb (length cs) 0) 12 0
+    (refuseFirst 0 (map (opFault t) xs)
+    (refuse (not (roomFor b room)) 13 0
+    (good b)))))
+
+-- "Build, tables and decode zero all lent outputs on refusal": a refused answer leaves an empty block
+abbrev pub blockLeft : Answer Block → Block
+blockLeft (good b) = b
+blockLeft (refused n p) = noBlock
+
+-- ---- encode: "3, 14, 1, 15, 4, 13"; the block's bytes, for a buffer of this size from a place on
+
+unfoldable pub encoded : ℕ → List ℕ → Arena → ℕ → ℕ → Answer (List ℕ)
+encoded w t a size at =
+    let b = blockIn a in
+    refuse (not (within a) || ltb 1048576 size) 3 0
+    (refuse (not (goodTable t)) 14 0
+    (refuse (ltb size at) 1 0
+    (refuseFirst 0 (structureFaults w b)
+    (refuseFirst 0 (map (opFault t) (b .ops))
+    (refuse (ltb size (at + length (blockBytes t b))) 13 0
+    (good (blockBytes t b)))))))
+
+-- "Encode writes only the block's bytes"; a refused one writes none
+abbrev pub bytesLeft : Answer (List ℕ) → List ℕ
+bytesLeft (good bytes) = bytes
+bytesLeft (refused n p) = []
+
+unfoldable pub written : List ℕ → ℕ → Answer (List ℕ) → List ℕ
+written out at d = sets out at (bytesLeft d)
+
+-- ---- decode: "3 (buffer), 14, 1, then count .."
+
+unfoldable pub decoded : ℕ → List ℕ → List ℕ → ℕ → Room → Read Block
+decoded w t s at room =
+    refuse (ltb 1048576 (length s)) 3 0
+    (refuse (not (goodTable t)) 14 0
+    (refuse (ltb (length s) at) 1 0
+    (blockAt w t s at room)))
+
+abbrev pub readLeft : Read Block → Block
+readLeft (good b) = b .item
+readLeft (refused n p) = noBlock
+
+-- ---- checks: "structure 3, 15; padding 3, 15, 10; commitment 3, 14, 15, 4, then batch by batch the first fault"
+
+unfoldable pub structureChecked : ℕ → Arena → Answer Unit
+structureChecked w a =
+    refuse (not (within a)) 3 0
+    (refuseFirst 0 (structureFaults w (blockIn a))
+    (good tt))
+
+unfoldable pub paddingChecked : ℕ → Arena → Answer Unit
+paddingChecked w a =
+    refuse (not (within a)) 3 0
+    (refuseFirst 0 (structureFaults w (blockIn a))
+    (refuseFirst 0 (paddingFaults (blockIn a))
+    (good tt)))
+
+unfoldable pub commitmentChecked : ℕ → List ℕ → Arena → Answer Unit
+commitmentChecked w t a =
+    refuse (not (within a)) 3 0
+    (refuse (not (goodTable t)) 14 0
+    (refuseFirst 0 (structureFaults w (blockIn a))
+    (refuseFirst 0 (map (opFault t) (blockIn a .ops))
+    (refuseFirst 0 (commitmentFaults t (blockIn a))
+    (good tt)))))
+
+-- ---- tables: "3, 15, 10, 13"; the entries, for a lent run of this length
+
+unfoldable pub tableOf : (Block → List ℕ) → ℕ → Arena → ℕ → Answer (List ℕ)
+tableOf table w a room =
+    let b = blockIn a in
+    refuse (not (within a)) 3 0
+    (refuseFirst 0 (structureFaults w b)
+    (refuseFirst 0 (paddingFaults b)
+    (refuse (ltb room (length (table b))) 13 0
+    (good (table b)))))
+
+abbrev pub rawTabled : ℕ → Arena → ℕ → Answer (List ℕ)
+rawTabled = tableOf rawTable
+
+abbrev pub paddedTabled : ℕ → Arena → ℕ → Answer (List ℕ)
+paddedTabled = tableOf paddedTable
+
+-- content, then zeros; no content where refused
+unfoldable pub tableLeft : List ℕ → Answer (List ℕ) → List ℕ
+tableLeft out d = fitted (length out) (bytesLeft d)
+
+-- ---- lookups in one batch: "refuse a record that fails structure with 15, place 0, its own ninth start taken as the operations lent"
+
+unfoldable pub groupLookup : ℕ → Record → ℕ → Answer (Option Place)
+groupLookup w r i = refuse (not (recordRight w r)) 15 0 (good (groupOf r i))
+
+unfoldable pub nextLookup : ℕ → Record → ℕ → Answer (Option ℕ)
+nextLookup w r g = refuse (not (recordRight w r)) 15 0 (good (nextGroup r g))

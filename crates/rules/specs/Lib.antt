@@ -1,0 +1,13 @@
+pub mod Lists
+pub mod Digits
+pub mod Answer
+pub mod Operations
+pub mod Batching
+pub mod Record
+pub mod Bytes
+pub mod Block
+pub mod Checks
+pub mod Lookups
+pub mod Functions
+pub mod Open
+pub mod Examples

@@ -1,0 +1,121 @@
+-- What a batch records (document 01, "Batching (000)"), a block's operations, and how records lie in a lent run of bytes.
+use mathlib.Core.Bool.{Bool, true, false, cond}
+use mathlib.Core.List.{List, [], _∷_, _++_, map}
+use Prim.Native.Nat.{ℕ, zero, suc, _+_, _-_, _*_, _/_}
+use lib.ListN.{length, getD}
+use Rattle.rules.specs.Lists.{fitted}
+use Rattle.rules.specs.Digits.{number, leBytes, leAt}
+use Rattle.rules.specs.Operations.{Op, codes}
+use Rattle.rules.specs.Batching.{Group, ops, imm}
+
+-- "A batch records nine starts, eight padding flags, eight group numbers and a group count."
+pub record Record : Type 0 where
+  pub starts : List ℕ
+  pub flags : List ℕ
+  pub numbers : List ℕ
+  pub count : ℕ
+
+-- "Group i is operations start i up to start i+1, counted within the batch": the starts of groups of these sizes, the first at n, and the end
+unfoldable pub startsFrom : ℕ → List ℕ → List ℕ
+startsFrom n [] = n ∷ []
+startsFrom n (k ∷ ks) = n ∷ startsFrom (n + k) ks
+
+-- the eight sizes that nine starts say: "each start i+1 minus start i"
+unfoldable pub differences : List ℕ → List ℕ
+differences [] = []
+differences (a ∷ []) = []
+differences (a ∷ b ∷ s) = (b - a) ∷ differences (b ∷ s)
+
+-- a record by its eight sizes, its eight flags and the numbers of the groups under the count:
+-- "Group numbers and flags from the count on are zero; starts after the count repeat the batch's operation total."
+unfoldable pub recordBy : List ℕ → List ℕ → List ℕ → Record
+recordBy sizes flags numbers = record { starts = startsFrom 0 sizes; flags = flags; numbers = fitted 8 numbers; count = length numbers }
+
+-- ---- the record of a batch
+
+unfoldable pub opsIn : Group → List Op
+opsIn (ops xs p) = xs
+opsIn (imm v) = []
+
+unfoldable pub sizeOf : Group → ℕ
+sizeOf g = length (opsIn g)
+
+unfoldable pub flagOf : Group → ℕ
+flagOf (ops xs p) = cond p 1 0
+flagOf (imm v) = 0
+
+-- "A group number is the sum of opcode times 128^position."
+unfoldable pub codesNumber : List Op → ℕ
+codesNumber xs = number 128 (codes xs)
+
+-- "An immediate's group number is its value."
+unfoldable pub numberOf : Group → ℕ
+numberOf (ops xs p) = codesNumber xs
+numberOf (imm v) = v
+
+unfoldable pub recordOf : List Group → Record
+recordOf gs = recordBy (fitted 8 (map sizeOf gs)) (fitted 8 (map flagOf gs)) (map numberOf gs)
+
+-- ---- a block: operations, and the records of its batches
+
+pub record Block : Type 0 where
+  pub ops : List Op
+  pub records : List Record
+
+-- the operations of a batch, and of all: "All batches' padded operations lie one after another."
+unfoldable pub opsOf : List Group → List Op
+opsOf [] = []
+opsOf (g ∷ gs) = opsIn g ++ opsOf gs
+
+unfoldable pub paddedOf : List (List Group) → List Op
+paddedOf [] = []
+paddedOf (gs ∷ bs) = opsOf gs ++ paddedOf bs
+
+unfoldable pub blockOf : List (List Group) → Block
+blockOf bs = record { ops = paddedOf bs; records = map recordOf bs }
+
+unfoldable pub noBlock : Block
+noBlock = record { ops = []; records = [] }
+
+-- ---- records in a lent run of bytes: nine bytes of starts, eight of flags, eight numbers of eight bytes each, little-endian, and a byte for the count
+
+abbrev pub recordSize : ℕ
+recordSize = 82
+
+unfoldable pub wordBytes : List ℕ → List ℕ
+wordBytes [] = []
+wordBytes (n ∷ ns) = leBytes 8 n ++ wordBytes ns
+
+unfoldable pub recordBytes : Record → List ℕ
+recordBytes r = r .starts ++ (r .flags ++ (wordBytes (r .numbers) ++ (r .count ∷ [])))
+
+unfoldable pub recordsBytes : List Record → List ℕ
+recordsBytes [] = []
+recordsBytes (r ∷ rs) = recordBytes r ++ recordsBytes rs
+
+-- k bytes of s from a place on, and k numbers of eight bytes
+unfoldable pub bytesAt : ℕ → List ℕ → ℕ → List ℕ
+bytesAt zero s at = []
+bytesAt (suc k) s at = getD s at 0 ∷ bytesAt k s (at + 1)
+
+unfoldable pub wordsAt : ℕ → List ℕ → ℕ → List ℕ
+wordsAt zero s at = []
+wordsAt (suc k) s at = leAt 8 s at ∷ wordsAt k s (at + 8)
+
+-- the b-th record of a run
+unfoldable pub recordAt : List ℕ → ℕ → Record
+recordAt s b =
+    record {
+      starts = bytesAt 9 s (recordSize * b);
+      flags = bytesAt 8 s (recordSize * b + 9);
+      numbers = wordsAt 8 s (recordSize * b + 17);
+      count = getD s (recordSize * b + 81) 0;
+    }
+
+-- k records from the b-th on, and all whole records of a run
+unfoldable pub recordsFrom : ℕ → List ℕ → ℕ → List Record
+recordsFrom zero s b = []
+recordsFrom (suc k) s b = recordAt s b ∷ recordsFrom k s (b + 1)
+
+unfoldable pub recordsIn : List ℕ → List Record
+recordsIn s = recordsFrom (length s / recordSize) s 0

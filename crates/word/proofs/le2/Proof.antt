@@ -1,0 +1,46 @@
+use native.Mathlib.Omega.{arith}
+use Rattle.rules.specs.Digits.{leAt}
+use borrow.Author.Needs.{needs}
+use Rattle.word.proofs.le2.Statement.{statement}
+use Rattle.word.proofs.le2.Tie as tie
+use Rattle.word.proofs.le2.Reads as reads
+use Rattle.word.proofs.le2.Lts as lts
+use Rattle.word.proofs.wide.Reads as wide-reads
+
+shared-slice-read-wide : tie.Need-shared-slice-read-wide
+shared-slice-read-wide c = search needs
+
+wide-requires : tie.Need-wide-requires
+wide-requires c κs = search needs
+
+add-wide : tie.Need-add-wide
+add-wide c = search needs
+
+shared-slice-read-wide-2 : tie.Need-shared-slice-read-wide-2
+shared-slice-read-wide-2 c = search needs
+
+wide-requires-2 : tie.Need-wide-requires-2
+wide-requires-2 c κs = search needs
+
+mul-result : tie.Need-mul-result
+mul-result c = search needs
+
+add-result : tie.Need-add-result
+add-result c = search needs
+
+returns : tie.Need-returns
+unfolding leAt
+returns c = omega arith
+
+pub le2-spec : {M : Type 1} → statement M
+le2-spec =
+    tie.close
+    (tie.spec
+    shared-slice-read-wide
+    wide-requires
+    add-wide
+    shared-slice-read-wide-2
+    wide-requires-2
+    mul-result
+    add-result
+    returns)

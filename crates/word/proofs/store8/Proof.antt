@@ -1,0 +1,22 @@
+use mathlib.Core.Path.{_≡_, refl, sym, ap, _∙_}
+use lib.Seq.{set-out}
+use borrow.Author.Needs.{needs}
+use Rattle.word.proofs.store8.Statement.{statement}
+use Rattle.word.proofs.store8.Tie as tie
+use Rattle.word.proofs.store8.Reads as reads
+use Rattle.word.proofs.store8.Lts as lts
+
+slice-write-out : tie.Need-slice-write-out
+slice-write-out c = search needs
+
+same-length : tie.Need-same-length
+same-length c = search needs
+
+returns : tie.Need-returns
+returns c = search needs
+
+returns-2 : tie.Need-returns-2
+returns-2 c = sym (set-out _ _ _ (c .if1 .left))
+
+pub store8-spec : {M : Type 1} → statement M
+store8-spec = tie.close (tie.spec slice-write-out same-length returns returns-2)
