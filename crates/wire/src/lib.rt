@@ -1,0 +1,323 @@
+// The items of a block's bytes (document 01, "Block bytes"): count, operation, batch count, nibbles and flags, each read and written.
+ghost use mathlib.Core.Path.{_≡_};
+ghost use mathlib.Core.Bool.{true};
+ghost use Prim.Native.Nat.{ℕ, _+_, _/_, _^_, _≤_, _<_};
+ghost use lib.ListN.{length};
+ghost use lib.Seq.{sets};
+ghost use lib.Dec.{leb};
+ghost use Rattle.rules.specs.Lists.{every};
+ghost use Rattle.rules.specs.Digits.{digits, number, leAt};
+ghost use Rattle.rules.specs.Operations.{Op};
+ghost use Rattle.rules.specs.Record.{startsFrom, differences, bytesAt};
+ghost use Rattle.rules.specs.Bytes.{countAt, least, more, countBytes, opAt, valueAt, opBytes, batchCountAt, upTo};
+ghost use Rattle.rules.specs.Checks.{startsRight};
+ghost use Rattle.operation.specs.Verdict.{op};
+ghost use Rattle.wire.specs.Replies.{countReadOf, opReadOf};
+
+// A count or a batch count, and the place after it; or a refusal's number and place.
+pub enum CountRead {
+    Found { value: u64, next: usize },
+    Refused { number: u8, place: usize },
+}
+
+// An operation, and the place after it; or a refusal's number and place.
+pub enum OpRead {
+    Found { code: u8, value: u64, next: usize },
+    Refused { number: u8, place: usize },
+}
+
+// ---- 1. the count
+
+// The number in the t + 1 bytes from `at`.
+fn number_in(s: &[u8], at: usize, t: u32) -> u64
+    requires { ⌜ (t ≤ 2) × (at + t < length (now s)) ⌝ }
+    ensures { λ r. ⌜ r ≡ leAt (t + 1) (now (s .entry)) at / 2 ^ (t + 1) ⌝ }
+{
+    if t == 0 {
+        return word::wide(s[at]) / 2;
+    }
+    if t == 1 {
+        return word::le2(s, at) / 4;
+    }
+    (word::le2(s, at) + 65536 * word::wide(s[at + 2])) / 8
+}
+
+// The least number whose shortest form has t + 1 bytes.
+fn lowest(t: u32) -> u64
+    requires { ⌜ t ≤ 2 ⌝ }
+    ensures { λ r. ⌜ r ≡ least t ⌝ }
+{
+    if t == 0 {
+        return 0;
+    }
+    if t == 1 {
+        return 128;
+    }
+    16384
+}
+
+// The count at `at`.
+pub fn read_count(s: &[u8], at: usize) -> CountRead
+    ensures { λ r. ⌜ r ≡ countReadOf (countAt (now (s .entry)) at) ⌝ }
+{
+    if s.len() <= at {
+        return CountRead::Refused {
+            number: 2,
+            place: at,
+        };
+    }
+    let t = u8::trailing_zeros(s[at]);
+    if 2 < t {
+        return CountRead::Refused {
+            number: 3,
+            place: 0,
+        };
+    }
+    let k = t as usize;
+    if s.len() - at <= k {
+        return CountRead::Refused {
+            number: 2,
+            place: at,
+        };
+    }
+    let value = number_in(s, at, t);
+    if value < lowest(t) {
+        return CountRead::Refused {
+            number: 3,
+            place: 0,
+        };
+    }
+    if 65535 < value {
+        return CountRead::Refused {
+            number: 3,
+            place: 0,
+        };
+    }
+    CountRead::Found {
+        value,
+        next: at + k + 1,
+    }
+}
+
+// How many bytes the count v takes.
+pub fn count_size(v: u64) -> usize
+    ensures { λ r. ⌜ r ≡ more v + 1 ⌝ }
+{
+    if v < 128 {
+        return 1;
+    }
+    if v < 16384 {
+        return 2;
+    }
+    3
+}
+
+// The count v, stored from `at` on; and the place after it.
+pub fn write_count(out: &mut [u8], at: usize, v: u64) -> usize
+    requires { ⌜ (v ≤ 65535) × (at + more v < length (now out)) ⌝ }
+    ensures { λ r. ⌜ (r ≡ at + more v + 1) × (now (out .exit) ≡ sets (now (out .entry)) at (countBytes v)) ⌝ }
+{
+    if v < 128 {
+        out[at] = (v * 2 + 1) as u8;
+        return at + 1;
+    }
+    if v < 16384 {
+        word::put2(out, at, v * 4 + 2);
+        return at + 2;
+    }
+    word::put2(out, at, v * 8 + 4);
+    out[at + 2] = ((v * 8 + 4) / 65536) as u8;
+    at + 3
+}
+
+// ---- 2. one operation
+
+// An opcode's value, in the eight bytes after it.
+fn read_value(s: &[u8], at: usize, i: usize, code: u8) -> OpRead
+    requires { ⌜ at < length (now s) ⌝ }
+    ensures { λ r. ⌜ r ≡ opReadOf (valueAt (now (s .entry)) at i code) ⌝ }
+{
+    if s.len() - at < 9 {
+        return OpRead::Refused {
+            number: 2,
+            place: at,
+        };
+    }
+    let value = word::le8(s, at + 1);
+    if value < operation::FIELD {
+        return OpRead::Found {
+            code,
+            value,
+            next: at + 9,
+        };
+    }
+    OpRead::Refused {
+        number: 4,
+        place: i,
+    }
+}
+
+// The operation at `at`, which is the i-th.
+pub fn read_op(table: &[u8], s: &[u8], at: usize, i: usize) -> OpRead
+    requires { ⌜ length (now table) ≡ 128 ⌝ }
+    ensures { λ r. ⌜ r ≡ opReadOf (opAt (now (table .entry)) (now (s .entry)) at i) ⌝ }
+{
+    if s.len() <= at {
+        return OpRead::Refused {
+            number: 2,
+            place: at,
+        };
+    }
+    let code = s[at];
+    if 128 <= code {
+        return OpRead::Refused {
+            number: 4,
+            place: i,
+        };
+    }
+    let kind = table[code as usize];
+    if 3 <= kind {
+        return OpRead::Refused {
+            number: 4,
+            place: i,
+        };
+    }
+    if kind == 0 {
+        return OpRead::Found {
+            code,
+            value: 0,
+            next: at + 1,
+        };
+    }
+    read_value(s, at, i, code)
+}
+
+// An operation, stored from `at` on; and the place after it.
+pub fn write_op(table: &[u8], out: &mut [u8], at: usize, code: u8, v: u64) -> usize
+    requires { ⌜ (length (now table) ≡ 128) × (code < 128) × (at + length (opBytes (now table) (op code v)) ≤ length (now out)) ⌝ }
+    ensures { λ r. ⌜ (r ≡ at + length (opBytes (now (table .entry)) (op code v))) × (now (out .exit) ≡ sets (now (out .entry)) at (opBytes (now (table .entry)) (op code v))) ⌝ }
+{
+    let kind = table[code as usize];
+    out[at] = code;
+    if kind == 0 {
+        return at + 1;
+    }
+    word::put8(out, at + 1, v);
+    at + 9
+}
+
+// ---- 3. the batch count
+
+pub fn read_batch_count(s: &[u8], at: usize) -> CountRead
+    ensures { λ r. ⌜ r ≡ countReadOf (batchCountAt (now (s .entry)) at) ⌝ }
+{
+    if s.len() <= at {
+        return CountRead::Refused {
+            number: 2,
+            place: at,
+        };
+    }
+    if s.len() - at < 4 {
+        return CountRead::Refused {
+            number: 2,
+            place: at,
+        };
+    }
+    let value = word::le4(s, at);
+    let room = (s.len() - (at + 4)) / 5;
+    if (room as u64) < value {
+        return CountRead::Refused {
+            number: 5,
+            place: 0,
+        };
+    }
+    if 16384 < value {
+        return CountRead::Refused {
+            number: 3,
+            place: 0,
+        };
+    }
+    CountRead::Found {
+        value,
+        next: at + 4,
+    }
+}
+
+// ---- 4. nibbles: nine starts in a lent run, and the eight differences of four bytes
+
+// Whether none of v's eight nibbles is over 9.
+pub fn deltas_right(v: u64) -> bool
+    ensures { λ r. ⌜ r ≡ upTo 9 (digits 16 8 v) ⌝ }
+{
+    let mut left = v;
+    let mut i: usize = 0;
+    while i < 8 {
+        if 9 < left % 16 {
+            return false;
+        }
+        left = left / 16;
+        i += 1;
+    }
+    true
+}
+
+// The nine starts that v's eight nibbles say, stored from b on.
+pub fn unpack_indptr_deltas(v: u64, out: &mut [u8], b: usize)
+    requires { ⌜ b + 9 ≤ length (now out) ⌝ }
+    ensures { λ _. ⌜ now (out .exit) ≡ sets (now (out .entry)) b (startsFrom 0 (digits 16 8 v)) ⌝ }
+{
+    let mut left = v;
+    let mut sum: u8 = 0;
+    let mut i: usize = 0;
+    while i < 8 {
+        out[b + i] = sum;
+        sum = sum + (left % 16) as u8;
+        left = left / 16;
+        i += 1;
+    }
+    out[b + 8] = sum;
+}
+
+// The nibbles of the nine starts from b on.
+pub fn pack_indptr_deltas(s: &[u8], b: usize) -> u64
+    requires { ⌜ (b + 9 ≤ length (now s)) × (startsRight (bytesAt 9 (now s) b) ≡ true) ⌝ }
+    ensures { λ r. ⌜ r ≡ number 16 (differences (bytesAt 9 (now (s .entry)) b)) ⌝ }
+{
+    let mut v: u64 = 0;
+    let mut i: usize = 8;
+    while 0 < i {
+        i = i - 1;
+        v = v * 16 + word::wide(s[b + i + 1] - s[b + i]);
+    }
+    v
+}
+
+// ---- 5. the flag byte
+
+// The eight flags that v's bits say, stored from b on.
+pub fn unpack_padding(v: u8, out: &mut [u8], b: usize)
+    requires { ⌜ b + 8 ≤ length (now out) ⌝ }
+    ensures { λ _. ⌜ now (out .exit) ≡ sets (now (out .entry)) b (digits 2 8 v) ⌝ }
+{
+    let mut left = v;
+    let mut i: usize = 0;
+    while i < 8 {
+        out[b + i] = left % 2;
+        left = left / 2;
+        i += 1;
+    }
+}
+
+// The byte of the eight flags from b on.
+pub fn pack_padding(s: &[u8], b: usize) -> u8
+    requires { ⌜ (b + 8 ≤ length (now s)) × (every (λ (f : ℕ). leb f 1) (bytesAt 8 (now s) b) ≡ true) ⌝ }
+    ensures { λ r. ⌜ r ≡ number 2 (bytesAt 8 (now (s .entry)) b) ⌝ }
+{
+    let mut v: u8 = 0;
+    let mut i: usize = 8;
+    while 0 < i {
+        i = i - 1;
+        v = v * 2 + s[b + i];
+    }
+    v
+}
