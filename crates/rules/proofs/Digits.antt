@@ -34,10 +34,13 @@ leBytes-split (suc j) k v =
     (ap (λ (r : List ℕ). v % 256 ∷ r)
     (leBytes-split j k (v / 256) ∙ ap (λ (n : ℕ). leBytes j (v / 256) ++ leBytes k n) (div-div-eq-div-mul v 256 (256 ^ j) ∙ ap (λ (n : ℕ). v / n) (mul-comm 256 (256 ^ j) ∙ sym (pow-suc 256 j)))))
 
-pub length-leBytes : (k v : ℕ) → length (leBytes k v) ≡ k
+pub length-digits : (b k v : ℕ) → length (digits b k v) ≡ k
 unfolding digits
-length-leBytes zero v = refl
-length-leBytes (suc k) v = ap suc (length-leBytes k (v / 256))
+length-digits b zero v = refl
+length-digits b (suc k) v = ap suc (length-digits b k (v / b))
+
+pub length-leBytes : (k v : ℕ) → length (leBytes k v) ≡ k
+length-leBytes k v = length-digits 256 k v
 
 -- ---- stores one after the other
 

@@ -90,18 +90,41 @@ codes-back (x ∷ xs) = ap (λ (l : List Op). x ∷ l) (codes-back xs)
 pub record Admissible (t : List ℕ) (x : Op) : Type 0 where
   pub code : x .code < 128
   pub kind : kindOf t (x .code) < 3
-  pub value : cond (valued t (x .code)) (ltb (x .value) field) (eqb (x .value) 0) ≡ true
+  pub plain : kindOf t (x .code) ≡ 0 → x .value ≡ 0
+  pub small : x .value < field
+
+value-plain : (t : List ℕ) (x : Op) → valueRight t x ≡ true → kindOf t (x .code) ≡ 0 → x .value ≡ 0
+unfolding valueRight valued
+value-plain t x h e = eqb-true (x .value) 0 (rw e at h)
+
+value-small : (t : List ℕ) (x : Op) → valueRight t x ≡ true → x .value < field
+unfolding valueRight
+value-small t x h = go (valued t (x .code)) h
+  where
+    go : (b : Bool) → cond b (ltb (x .value) field) (eqb (x .value) 0) ≡ true → x .value < field
+    go true k = ltb-true (x .value) field k
+    go false k = omega (arith, eqb-true (x .value) 0 k)
+
+pub to-admissible : (t : List ℕ) (x : Op) → admissible t x ≡ true → Admissible t x
+unfolding admissible assigned
+to-admissible t x h =
+    let a = true-left (ltb (x .code) 128 && ltb (kindOf t (x .code)) 3) (valueRight t x) h in
+    let v = true-right (ltb (x .code) 128 && ltb (kindOf t (x .code)) 3) (valueRight t x) h in
+    record {
+      code = ltb-true (x .code) 128 (true-left (ltb (x .code) 128) (ltb (kindOf t (x .code)) 3) a);
+      kind = ltb-true (kindOf t (x .code)) 3 (true-right (ltb (x .code) 128) (ltb (kindOf t (x .code)) 3) a);
+      plain = value-plain t x v;
+      small = value-small t x v;
+    }
+
+pub fault-none : (t : List ℕ) (x : Op) → admissible t x ≡ true → opFault t x ≡ 0
+unfolding opFault
+fault-none t x h = rw h
 
 pub admitted : (t : List ℕ) (x : Op) → opFault t x ≡ 0 → Admissible t x
-unfolding opFault admissible assigned valueRight
-admitted t x h = go (admissible t x) refl h
+unfolding opFault
+admitted t x h = to-admissible t x (go (admissible t x) h)
   where
-    go : (b : Bool) → admissible t x ≡ b → _≡_ {A = ℕ} (cond b 0 4) 0 → Admissible t x
-    go true e k =
-        let a = true-left (ltb (x .code) 128 && ltb (kindOf t (x .code)) 3) (cond (valued t (x .code)) (ltb (x .value) field) (eqb (x .value) 0)) e in
-        record {
-          code = ltb-true (x .code) 128 (true-left (ltb (x .code) 128) (ltb (kindOf t (x .code)) 3) a);
-          kind = ltb-true (kindOf t (x .code)) 3 (true-right (ltb (x .code) 128) (ltb (kindOf t (x .code)) 3) a);
-          value = true-right (ltb (x .code) 128 && ltb (kindOf t (x .code)) 3) (cond (valued t (x .code)) (ltb (x .value) field) (eqb (x .value) 0)) e;
-        }
-    go false e k = absurd (omega arith)
+    go : (b : Bool) → _≡_ {A = ℕ} (cond b 0 4) 0 → b ≡ true
+    go true k = refl
+    go false k = absurd (omega arith)

@@ -19,7 +19,7 @@ every test [] = true
 every test (x ∷ xs) = test x && every test xs
 
 -- all but the last
-unfoldable pub butLast {ℓ} : {A : Type ℓ} → List A → List A
+abbrev pub butLast {ℓ} : {A : Type ℓ} → List A → List A
 butLast [] = []
 butLast (x ∷ []) = []
 butLast (x ∷ y ∷ xs) = x ∷ butLast (y ∷ xs)

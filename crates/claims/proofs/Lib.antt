@@ -1,0 +1,12 @@
+pub mod Lists
+pub mod Stands
+pub mod Bytes
+pub mod Batching
+pub mod Right
+pub mod Found
+pub mod Count
+pub mod Back
+pub mod Once
+pub mod Arena
+pub mod Again
+pub mod Demand3
