@@ -33,10 +33,10 @@ flagsRight fs = every (λ (f : ℕ). leb f 1) fs
 
 -- ---- slots
 
-record Laid (ns : List ℕ) (at : ℕ) (vs : List ℕ) (end : ℕ) : Type 0 where
-  short : length vs ≤ length ns
-  rest : total (drop (length vs) ns) ≡ 0
-  after : end ≡ at + total ns
+pub record Laid (ns : List ℕ) (at : ℕ) (vs : List ℕ) (end : ℕ) : Type 0 where
+  pub short : length vs ≤ length ns
+  pub rest : total (drop (length vs) ns) ≡ 0
+  pub after : end ≡ at + total ns
 
 laid-none : (at : ℕ) → Laid [] at [] at
 unfolding total
@@ -52,7 +52,7 @@ laid-empty at ns [] end l = record { short = omega arith; rest = omega (arith, l
 laid-empty at ns (v ∷ vs) end l = record { short = omega (arith, l .short); rest = l .rest; after = omega (arith, l .after) }
 
 module _ (t : List ℕ) (b : ℕ) where
-  laid : (ns due : List ℕ) (xs : List Op) (at : ℕ) (vs : List ℕ) (end : ℕ) → slots t b ns due xs at ≡ found vs end → Laid ns at vs end
+  pub laid : (ns due : List ℕ) (xs : List Op) (at : ℕ) (vs : List ℕ) (end : ℕ) → slots t b ns due xs at ≡ found vs end → Laid ns at vs end
   unfolding slots
   laid [] [] xs at vs end h = settle (λ vs end. Laid [] at vs end) [] vs at end h (laid-none at)
   laid [] (v ∷ due) xs at vs end h = absurd (clash 8 b vs end h)
@@ -71,7 +71,7 @@ module _ (t : List ℕ) (b : ℕ) where
 
 -- ---- a record made from sizes and flags
 
-total-split : (j : ℕ) (ks : List ℕ) → total (take j ks) + total (drop j ks) ≡ total ks
+pub total-split : (j : ℕ) (ks : List ℕ) → total (take j ks) + total (drop j ks) ≡ total ks
 unfolding total
 total-split zero ks = zero-add (total ks)
 total-split (suc j) [] = refl
@@ -103,10 +103,10 @@ first-start [] = refl
 first-start (k ∷ ks) = refl
 
 -- sizes as the bytes give them
-record Sizes (w : ℕ) (ns : List ℕ) : Type 0 where
-  high : total (drop w ns) ≡ 0
-  many : length ns ≡ 8
-  small : All (λ k. k ≤ 9) ns
+pub record Sizes (w : ℕ) (ns : List ℕ) : Type 0 where
+  pub high : total (drop w ns) ≡ 0
+  pub many : length ns ≡ 8
+  pub small : All (λ k. k ≤ 9) ns
 
 record-right : (w : ℕ) (ns fs vs : List ℕ) (at end : ℕ) → Sizes w ns → flagsRight fs ≡ true → Laid ns at vs end → length vs ≤ w → recordRight w (recordBy ns fs vs) ≡ true
 unfolding recordRight recordBy
@@ -159,9 +159,9 @@ bits-right zero v = refl
 bits-right (suc k) v = rw (le-leb (v % 2) 1 (omega arith)) (bits-right k (v / 2))
 
 -- flags as the bytes give them
-record Bits (fs : List ℕ) : Type 0 where
-  right : flagsRight fs ≡ true
-  many : length fs ≡ 8
+pub record Bits (fs : List ℕ) : Type 0 where
+  pub right : flagsRight fs ≡ true
+  pub many : length fs ≡ 8
 
 module _ (s : List ℕ) (w : ℕ) where
   sizes-made : (at b : ℕ) (ns : List ℕ) (next : ℕ) → sizesAt w s at b ≡ found ns next → Sizes w ns
@@ -172,7 +172,7 @@ module _ (s : List ℕ) (w : ℕ) where
       let z = passed (not (upTo 0 (drop w ds))) 6 b _ ns next (a .1) in
       settle (λ ns next. Sizes w ns) ds ns (at + 4) next (z .1) (record { high = zeros-total (drop w ds) (not-false _ (z .0)); many = length-digits 16 8 (leAt 4 s at); small = none-over ds (not-false _ (a .0)) })
 
-  nibbles-made : (k at b : ℕ) (nss : List (List ℕ)) (next : ℕ) → nibblesAt w s k at b ≡ found nss next → (length nss ≡ k) × All (Sizes w) nss
+  pub nibbles-made : (k at b : ℕ) (nss : List (List ℕ)) (next : ℕ) → nibblesAt w s k at b ≡ found nss next → (length nss ≡ k) × All (Sizes w) nss
   unfolding nibblesAt
   nibbles-made zero at b nss next h = settle (λ nss next. (length nss ≡ 0) × All (Sizes w) nss) [] nss at next h (refl, tt)
   nibbles-made (suc k) at b nss next h =
@@ -188,7 +188,7 @@ module _ (s : List ℕ) (w : ℕ) where
       let a = passed (not (upTo 0 (drop w f))) 6 b _ fs next h in
       settle (λ fs next. Bits fs) f fs (at + 1) next (a .1) (record { right = bits-right 8 (getD s at 0); many = length-digits 2 8 (getD s at 0) })
 
-  flags-made : (k at b : ℕ) (fss : List (List ℕ)) (next : ℕ) → flagsAt w s k at b ≡ found fss next → (length fss ≡ k) × All Bits fss
+  pub flags-made : (k at b : ℕ) (fss : List (List ℕ)) (next : ℕ) → flagsAt w s k at b ≡ found fss next → (length fss ≡ k) × All Bits fss
   unfolding flagsAt
   flags-made zero at b fss next h = settle (λ fss next. (length fss ≡ 0) × All Bits fss) [] fss at next h (refl, tt)
   flags-made (suc k) at b fss next h =
@@ -244,7 +244,7 @@ module _ (s : List ℕ) (w : ℕ) where
             settle (λ x next. admissible t x ≡ true) (record { code = getD s at 0; value = n }) x (at + 9) next (g .1) (tests (getD s at 0) n k true v (not-false _ (g .0)))
         go false v k e = settle (λ x next. admissible t x ≡ true) (record { code = getD s at 0; value = 0 }) x (at + 1) next e (tests (getD s at 0) 0 k false v refl)
 
-    ops-allowed : (n at i : ℕ) (xs : List Op) (next : ℕ) → opsAt t s n at i ≡ found xs next → (length xs ≡ n) × All (λ x. admissible t x ≡ true) xs
+    pub ops-allowed : (n at i : ℕ) (xs : List Op) (next : ℕ) → opsAt t s n at i ≡ found xs next → (length xs ≡ n) × All (λ x. admissible t x ≡ true) xs
     unfolding opsAt
     ops-allowed zero at i xs next h = settle (λ xs next. (length xs ≡ 0) × All (λ x. admissible t x ≡ true) xs) [] xs at next h (refl, tt)
     ops-allowed (suc n) at i xs next h =
@@ -353,13 +353,13 @@ all-front P (suc w) (n ∷ ns) h = (h .0, all-front P w ns (h .1))
 
 module _ (w : ℕ) (t : List ℕ) (xs : List Op) (o : All (λ x. admissible t x ≡ true) xs) where
   -- what a batch that was read is
-  record Read-batch (at : ℕ) (r : Record) (next : ℕ) : Type 0 where
-    right : recordRight w r ≡ true
-    sized : Sized r
-    after : next ≡ at + ninth r
-    inside : next ≤ length xs
+  pub record Read-batch (at : ℕ) (r : Record) (next : ℕ) : Type 0 where
+    pub right : recordRight w r ≡ true
+    pub sized : Sized r
+    pub after : next ≡ at + ninth r
+    pub inside : next ≤ length xs
 
-  batch-made : (at b : ℕ) (ns fs : List ℕ) (r : Record) (next : ℕ) → Sizes w ns → Bits fs → batchAt w t xs at b ns fs ≡ found r next → Read-batch at r next
+  pub batch-made : (at b : ℕ) (ns fs : List ℕ) (r : Record) (next : ℕ) → Sizes w ns → Bits fs → batchAt w t xs at b ns fs ≡ found r next → Read-batch at r next
   unfolding batchAt
   batch-made at b ns fs r next z f h =
       let a = passed (ltb (length xs) (at + total ns)) 7 b _ r next h in

@@ -48,7 +48,7 @@ none-over m [] h = refl
 none-over m (n ∷ ns) h = rw (le-leb n m (h .0)) (none-over m ns (h .1))
 
 -- a short list filled up to n
-fitted-is : (n : ℕ) (xs : List ℕ) → length xs ≤ n → fitted n xs ≡ xs ++ replicate (n - length xs) 0
+pub fitted-is : (n : ℕ) (xs : List ℕ) → length xs ≤ n → fitted n xs ≡ xs ++ replicate (n - length xs) 0
 unfolding fitted
 fitted-is zero [] h = refl
 fitted-is zero (x ∷ xs) h = absurd (omega arith)

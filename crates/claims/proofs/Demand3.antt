@@ -180,7 +180,7 @@ module _ (t : List ℕ) where
 -- ---- where nothing is at fault, nothing is refused
 
 module _ {A B : Type 0} (f : B → ℕ) where
-  none-first : (i : ℕ) (xs : List B) (r : Answer A) → All (λ x. f x ≡ 0) xs → refuseFirst i (map f xs) r ≡ r
+  pub none-first : (i : ℕ) (xs : List B) (r : Answer A) → All (λ x. f x ≡ 0) xs → refuseFirst i (map f xs) r ≡ r
   none-first i [] r h = first-done i r
   none-first i (x ∷ xs) r h = first-turn i (f x) (map f xs) r (h .0) ∙ none-first (i + 1) xs r (h .1)
 

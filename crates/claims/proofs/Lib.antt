@@ -10,3 +10,4 @@ pub mod Once
 pub mod Arena
 pub mod Again
 pub mod Demand3
+pub mod Passes

@@ -1,2 +1,3 @@
 pub mod Shape
 pub mod Demand3
+pub mod Passes
