@@ -1,0 +1,312 @@
+-- The work in hand and the three lent runs hold the rules' work: the driver's loop, its turn and its end. Assumes nothing.
+use mathlib.Core.Path.{_≡_, refl, sym, ap, ap₂, _∙_, subst}
+use mathlib.Core.Bool.{Bool, true, false, cond}
+use mathlib.Core.List.{List, [], _∷_, _++_, map, append-nil}
+use Prim.Native.Nat.{ℕ, _+_, _-_, _*_, _≤_, _<_}
+use native.Mathlib.Omega.{arith}
+use lib.ListN.{length, getD, drop, set, length-append, length-map}
+use lib.Dec.{eqb}
+use Rattle.rules.specs.Lists.{fitted}
+use Rattle.rules.specs.Operations.{Op, operations, codes, values, noop, hasImmediate}
+use Rattle.rules.specs.Batching as rule
+use Rattle.rules.specs.Batching.{Group, Batch, empty, nextFree, fits, ready, added, ended, start, endBatch, room, step, steps, batchesOf}
+use Rattle.rules.specs.Record.{opsOf, paddedOf, recordOf, recordsBytes, blockOf, noBlock}
+use Rattle.rules.specs.Functions.{Arena, arena, filled}
+use Rattle.rules.proofs.Operations.{op, kind-at, operations-turn, operations-end}
+use Rattle.rules.proofs.Runs.{fitted-length, fitted-set}
+use Rattle.batcher.specs.declared.OpBatchAccumulator.{OpBatchAccumulator}
+use Rattle.batcher.specs.declared.Work.{Work}
+use Rattle.batcher.specs.Good.{Good}
+use Rattle.batcher.specs.Batched.{Batched}
+use Rattle.batcher.specs.Model.{newAcc, fitsIn, addedAcc, addedRun, endedTotal, endedRun, endedWork, endedWorkRun, roomWork, roomRun, steppedWork, steppedRun, lastPlace}
+use Rattle.batcher.proofs.Good as good
+use Rattle.batcher.proofs.Keeps.{roomy}
+use Rattle.batcher.proofs.Draft.{bytesWith, bytes-empty}
+use Rattle.batcher.proofs.Groups.{written, unseen-ended, unseen-ready, seen-added, added-length, padded-more, records-more, records-length}
+use Rattle.batcher.proofs.View.{accOf, drafted, acc-empty, acc-fits, acc-total, acc-next, acc-ready, acc-added, closed-free, ended-count, run-added, run-ended}
+
+abbrev recordsOf : List (List Group) → List ℕ
+recordsOf bs = recordsBytes (map recordOf bs)
+
+-- `e` are the runs as they came, `a` as they are now
+pub record Held (e : Arena) (t : List ℕ) (d : rule.Work) (w : Work) (a : Arena) : Type 0 where
+  pub acc : w .acc ≡ accOf t (d .current)
+  pub good : Good (accOf t (d .current))
+  pub base : w .base ≡ length (paddedOf (d .batches))
+  pub batches : w .batches ≡ length (d .batches)
+  pub codes : a .codes ≡ fitted (length (e .codes)) (codes (paddedOf (d .batches) ++ written (d .current)))
+  pub values : a .values ≡ fitted (length (e .values)) (values (paddedOf (d .batches) ++ written (d .current)))
+  pub records : a .records ≡ fitted (length (e .records)) (recordsBytes (map recordOf (d .batches)) ++ bytesWith 0 (drafted (d .current)))
+
+-- ---- one view of the operations, in which a Noop is 0
+
+module _ (f : Op → ℕ) (z : f noop ≡ 0) (n : ℕ) (t : List ℕ) where
+  -- at the end of a batch nothing is stored
+  view-end : (bs : List (List Group)) (b : Batch) → fitted n (map f (paddedOf bs ++ written b)) ≡ fitted n (map f (paddedOf (bs ++ (ended t b ∷ [])) ++ written empty))
+  unfolding written empty opsOf
+  view-end bs b =
+      sym (unseen-ended f z n (paddedOf bs) t b) ∙ ap (λ (l : List Op). fitted n (map f l)) (sym (padded-more bs (ended t b)) ∙ sym (append-nil (paddedOf (bs ++ (ended t b ∷ [])))))
+
+  -- one operation is stored at the end
+  view-put : (x : Op) (q : List Op) (b : Batch) (k : ℕ) → k ≡ length q + length (written (ready t x b))
+      → set (fitted n (map f (q ++ written b))) k (f x) ≡ fitted n (map f (q ++ written (added t x b)))
+  view-put x q b k e =
+      let l = map f (q ++ written (ready t x b)) in
+      let m : k ≡ length l = e ∙ sym (length-append q (written (ready t x b))) ∙ sym (length-map (q ++ written (ready t x b)) f) in
+      ap₂ (λ (r : List ℕ) (j : ℕ). set r j (f x)) (sym (unseen-ready f z n q t x b)) m ∙ fitted-set n l (f x) ∙ ap (fitted n) (sym (seen-added f z n q t x b))
+
+abbrev codeOf : Op → ℕ
+codeOf x = x .code
+
+abbrev valueOf : Op → ℕ
+valueOf x = x .value
+
+code-noop : codeOf noop ≡ 0
+unfolding noop
+code-noop = refl
+
+value-noop : valueOf noop ≡ 0
+unfolding noop
+value-noop = refl
+
+draft-empty : (n : ℕ) (p : List ℕ) → fitted n (p ++ bytesWith 0 (drafted empty)) ≡ fitted n p
+unfolding drafted empty
+draft-empty n p = bytes-empty n p
+
+module _ (e : Arena) (t : List ℕ) (d : rule.Work) (w : Work) (a : Arena) (h : Held e t d w a) where
+  free : nextFree (d .current) ≤ 8
+  free = rw (acc-next t (d .current)) at (h .good .high)
+
+  place : 82 * w .batches ≡ length (recordsOf (d .batches))
+  place = ap (λ (k : ℕ). 82 * k) (h .batches) ∙ sym (records-length (d .batches))
+
+  -- ---- the batch in hand is ended
+
+  more : List (List Group)
+  more = d .batches ++ (ended t (d .current) ∷ [])
+
+  end-base : w .base + endedTotal (w .acc) ≡ length (paddedOf more)
+  unfolding more
+  end-base =
+      ap₂ (λ (x y : ℕ). x + y) (h .base) (ap endedTotal (h .acc) ∙ ended-count t (d .current))
+      ∙ sym (length-append (paddedOf (d .batches)) (opsOf (ended t (d .current))))
+      ∙ sym (ap length (padded-more (d .batches) (ended t (d .current))))
+
+  end-records : endedWorkRun w (a .records) ≡ fitted (length (e .records)) (recordsOf more ++ bytesWith 0 (drafted empty))
+  unfolding endedWorkRun more
+  end-records =
+      let n = length (e .records) in
+      let begin : endedRun (82 * w .batches) (w .acc) (a .records) ≡ endedRun (length (recordsOf (d .batches))) (accOf t (d .current)) (fitted n (recordsOf (d .batches) ++ bytesWith 0 (drafted (d .current)))) =
+      λ j. endedRun (place j) (h .acc j) (h .records j) in
+      begin
+      ∙ run-ended n (recordsOf (d .batches)) t (d .current) free
+      ∙ ap (fitted n) (sym (records-more (d .batches) (ended t (d .current))))
+      ∙ sym (draft-empty n (recordsOf (d .batches ++ (ended t (d .current) ∷ []))))
+
+  held-end : Held e t (endBatch t d) (endedWork w) (arena (a .codes) (a .values) (endedWorkRun w (a .records)))
+  unfolding endBatch endedWork more codes values
+  held-end =
+      record {
+        acc = acc-empty t;
+        good = subst Good (acc-empty t) good.new-good;
+        base = end-base;
+        batches = omega (arith, h .batches, length-append (d .batches) (ended t (d .current) ∷ []));
+        codes = h .codes ∙ view-end codeOf code-noop (length (e .codes)) t (d .batches) (d .current);
+        values = h .values ∙ view-end valueOf value-noop (length (e .values)) t (d .batches) (d .current);
+        records = end-records;
+      }
+
+  -- ---- an operation that fits is added
+
+  module _ (x : Op) (hc : x .code < 128) (f : fits 8 t x (d .current) ≡ true) where
+    put-fits : fitsIn (hasImmediate t x) (accOf t (d .current)) ≡ true
+    put-fits = acc-fits t x (d .current) ∙ f
+
+    put-acc : addedAcc (x .code) (hasImmediate t x) (w .acc) ≡ accOf t (added t x (d .current))
+    put-acc = ap (addedAcc (x .code) (hasImmediate t x)) (h .acc) ∙ acc-added t x (d .current)
+
+    abbrev putPlace : ℕ
+    putPlace = w .base + addedAcc (x .code) (hasImmediate t x) (w .acc) .total - 1
+
+    put-place : putPlace ≡ length (paddedOf (d .batches)) + length (written (ready t x (d .current)))
+    put-place =
+        let k : addedAcc (x .code) (hasImmediate t x) (w .acc) .total ≡ length (written (added t x (d .current))) = ap (λ (a : OpBatchAccumulator). a .total) put-acc ∙ acc-total t (added t x (d .current)) in
+        omega (arith, k, added-length t x (d .current), h .base)
+
+    put-slot : hasImmediate t x ≡ true → nextFree (ready t x (d .current)) < 8
+    put-slot i =
+        let r = good.ready (hasImmediate t x) (accOf t (d .current)) (h .good) put-fits in
+        let s : accOf t (ready t x (d .current)) .next < 8 = subst (λ (a : OpBatchAccumulator). a .next < 8) (acc-ready t x (d .current)) (r .slot i) in
+        rw (acc-next t (ready t x (d .current))) at s
+
+    put-records : addedRun (hasImmediate t x) (x .value) (82 * w .batches) (w .acc) (a .records)
+        ≡ fitted (length (e .records)) (recordsOf (d .batches) ++ bytesWith 0 (drafted (added t x (d .current))))
+    put-records =
+        let n = length (e .records) in
+        let p = recordsOf (d .batches) in
+        let begin : addedRun (hasImmediate t x) (x .value) (82 * w .batches) (w .acc) (a .records)
+        ≡ addedRun (hasImmediate t x) (x .value) (length p) (accOf t (d .current)) (fitted n (p ++ bytesWith 0 (drafted (d .current)))) =
+        λ j. addedRun (hasImmediate t x) (x .value) (place j) (h .acc j) (h .records j) in
+        begin ∙ run-added n p t x (d .current) (omega (arith, closed-free (d .current), free)) put-slot
+
+    held-put : Held e t (record { batches = d .batches; current = added t x (d .current) })
+        (record { acc = addedAcc (x .code) (hasImmediate t x) (w .acc); base = w .base; batches = w .batches })
+        (arena (set (a .codes) putPlace (x .code)) (set (a .values) putPlace (x .value)) (addedRun (hasImmediate t x) (x .value) (82 * w .batches) (w .acc) (a .records)))
+    unfolding codes values
+    held-put =
+        record {
+          acc = put-acc;
+          good = subst Good (acc-added t x (d .current)) (good.added-good (x .code) (hasImmediate t x) (accOf t (d .current)) hc (h .good) put-fits);
+          base = h .base;
+          batches = h .batches;
+          codes = ap (λ (l : List ℕ). set l putPlace (x .code)) (h .codes) ∙ view-put codeOf code-noop (length (e .codes)) t x (paddedOf (d .batches)) (d .current) putPlace put-place;
+          values = ap (λ (l : List ℕ). set l putPlace (x .value)) (h .values) ∙ view-put valueOf value-noop (length (e .values)) t x (paddedOf (d .batches)) (d .current) putPlace put-place;
+          records = put-records;
+        }
+
+  -- ---- room is made
+
+  held-room : (x : Op) → Held e t (room 8 t x d) (roomWork (hasImmediate t x) w) (arena (a .codes) (a .values) (roomRun (hasImmediate t x) w (a .records)))
+  unfolding room roomWork roomRun
+  held-room x =
+      subst
+      (λ (k : Bool). Held e t (cond (fits 8 t x (d .current)) d (endBatch t d)) (cond k w (endedWork w)) (arena (a .codes) (a .values) (cond k (a .records) (endedWorkRun w (a .records)))))
+      (sym (ap (fitsIn (hasImmediate t x)) (h .acc) ∙ acc-fits t x (d .current)))
+      (go (fits 8 t x (d .current)))
+    where
+      go : (k : Bool) → Held e t (cond k d (endBatch t d)) (cond k w (endedWork w)) (arena (a .codes) (a .values) (cond k (a .records) (endedWorkRun w (a .records))))
+      go true = h
+      go false = held-end
+
+-- what room is made for fits
+room-fits : (t : List ℕ) (x : Op) (d : rule.Work) → fits 8 t x (room 8 t x d .current) ≡ true
+unfolding room endBatch
+room-fits t x d = go (fits 8 t x (d .current)) refl
+  where
+    go : (b : Bool) → fits 8 t x (d .current) ≡ b → fits 8 t x (cond b d (endBatch t d) .current) ≡ true
+    go true e = e
+    go false e = sym (acc-fits t x empty) ∙ ap (fitsIn (hasImmediate t x)) (sym (acc-empty t)) ∙ good.new-fits (hasImmediate t x)
+
+-- the runs after a step
+abbrev pub steppedRuns : Op → Bool → Work → Arena → Arena
+steppedRuns x i w a =
+    arena
+    (set (a .codes) (lastPlace (steppedWork (x .code) i w)) (x .code))
+    (set (a .values) (lastPlace (steppedWork (x .code) i w)) (x .value))
+    (steppedRun i (x .value) w (a .records))
+
+held-step : (e : Arena) (t : List ℕ) (d : rule.Work) (w : Work) (a : Arena) → Held e t d w a → (x : Op) → x .code < 128
+    → Held e t (step 8 t x d) (steppedWork (x .code) (hasImmediate t x) w) (steppedRuns x (hasImmediate t x) w a)
+unfolding step steppedWork steppedRun
+held-step e t d w a h x hc =
+    held-put e t (room 8 t x d) (roomWork (hasImmediate t x) w) (arena (a .codes) (a .values) (roomRun (hasImmediate t x) w (a .records))) (held-room e t d w a h x) x hc (room-fits t x d)
+
+-- ---- the loop
+
+-- what is left of the lists takes the work in hand to the whole result
+pub record Going (e : Arena) (t xs ys : List ℕ) (i : ℕ) (w : Work) (a : Arena) : Type 0 where
+  pub work : rule.Work
+  pub held : Held e t work w a
+  pub rest : steps 8 t (operations (drop i xs) (drop i ys)) work ≡ steps 8 t (operations xs ys) start
+  pub base : w .base ≤ 72 * i
+  pub batches : w .batches ≤ i
+
+pub going-start : (t xs ys : List ℕ) (e : Arena) → e ≡ filled e noBlock → Going e t xs ys 0 (record { acc = newAcc; base = 0; batches = 0 }) e
+unfolding filled noBlock start written empty codes values opsOf paddedOf recordsBytes
+going-start t xs ys e z =
+    record {
+      work = start;
+      held =
+          record {
+            acc = acc-empty t;
+            good = subst Good (acc-empty t) good.new-good;
+            base = refl;
+            batches = refl;
+            codes = ap (λ (a : Arena). a .codes) z;
+            values = ap (λ (a : Arena). a .values) z;
+            records = ap (λ (a : Arena). a .records) z ∙ sym (draft-empty (length (e .records)) []);
+          };
+      rest = refl;
+      base = omega arith;
+      batches = omega arith;
+    }
+
+pub going-good : {e : Arena} {t xs ys : List ℕ} {i : ℕ} {w : Work} {a : Arena} → Going e t xs ys i w a → Good (w .acc)
+going-good g = subst Good (sym (g .held .acc)) (g .held .good)
+
+pub going-lengths : {e : Arena} {t xs ys : List ℕ} {i : ℕ} {w : Work} {a : Arena} → Going e t xs ys i w a
+    → (length (a .codes) ≡ length (e .codes)) × (length (a .values) ≡ length (e .values)) × (length (a .records) ≡ length (e .records))
+going-lengths g =
+    let h = g .held in
+    (ap length (h .codes) ∙ fitted-length _ _, ap length (h .values) ∙ fitted-length _ _, ap length (h .records) ∙ fitted-length _ _)
+
+steps-turn : (t xs ys : List ℕ) (i : ℕ) (d : rule.Work) → i < length xs → i < length ys
+    → steps 8 t (operations (drop (i + 1) xs) (drop (i + 1) ys)) (step 8 t (op (getD xs i 0) (getD ys i 0)) d) ≡ steps 8 t (operations (drop i xs) (drop i ys)) d
+unfolding steps
+steps-turn t xs ys i d h k = rw (operations-turn xs ys i h k)
+
+steps-end : (t xs ys : List ℕ) (i : ℕ) (d : rule.Work) → length xs ≤ i → steps 8 t (operations (drop i xs) (drop i ys)) d ≡ d
+unfolding steps
+steps-end t xs ys i d h = rw (operations-end xs ys i h)
+
+going-step : {e : Arena} {t xs ys : List ℕ} {i : ℕ} {w : Work} {a : Arena} → Going e t xs ys i w a → i < length xs → i < length ys → (x : Op) → x ≡ op (getD xs i 0) (getD ys i 0) → x .code < 128
+    → Going e t xs ys (i + 1) (steppedWork (x .code) (hasImmediate t x) w) (steppedRuns x (hasImmediate t x) w a)
+unfolding steppedWork
+going-step {e} {t} {xs} {ys} {i} {w} {a} g hx hy x q hc =
+    let r = roomy (hasImmediate t x) w (going-good g) in
+    record {
+      work = step 8 t x (g .work);
+      held = held-step e t (g .work) w a (g .held) x hc;
+      rest = ap (λ (y : Op). steps 8 t (operations (drop (i + 1) xs) (drop (i + 1) ys)) (step 8 t y (g .work))) q ∙ steps-turn t xs ys i (g .work) hx hy ∙ g .rest;
+      base = omega (arith, r .base, g .base);
+      batches = omega (arith, r .batches, g .batches);
+    }
+
+-- the code's test of the kind
+kind-here : (t : List ℕ) (x : Op) → x .code < length t → eqb (getD t (x .code) 0) 1 ≡ hasImmediate t x
+unfolding hasImmediate
+kind-here t x h = ap (λ (k : ℕ). eqb k 1) (sym (kind-at t (x .code) h))
+
+pub going-turn : {e : Arena} {t xs ys : List ℕ} {i : ℕ} {w w′ : Work} {a a′ : Arena} → Going e t xs ys i w a → i < length xs → i < length ys → length t ≡ 128 → getD xs i 0 < 128
+    → w′ ≡ steppedWork (getD xs i 0) (eqb (getD t (getD xs i 0) 0) 1) w → a′ ≡ steppedRuns (op (getD xs i 0) (getD ys i 0)) (eqb (getD t (getD xs i 0) 0) 1) w a → Going e t xs ys (i + 1) w′ a′
+going-turn {e} {t} {xs} {ys} {i} {w} {w′} {a} {a′} g hx hy ht hc e1 e2 =
+    let x = op (getD xs i 0) (getD ys i 0) in
+    let k = kind-here t x (omega arith) in
+    subst (λ (p : Work × Arena). Going e t xs ys (i + 1) (p .0) (p .1))
+    (λ j. (sym (e1 ∙ ap (λ (b : Bool). steppedWork (x .code) b w) k) j, sym (e2 ∙ ap (λ (b : Bool). steppedRuns x b w a) k) j))
+    (going-step g hx hy x refl hc)
+
+-- ---- the end: what is held is what the driver promises
+
+written-none : (q : List Op) → q ++ written empty ≡ q
+unfolding written empty opsOf
+written-none q = append-nil q
+
+done : (e : Arena) (t : List ℕ) (d : rule.Work) (w : Work) (a : Arena) → d .current ≡ empty → Held e t d w a
+    → Batched (blockOf (d .batches)) (record { batches = w .batches; operations = w .base }) e a
+unfolding blockOf filled
+done e t d w a c h =
+    record {
+      batches = h .batches ∙ sym (length-map (d .batches) recordOf);
+      operations = h .base;
+      runs =
+          let q = ap (λ (b : Batch). paddedOf (d .batches) ++ written b) c ∙ written-none (paddedOf (d .batches)) in
+          let cs : a .codes ≡ fitted (length (e .codes)) (codes (paddedOf (d .batches))) = h .codes ∙ ap (λ (l : List Op). fitted (length (e .codes)) (codes l)) q in
+          let vs : a .values ≡ fitted (length (e .values)) (values (paddedOf (d .batches))) = h .values ∙ ap (λ (l : List Op). fitted (length (e .values)) (values l)) q in
+          let rs : a .records ≡ fitted (length (e .records)) (recordsOf (d .batches)) =
+          h .records ∙ ap (λ (b : Batch). fitted (length (e .records)) (recordsOf (d .batches) ++ bytesWith 0 (drafted b))) c ∙ draft-empty (length (e .records)) (recordsOf (d .batches)) in
+          λ j. arena (cs j) (vs j) (rs j);
+    }
+
+end-empty : (t : List ℕ) (d : rule.Work) → endBatch t d .current ≡ empty
+unfolding endBatch
+end-empty t d = refl
+
+pub going-end : {e : Arena} {t xs ys : List ℕ} {i : ℕ} {w w′ : Work} {a a′ : Arena} → Going e t xs ys i w a → length xs ≤ i → w′ ≡ endedWork w → a′ ≡ arena (a .codes) (a .values) (endedWorkRun w (a .records))
+    → Batched (blockOf (batchesOf 8 t (operations xs ys))) (record { batches = w′ .batches; operations = w′ .base }) e a′
+unfolding batchesOf
+going-end {e} {t} {xs} {ys} {i} {w} {w′} {a} {a′} g h e1 e2 =
+    let q : g .work ≡ steps 8 t (operations xs ys) start = sym (steps-end t xs ys i (g .work) h) ∙ g .rest in
+    subst (λ (p : rule.Work × Work × Arena). Batched (blockOf (endBatch t (p .0) .batches)) (record { batches = p .1 .batches; operations = p .1 .base }) e (p .2))
+    (λ j. (q j, sym e1 j, sym e2 j))
+    (done e t (endBatch t (g .work)) (endedWork w) (arena (a .codes) (a .values) (endedWorkRun w (a .records))) (end-empty t (g .work)) (held-end e t (g .work) w a (g .held)))

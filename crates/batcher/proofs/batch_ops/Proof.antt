@@ -1,0 +1,105 @@
+use Prim.Native.Nat.{_-_, _≤_}
+use native.Mathlib.Omega.{arith}
+use borrow.Author.Needs.{needs}
+use lib.ListN.{length}
+use Rattle.rules.specs.Functions.{arena}
+use Rattle.batcher.proofs.Held.{Going, going-start, going-good, going-turn, going-lengths, going-end}
+use Rattle.batcher.proofs.batch_ops.Statement.{statement}
+use Rattle.batcher.proofs.batch_ops.Tie as tie
+
+abbrev Inv-loop : tie.InvT-loop
+Inv-loop table codes values out-codes₀ out-values₀ records₀ w₀ i₀ out-codes out-values records w i =
+    (i ≤ length codes) × Going (arena out-codes₀ out-values₀ records₀) table codes values i w (arena out-codes out-values records)
+
+abbrev μ-loop : tie.MeasureT-loop
+μ-loop table codes values out-codes₀ out-values₀ records₀ w₀ i₀ out-codes out-values records w i = length codes - i
+
+new-requires : tie.Need-new-requires Inv-loop μ-loop
+new-requires c κs = search needs
+
+loop-holds : tie.Need-loop-holds Inv-loop μ-loop
+loop-holds c = rw (c .new .ensures) (omega arith, going-start _ _ _ _ (c .before .before .before .before .before .before .before .pre .1 .1))
+
+shared-slice-read-code : tie.Need-shared-slice-read-code Inv-loop μ-loop
+shared-slice-read-code c = search needs
+
+mul-v : tie.Need-mul-v Inv-loop μ-loop
+mul-v c = search needs
+
+shared-slice-read-v : tie.Need-shared-slice-read-v Inv-loop μ-loop
+shared-slice-read-v c = search needs
+
+cast-at : tie.Need-cast-at Inv-loop μ-loop
+cast-at c = omega (arith, c .before .before .before .before .before .before .before .before .before .before .before .pre .1 .0 (c .before .before .before .loop .i) (c .before .before .loop-test .taken))
+
+shared-slice-read-kind : tie.Need-shared-slice-read-kind Inv-loop μ-loop
+shared-slice-read-kind c = omega (arith, c .before .before .before .before .before .before .before .before .before .before .before .before .pre .0, c .before .before .before .before .before .before .before .before .before .before .before .before .pre .1 .0 (c .before .before .before .before .loop .i) (c .before .before .before .loop-test .taken))
+
+step-requires : tie.Need-step-requires Inv-loop μ-loop
+step-requires c κs =
+    let a = c .before .before .before .before .before .before .before .before .before .before .before .before .before .before .before in
+    let l = c .before .before .before .before .before .before .before .loop in
+    let g = l .inv .1 in
+    (going-good g, (omega (arith, g .base, a .pre .0), omega (arith, g .batches, a .pre .0), a .pre .1 .0 (l .i) (c .before .before .before .before .before .before .loop-test .taken)))
+
+add-i : tie.Need-add-i Inv-loop μ-loop
+add-i c = omega (arith, c .before .before .before .before .before .before .before .before .before .before .before .before .before .loop-test .taken, c .before .before .before .before .before .before .before .before .before .before .before .before .before .before .before .before .before .before .before .before .before .before .pre .0)
+
+loop-less : tie.Need-loop-less Inv-loop μ-loop
+loop-less c = omega arith
+
+loop-again : tie.Need-loop-again Inv-loop μ-loop
+loop-again c =
+    let a = c .before .before .before .before .before .before .before .before .before .before .before .before .before .before .before .before .before .before .before .before .before .before in
+    let l = c .before .before .before .before .before .before .before .before .before .before .before .before .before .before .loop in
+    let t = c .before .before .before .before .before .before .before .before .before .before .before .before .before .loop-test .taken in
+    let e = c .before .before .before .before .before .before .step .ensures in (
+      omega arith,
+      going-turn (l .inv .1) t (omega (arith, a .pre .0)) (a .pre .0 .0) (a .pre .1 .0 (l .i) t) (e .0) (λ j. arena (e .1 .0 j) (e .1 .1 .0 j) (e .1 .1 .1 j)),
+    )
+
+end-batch-requires : tie.Need-end-batch-requires Inv-loop μ-loop
+end-batch-requires c κs =
+    let a = c .before .before .before .before .before .before .before .before .before .before in
+    let l = c .before .before .loop in
+    let g = l .inv .1 in
+    let h = l .inv .0 in
+    (going-good g, (omega (arith, g .base, a .pre .0), omega (arith, g .batches, a .pre .0)))
+
+same-length : tie.Need-same-length Inv-loop μ-loop
+same-length c = omega (arith, going-lengths (c .before .before .before .before .before .loop .inv .1), c .before .before .end-batch .kept)
+
+same-length-2 : tie.Need-same-length-2 Inv-loop μ-loop
+same-length-2 c = omega (arith, going-lengths (c .before .before .before .before .before .loop .inv .1), c .before .before .end-batch .kept)
+
+same-length-3 : tie.Need-same-length-3 Inv-loop μ-loop
+same-length-3 c = omega (arith, going-lengths (c .before .before .before .before .before .loop .inv .1), c .before .before .end-batch .kept)
+
+returns : tie.Need-returns Inv-loop μ-loop
+returns c =
+    let l = c .before .before .before .before .before .loop in
+    let e = c .before .before .end-batch .ensures in
+    going-end (l .inv .1) (c .before .before .before .before .loop-test .left) (e .0) (λ j. arena (l .out-codes) (l .out-values) (e .1 j))
+
+pub batch-ops-spec : {M : Type 1} → statement M
+batch-ops-spec =
+    tie.close
+    (tie.spec
+    Inv-loop
+    μ-loop
+    new-requires
+    loop-holds
+    shared-slice-read-code
+    mul-v
+    shared-slice-read-v
+    cast-at
+    shared-slice-read-kind
+    step-requires
+    add-i
+    loop-less
+    loop-again
+    end-batch-requires
+    same-length
+    same-length-2
+    same-length-3
+    returns)

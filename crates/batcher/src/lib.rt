@@ -1,0 +1,360 @@
+// The greedy batcher (document 01, "Batching (000)"): an accumulator of plain numbers that goes in and out by value, and records that are
+// written to a lent run as groups close and immediates are placed, and never read back. A Noop is opcode 0 and value 0, so that a padding is
+// stored by not being stored: the runs come in all zero.
+ghost use mathlib.Core.Path.{_≡_};
+ghost use mathlib.Core.Bool.{true};
+ghost use Prim.Native.Nat.{ℕ, _+_, _*_, _≤_, _<_, _^_};
+ghost use lib.ListN.{length, getD, set};
+ghost use Rattle.rules.specs.Operations.{operations};
+ghost use Rattle.rules.specs.Batching.{batchesOf, target};
+ghost use Rattle.rules.specs.Record.{blockOf, noBlock};
+ghost use Rattle.rules.specs.Functions.{arena, filled};
+ghost use Rattle.batcher.specs.Good.{Good};
+ghost use Rattle.batcher.specs.Batched.{Batched};
+ghost use Rattle.batcher.specs.Model.{newAcc, fitsIn, padOf, closedRun, turnedAcc, slottedAcc, slottedRun, joinedAcc, crosses, readyAcc, readyRun, addedAcc, addedRun, endedTotal, endedRun, endedWork, endedWorkRun, roomWork, roomRun, steppedWork, steppedRun, lastPlace};
+
+// groups in a batch, and operations in a group
+const BATCH_SIZE: usize = 8;
+
+const GROUP_SIZE: usize = 9;
+
+// a record's bytes: nine starts, eight flags, eight numbers of eight bytes, and the count
+pub const RECORD_SIZE: usize = 82;
+
+const FLAGS: usize = 9;
+
+const NUMBERS: usize = 17;
+
+const COUNT: usize = 81;
+
+struct OpBatchAccumulator {
+    // the current group, and the next free one
+    cur: usize,
+    next: usize,
+    // operations in the current group, and its number so far
+    inside: usize,
+    number: u64,
+    // what the next opcode counts there: 128 to the power of its position
+    place: u64,
+    // operations in the batch so far
+    total: u8,
+    // whether the last operation of the current group has an immediate
+    tail: bool,
+}
+
+impl OpBatchAccumulator {
+    fn new() -> Self
+        ensures { λ r. ⌜ r ≡ newAcc ⌝ }
+    {
+        OpBatchAccumulator {
+            cur: 0,
+            next: 1,
+            inside: 0,
+            number: 0,
+            place: 1,
+            total: 0,
+            tail: false,
+        }
+    }
+
+    // Whether an operation fits, with an immediate or without.
+    fn can_accept_op(self, imm: bool) -> bool
+        requires { ⌜ self .next ≤ 8 ⌝ }
+        ensures { λ r. ⌜ r ≡ fitsIn imm self ⌝ }
+    {
+        if imm {
+            if self.inside < GROUP_SIZE - 1 {
+                return self.next < BATCH_SIZE;
+            }
+            return self.next + 1 < BATCH_SIZE;
+        }
+        if self.inside < GROUP_SIZE {
+            return true;
+        }
+        self.next < BATCH_SIZE
+    }
+
+    // Adds an operation that fits to the batch whose record starts at `at`.
+    fn add_op(self, code: u8, imm: bool, v: u64, at: usize, records: &mut [u8]) -> Self
+        requires { ⌜ Good self ⌝ }
+        requires { ⌜ fitsIn imm self ≡ true ⌝ }
+        requires { ⌜ (code < 128) × (at < 2 ^ 32) ⌝ }
+        ensures acc { λ r. ⌜ r ≡ addedAcc code imm self ⌝ }
+        ensures run { λ _. ⌜ now (records .exit) ≡ addedRun imm v at self (now (records .entry)) ⌝ }
+    {
+        let b = self.advance(imm, at, records);
+        if imm {
+            let d = b.place_imm(v, at, records);
+            return d.push_op(code, imm);
+        }
+        b.push_op(code, imm)
+    }
+
+    // Ends the batch: its record is whole, and its operations are returned.
+    fn into_batch(self, at: usize, records: &mut [u8]) -> u8
+        requires { ⌜ Good self ⌝ }
+        requires { ⌜ at < 2 ^ 32 ⌝ }
+        ensures total { λ r. ⌜ r ≡ endedTotal self ⌝ }
+        ensures run { λ _. ⌜ now (records .exit) ≡ endedRun at self (now (records .entry)) ⌝ }
+    {
+        let count = target_num_groups(self.next);
+        let mut a = self;
+        while a.next < count {
+            a = a.finalize_op_group(at, records);
+        }
+        let total = a.close(at, records);
+        word::store8(records, at + COUNT, count as u8);
+        total
+    }
+
+    // Closes the current group and opens the next free one.
+    fn finalize_op_group(self, at: usize, records: &mut [u8]) -> Self
+        requires { ⌜ Good self ⌝ }
+        requires { ⌜ at < 2 ^ 32 ⌝ }
+        ensures acc { λ r. ⌜ r ≡ turnedAcc self ⌝ }
+        ensures run { λ _. ⌜ now (records .exit) ≡ closedRun at self (now (records .entry)) ⌝ }
+    {
+        let total = self.close(at, records);
+        OpBatchAccumulator {
+            cur: self.next,
+            next: self.next + 1,
+            inside: 0,
+            number: 0,
+            place: 1,
+            total,
+            tail: false,
+        }
+    }
+
+    // Writes what the record says of the current group, and returns the batch's operations with its Noop. All later starts are the total
+    // so far: the starts of the group's immediates, of the next group, and those that repeat the total if no group follows.
+    fn close(self, at: usize, records: &mut [u8]) -> u8
+        requires { ⌜ Good self ⌝ }
+        requires { ⌜ at < 2 ^ 32 ⌝ }
+        ensures total { λ r. ⌜ r ≡ self .total + padOf self ⌝ }
+        ensures run { λ _. ⌜ now (records .exit) ≡ closedRun at self (now (records .entry)) ⌝ }
+    {
+        let pad = self.padding();
+        let cur = self.cur;
+        let total = self.total + pad;
+        word::fill8(records, at + cur + 1, BATCH_SIZE - cur, total);
+        word::store8(records, at + FLAGS + cur, pad);
+        word::store_le8(records, at + NUMBERS + 8 * cur, self.number);
+        total
+    }
+
+    // The operation joins the current group.
+    fn push_op(self, code: u8, imm: bool) -> Self
+        requires { ⌜ Good self ⌝ }
+        requires { ⌜ (code < 128) × (self .inside < 9) ⌝ }
+        ensures { λ r. ⌜ r ≡ joinedAcc code imm self ⌝ }
+    {
+        let number = self.number_with(code);
+        OpBatchAccumulator {
+            cur: self.cur,
+            next: self.next,
+            inside: self.inside + 1,
+            number,
+            place: self.place * 128,
+            total: self.total + 1,
+            tail: imm,
+        }
+    }
+
+    // 1 where the current group wants a Noop: it is empty, or ends in an operation with an immediate.
+    fn padding(self) -> u8
+        ensures { λ r. ⌜ (r ≡ padOf self) × (r ≤ 1) ⌝ }
+    {
+        if self.inside == 0 {
+            return 1;
+        }
+        if self.tail {
+            return 1;
+        }
+        0
+    }
+
+    // The current group's number with one opcode more.
+    fn number_with(self, code: u8) -> u64
+        requires { ⌜ Good self ⌝ }
+        requires { ⌜ (code < 128) × (self .inside < 9) ⌝ }
+        ensures { λ r. ⌜ r ≡ self .number + code * self .place ⌝ }
+    {
+        self.number + word::wide(code) * self.place
+    }
+
+    // Whether the current group cannot take the operation: no immediate is ninth.
+    fn full(self, imm: bool) -> bool
+        ensures { λ r. ⌜ r ≡ crosses imm self ⌝ }
+    {
+        if imm {
+            return GROUP_SIZE - 1 <= self.inside;
+        }
+        GROUP_SIZE <= self.inside
+    }
+
+    fn advance(self, imm: bool, at: usize, records: &mut [u8]) -> Self
+        requires { ⌜ Good self ⌝ }
+        requires { ⌜ at < 2 ^ 32 ⌝ }
+        ensures acc { λ r. ⌜ r ≡ readyAcc imm self ⌝ }
+        ensures run { λ _. ⌜ now (records .exit) ≡ readyRun imm at self (now (records .entry)) ⌝ }
+    {
+        if self.full(imm) {
+            return self.finalize_op_group(at, records);
+        }
+        self
+    }
+
+    // An immediate takes the next free group.
+    fn place_imm(self, v: u64, at: usize, records: &mut [u8]) -> Self
+        requires { ⌜ (self .next < 8) × (at < 2 ^ 32) ⌝ }
+        ensures acc { λ r. ⌜ r ≡ slottedAcc self ⌝ }
+        ensures run { λ _. ⌜ now (records .exit) ≡ slottedRun v at self (now (records .entry)) ⌝ }
+    {
+        let next = self.next;
+        word::store_le8(records, at + NUMBERS + 8 * next, v);
+        OpBatchAccumulator {
+            cur: self.cur,
+            next: next + 1,
+            inside: self.inside,
+            number: self.number,
+            place: self.place,
+            total: self.total,
+            tail: self.tail,
+        }
+    }
+}
+
+// How many groups a batch is filled up to: the next power of two, up to 8.
+fn target_num_groups(n: usize) -> usize
+    ensures { λ r. ⌜ r ≡ target n ⌝ }
+{
+    if n <= 1 {
+        return 1;
+    }
+    if n <= 2 {
+        return 2;
+    }
+    if n <= 4 {
+        return 4;
+    }
+    8
+}
+
+// ---- the driver
+
+// The batch in hand, and how many padded operations and batches stand before it.
+struct Work {
+    acc: OpBatchAccumulator,
+    base: usize,
+    batches: usize,
+}
+
+// Ends the batch in hand and starts the next.
+fn end_batch(w: Work, records: &mut [u8]) -> Work
+    requires { ⌜ Good (w .acc) ⌝ }
+    requires { ⌜ (w .base < 2 ^ 32) × (w .batches < 2 ^ 20) ⌝ }
+    ensures work { λ r. ⌜ r ≡ endedWork w ⌝ }
+    ensures run { λ _. ⌜ now (records .exit) ≡ endedWorkRun w (now (records .entry)) ⌝ }
+{
+    let a = w.acc;
+    let k = w.batches;
+    let total = a.into_batch(RECORD_SIZE * k, records);
+    let n = total as usize;
+    let fresh = OpBatchAccumulator::new();
+    Work {
+        acc: fresh,
+        base: w.base + n,
+        batches: k + 1,
+    }
+}
+
+// Ends the batch in hand where the operation does not fit.
+fn make_room(w: Work, imm: bool, records: &mut [u8]) -> Work
+    requires { ⌜ Good (w .acc) ⌝ }
+    requires { ⌜ (w .base < 2 ^ 32) × (w .batches < 2 ^ 20) ⌝ }
+    ensures work { λ r. ⌜ r ≡ roomWork imm w ⌝ }
+    ensures run { λ _. ⌜ now (records .exit) ≡ roomRun imm w (now (records .entry)) ⌝ }
+{
+    let a = w.acc;
+    if a.can_accept_op(imm) {
+        return w;
+    }
+    end_batch(w, records)
+}
+
+// One operation more.
+fn step(
+    w: Work,
+    code: u8,
+    imm: bool,
+    v: u64,
+    codes: &mut [u8],
+    values: &mut [u64],
+    records: &mut [u8],
+) -> Work
+    requires { ⌜ Good (w .acc) ⌝ }
+    requires { ⌜ (w .base < 2 ^ 31) × (w .batches < 2 ^ 19) × (code < 128) ⌝ }
+    ensures work { λ r. ⌜ r ≡ steppedWork code imm w ⌝ }
+    ensures codes { λ _. ⌜ now (codes .exit) ≡ set (now (codes .entry)) (lastPlace (steppedWork code imm w)) code ⌝ }
+    ensures values { λ _. ⌜ now (values .exit) ≡ set (now (values .entry)) (lastPlace (steppedWork code imm w)) v ⌝ }
+    ensures run { λ _. ⌜ now (records .exit) ≡ steppedRun imm v w (now (records .entry)) ⌝ }
+{
+    let r = make_room(w, imm, records);
+    let b = r.acc;
+    let base = r.base;
+    let k = r.batches;
+    let a = b.add_op(code, imm, v, RECORD_SIZE * k, records);
+    let n = a.total as usize;
+    let at = base + n - 1;
+    word::store8(codes, at, code);
+    word::store64(values, at, v);
+    Work {
+        acc: a,
+        base,
+        batches: k,
+    }
+}
+
+// How much a list comes to.
+pub struct Totals {
+    pub batches: usize,
+    pub operations: usize,
+}
+
+// The batches of a list, written to runs that are all zero. What the runs have no room for falls away; the totals do not.
+pub fn batch_ops(
+    table: &[u8],
+    codes: &[u8],
+    values: &[u64],
+    out_codes: &mut [u8],
+    out_values: &mut [u64],
+    records: &mut [u8],
+) -> Totals
+    requires sizes { ⌜ (length (now table) ≡ 128) × (length (now codes) ≤ 16384) × (length (now values) ≡ length (now codes)) ⌝ }
+    requires small { ⌜ ((k : ℕ) → k < length (now codes) → getD (now codes) k 0 < 128) ⌝ }
+    requires zero { ⌜ arena (now «out_codes») (now «out_values») (now records) ≡ filled (arena (now «out_codes») (now «out_values») (now records)) noBlock ⌝ }
+    ensures { λ r. ⌜ Batched (blockOf (batchesOf 8 (now (table .entry)) (operations (now (codes .entry)) (now (values .entry))))) r (arena (now («out_codes» .entry)) (now («out_values» .entry)) (now (records .entry))) (arena (now («out_codes» .exit)) (now («out_values» .exit)) (now (records .exit))) ⌝ }
+{
+    let fresh = OpBatchAccumulator::new();
+    let mut w = Work {
+        acc: fresh,
+        base: 0,
+        batches: 0,
+    };
+    let mut i: usize = 0;
+    while i < codes.len() {
+        let code = codes[i];
+        let v = values[i];
+        let at = code as usize;
+        let kind = table[at];
+        let imm = kind == 1;
+        w = step(w, code, imm, v, out_codes, out_values, records);
+        i += 1;
+    }
+    let e = end_batch(w, records);
+    Totals {
+        batches: e.batches,
+        operations: e.base,
+    }
+}
