@@ -1,0 +1,29 @@
+-- No public contract cites this page: what the checks of the input say of the rules' answer.
+use mathlib.Core.Path.{_≡_}
+use mathlib.Core.Bool.{not}
+use mathlib.Core.List.{List}
+use Prim.Native.Nat.{ℕ}
+use Rattle.rules.specs.Answer.{Answer, good, refused, refuse}
+use Rattle.rules.specs.Operations.{operations}
+use Rattle.rules.specs.Batching.{batchesOf}
+use Rattle.rules.specs.Record.{Block, blockOf}
+use Rattle.rules.specs.Block.{Room}
+use Rattle.rules.specs.Functions.{roomFor, built}
+use Rattle.operation.specs.declared.Verdict.{Verdict}
+use Rattle.operation.specs.declared.Verdict.the-variants.{Passed, Refused}
+
+-- a refusal is the answer, whatever would follow
+abbrev pub heard : {A : Type 0} → Verdict → Answer A → Answer A
+heard Passed r = r
+heard (Refused n p) r = refused n p
+
+-- the last guard: what is left to decide once the input has passed
+abbrev pub placed : Block → Room → Answer Block
+placed b room = refuse (not (roomFor b room)) 13 0 (good b)
+
+-- the block of a list
+abbrev pub blockFor : List ℕ → List ℕ → List ℕ → Block
+blockFor t cs vs = blockOf (batchesOf 8 t (operations cs vs))
+
+pub record Checked (t cs vs : List ℕ) (v : Verdict) : Type 0 where
+  pub decides : (room : Room) → built 8 t cs vs room ≡ heard v (placed (blockFor t cs vs) room)
