@@ -1,2 +1,4 @@
 pub mod Input
 pub mod Exits
+pub mod Thirteen
+pub mod Unique
