@@ -1,5 +1,5 @@
 -- What keeps an accumulator good.
-use mathlib.Core.Path.{_≡_, refl, sym, ap, _∙_, subst}
+use mathlib.Core.Path.{_≡_, refl, sym, ap, _∙_}
 use mathlib.Core.Bool.{Bool, true, false, cond}
 use mathlib.Core.List.{List}
 use Prim.Native.Nat.{ℕ, zero, suc, _+_, _-_, _*_, _^_, _≤_, _<_}
@@ -8,15 +8,11 @@ use native.Mathlib.Nat.{pow-suc}
 use native.Mathlib.Numerals.{add-one}
 use lib.Dec.{leb, eqb}
 use borrow.Author.Tests.{ltb-true, leb-true, leb-false, eqb-true, le-ltb, lt-ltb}
-use lib.Dec.{T}
 use Rattle.rules.specs.Batching.{target}
 use Rattle.batcher.specs.declared.OpBatchAccumulator.{OpBatchAccumulator}
 use Rattle.batcher.specs.Good.{Good}
 use Rattle.batcher.specs.Model.{newAcc, fitsIn, pads, padOf, closedRun, turnedAcc, slottedAcc, slottedRun, joinedAcc, crosses, readyAcc, readyRun, addedAcc, addedRun, filledAcc, filledRun, lastAcc, endedTotal}
 use Rattle.batcher.proofs.Places.{number-next}
-
-pub false-true : false ≡ true → ⊥
-false-true e = subst (λ (b : Bool). T (cond b false true)) e tt
 
 -- a group that is padded has room
 pad-room : (a : OpBatchAccumulator) → Good a → pads a ≡ true → a .inside < 9
@@ -26,7 +22,7 @@ pad-room a g e = go (eqb (a .inside) 0) refl e
     go true p q = omega (arith, g .room, eqb-true (a .inside) 0 p)
     go false p q = omega (arith, g .imm q)
 
-pub closed-total : (a : OpBatchAccumulator) → Good a → a .total + padOf a ≤ 9 * a .cur + 9
+closed-total : (a : OpBatchAccumulator) → Good a → a .total + padOf a ≤ 9 * a .cur + 9
 closed-total a g = go (pads a) refl
   where
     go : (b : Bool) → pads a ≡ b → a .total + cond b 1 0 ≤ 9 * a .cur + 9
@@ -49,24 +45,29 @@ next-room false a f p =
 next-imm : (a : OpBatchAccumulator) → fitsIn true a ≡ true → crosses true a ≡ false → a .next < 8
 next-imm a f p = ltb-true (a .next) 8 (rw (lt-ltb (a .inside) 8 (leb-false 8 (a .inside) p)) at f)
 
--- where an operation can join, an immediate's slot in reach
+pub here-9 : (imm : Bool) (n : ℕ) → n < cond imm 8 9 → n < 9
+here-9 true n h = omega arith
+here-9 false n h = h
+
+-- where an operation can join, with a slot for its immediate
 pub record Ready (imm : Bool) (a : OpBatchAccumulator) : Type 0 where
   pub good : Good a
   pub here : a .inside < cond imm 8 9
-  pub slot : imm ≡ true → a .next < 8
+  pub slot : a .next + cond imm 1 0 ≤ 8
 
 ready-new : (imm : Bool) (a : OpBatchAccumulator) → Good a → fitsIn imm a ≡ true → crosses imm a ≡ true → Ready imm (turnedAcc a)
 unfolding turnedAcc
-ready-new true a g f p =
-    let n = next-room true a f p in
-    record { good = turned-good a g (omega arith); here = omega arith; slot = λ e. omega arith }
-ready-new false a g f p =
-    let n = next-room false a f p in
-    record { good = turned-good a g (omega arith); here = omega arith; slot = λ e. elim (false-true e) [ ] }
+ready-new imm a g f p =
+    let n = next-room imm a f p in
+    record { good = turned-good a g (omega arith); here = some imm; slot = omega arith }
+  where
+    some : (imm : Bool) → 0 < cond imm 8 9
+    some true = omega arith
+    some false = omega arith
 
 ready-old : (imm : Bool) (a : OpBatchAccumulator) → Good a → fitsIn imm a ≡ true → crosses imm a ≡ false → Ready imm a
-ready-old true a g f p = record { good = g; here = leb-false 8 (a .inside) p; slot = λ e. next-imm a f p }
-ready-old false a g f p = record { good = g; here = leb-false 9 (a .inside) p; slot = λ e. elim (false-true e) [ ] }
+ready-old true a g f p = record { good = g; here = leb-false 8 (a .inside) p; slot = omega (arith, next-imm a f p) }
+ready-old false a g f p = record { good = g; here = leb-false 9 (a .inside) p; slot = omega (arith, g .high) }
 
 pub ready : (imm : Bool) (a : OpBatchAccumulator) → Good a → fitsIn imm a ≡ true → Ready imm (readyAcc imm a)
 unfolding readyAcc
@@ -76,29 +77,31 @@ ready imm a g f = go (crosses imm a) refl
     go true p = ready-new imm a g f p
     go false p = ready-old imm a g f p
 
+pub slot-free : (imm : Bool) (a : OpBatchAccumulator) → Ready imm a → imm ≡ true → a .next < 8
+slot-free imm a r e = let h : a .next + 1 ≤ 8 = rw e at (r .slot) in omega arith
+
 pub slotted-ready : (imm : Bool) (a : OpBatchAccumulator) → imm ≡ true → Ready imm a → Good (slottedAcc a) × (slottedAcc a .inside < 8)
 unfolding slottedAcc
 slotted-ready imm a e r =
-    let h = r .slot e in
+    let h = slot-free imm a r e in
     let g = r .good in
     (record { low = omega arith; high = omega arith; room = omega arith; imm = g .imm; sum = omega arith; small = g .small; unit = g .unit }, rw e at (r .here))
-
-pub here-9 : (imm : Bool) (n : ℕ) → n < cond imm 8 9 → n < 9
-here-9 true n h = omega arith
-here-9 false n h = h
 
 place-step : (a : OpBatchAccumulator) → Good a → a .place * 128 ≡ 128 ^ (a .inside + 1)
 place-step a g = ap (λ (k : ℕ). k * 128) (g .unit) ∙ sym (pow-suc 128 (a .inside)) ∙ ap (λ (k : ℕ). 128 ^ k) (sym (add-one (a .inside)))
 
-number-step : (a : OpBatchAccumulator) (c : ℕ) → c < 128 → Good a → a .number + c * a .place < 128 ^ (a .inside + 1)
-number-step a c hc g = rw (g .unit) (number-next (a .number) c (a .inside) hc (g .small))
-
 joined-good : (c : ℕ) (imm : Bool) (a : OpBatchAccumulator) → c < 128 → Good a → a .inside < cond imm 8 9 → Good (joinedAcc c imm a)
 unfolding joinedAcc
-joined-good c true a hc g h =
-    record { low = g .low; high = g .high; room = omega arith; imm = λ e. omega arith; sum = omega arith; small = number-step a c hc g; unit = place-step a g }
-joined-good c false a hc g h =
-    record { low = g .low; high = g .high; room = omega arith; imm = λ e. elim (false-true e) [ ]; sum = omega arith; small = number-step a c hc g; unit = place-step a g }
+joined-good c imm a hc g h =
+    record {
+      low = g .low;
+      high = g .high;
+      room = omega (arith, here-9 imm (a .inside) h);
+      imm = λ e. let k : a .inside < 8 = rw e at h in omega arith;
+      sum = omega arith;
+      small = rw (g .unit) (number-next (a .number) c (a .inside) hc (g .small));
+      unit = place-step a g;
+    }
 
 pub added-good : (c : ℕ) (imm : Bool) (a : OpBatchAccumulator) → c < 128 → Good a → fitsIn imm a ≡ true → Good (addedAcc c imm a)
 unfolding addedAcc
@@ -109,23 +112,16 @@ added-good c false a hc g f =
     let r = ready false a g f in
     joined-good c false (readyAcc false a) hc (r .good) (r .here)
 
--- ---- the two ways of adding
+-- ---- adding, where the code knows whether there is an immediate
 
-pub added-true : (c : ℕ) (imm : Bool) (a : OpBatchAccumulator) → imm ≡ true → addedAcc c imm a ≡ joinedAcc c imm (slottedAcc (readyAcc imm a))
-unfolding addedAcc
-added-true c imm a e = ap (λ (b : Bool). joinedAcc c imm (cond b (slottedAcc (readyAcc imm a)) (readyAcc imm a))) e
+module _ (imm b : Bool) (a : OpBatchAccumulator) (e : imm ≡ b) where
+  pub added-as : (c : ℕ) → addedAcc c imm a ≡ joinedAcc c imm (cond b (slottedAcc (readyAcc imm a)) (readyAcc imm a))
+  unfolding addedAcc
+  added-as c = ap (λ (k : Bool). joinedAcc c imm (cond k (slottedAcc (readyAcc imm a)) (readyAcc imm a))) e
 
-pub added-false : (c : ℕ) (imm : Bool) (a : OpBatchAccumulator) → imm ≡ false → addedAcc c imm a ≡ joinedAcc c imm (readyAcc imm a)
-unfolding addedAcc
-added-false c imm a e = ap (λ (b : Bool). joinedAcc c imm (cond b (slottedAcc (readyAcc imm a)) (readyAcc imm a))) e
-
-pub run-true : (imm : Bool) (v at : ℕ) (a : OpBatchAccumulator) (xs : List ℕ) → imm ≡ true → addedRun imm v at a xs ≡ slottedRun v at (readyAcc imm a) (readyRun imm at a xs)
-unfolding addedRun
-run-true imm v at a xs e = ap (λ (b : Bool). cond b (slottedRun v at (readyAcc imm a) (readyRun imm at a xs)) (readyRun imm at a xs)) e
-
-pub run-false : (imm : Bool) (v at : ℕ) (a : OpBatchAccumulator) (xs : List ℕ) → imm ≡ false → addedRun imm v at a xs ≡ readyRun imm at a xs
-unfolding addedRun
-run-false imm v at a xs e = ap (λ (b : Bool). cond b (slottedRun v at (readyAcc imm a) (readyRun imm at a xs)) (readyRun imm at a xs)) e
+  pub run-as : (v at : ℕ) (xs : List ℕ) → addedRun imm v at a xs ≡ cond b (slottedRun v at (readyAcc imm a) (readyRun imm at a xs)) (readyRun imm at a xs)
+  unfolding addedRun
+  run-as v at xs = ap (λ (k : Bool). cond k (slottedRun v at (readyAcc imm a) (readyRun imm at a xs)) (readyRun imm at a xs)) e
 
 -- ---- the end of a batch
 
@@ -143,44 +139,40 @@ pub turned-next : (a : OpBatchAccumulator) → turnedAcc a .next ≡ a .next + 1
 unfolding turnedAcc
 turned-next a = refl
 
-pub filled-turn : (n : ℕ) (a : OpBatchAccumulator) → a .next < n → filledAcc (n - turnedAcc a .next) (turnedAcc a) ≡ filledAcc (n - a .next) a
+-- the loop that closes and opens until n groups are open: a turn, and the end
+module _ (n : ℕ) (a : OpBatchAccumulator) where
+  left : a .next < n → suc (n - turnedAcc a .next) ≡ n - a .next
+  left h = omega (arith, turned-next a)
+
+  pub filled-turn : a .next < n → filledAcc (n - turnedAcc a .next) (turnedAcc a) ≡ filledAcc (n - a .next) a
+  unfolding filledAcc
+  filled-turn h = ap (λ (k : ℕ). filledAcc k a) (left h)
+
+  pub run-turn : (at : ℕ) (xs : List ℕ) → a .next < n → filledRun (n - turnedAcc a .next) at (turnedAcc a) (closedRun at a xs) ≡ filledRun (n - a .next) at a xs
+  unfolding filledRun
+  run-turn at xs h = ap (λ (k : ℕ). filledRun k at a xs) (left h)
+
+  none : n ≤ a .next → n - a .next ≡ 0
+  none h = omega arith
+
+  pub filled-none : n ≤ a .next → filledAcc (n - a .next) a ≡ a
+  unfolding filledAcc
+  filled-none h = rw (none h)
+
+  pub run-none : (at : ℕ) (xs : List ℕ) → n ≤ a .next → filledRun (n - a .next) at a xs ≡ xs
+  unfolding filledRun
+  run-none at xs h = rw (none h)
+
+filled-good : (k : ℕ) (a : OpBatchAccumulator) → Good a → a .next + k ≤ 8 → Good (filledAcc k a)
 unfolding filledAcc
-filled-turn n a h =
-    let e : n - turnedAcc a .next ≡ n - (a .next + 1) = omega (arith, turned-next a) in
-    let m : suc (n - (a .next + 1)) ≡ n - a .next = omega arith in
-    ap (λ (k : ℕ). filledAcc k (turnedAcc a)) e ∙ ap (λ (k : ℕ). filledAcc k a) m
-
-pub filled-none : (n : ℕ) (a : OpBatchAccumulator) → n ≤ a .next → filledAcc (n - a .next) a ≡ a
-unfolding filledAcc
-filled-none n a h =
-    let m : n - a .next ≡ 0 = omega arith in
-    rw m
-
-pub run-turn : (n at : ℕ) (a : OpBatchAccumulator) (xs : List ℕ) → a .next < n → filledRun (n - turnedAcc a .next) at (turnedAcc a) (closedRun at a xs) ≡ filledRun (n - a .next) at a xs
-unfolding filledRun
-run-turn n at a xs h =
-    let e : n - turnedAcc a .next ≡ n - (a .next + 1) = omega (arith, turned-next a) in
-    let m : suc (n - (a .next + 1)) ≡ n - a .next = omega arith in
-    ap (λ (k : ℕ). filledRun k at (turnedAcc a) (closedRun at a xs)) e ∙ ap (λ (k : ℕ). filledRun k at a xs) m
-
-pub run-none : (n at : ℕ) (a : OpBatchAccumulator) (xs : List ℕ) → n ≤ a .next → filledRun (n - a .next) at a xs ≡ xs
-unfolding filledRun
-run-none n at a xs h =
-    let m : n - a .next ≡ 0 = omega arith in
-    rw m
-
-filled-good : (k : ℕ) (a : OpBatchAccumulator) → Good a → a .next + k ≤ 8 → Good (filledAcc k a) × (a .total ≤ filledAcc k a .total)
-unfolding filledAcc turnedAcc
-filled-good zero a g h = (g, omega arith)
-filled-good (suc k) a g h =
-    let r = filled-good k (turnedAcc a) (turned-good a g (omega arith)) (omega arith) in
-    (r .0, omega (arith, r .1))
+filled-good zero a g h = g
+filled-good (suc k) a g h = filled-good k (turnedAcc a) (turned-good a g (omega arith)) (omega (arith, turned-next a))
 
 pub last-good : (a : OpBatchAccumulator) → Good a → Good (lastAcc a)
 unfolding lastAcc
 last-good a g =
     let b = target-bounds (a .next) (g .high) in
-    filled-good (target (a .next) - a .next) a g (omega arith) .0
+    filled-good (target (a .next) - a .next) a g (omega arith)
 
 pub ended-total : (a : OpBatchAccumulator) → Good a → endedTotal a ≤ 72
 unfolding endedTotal

@@ -18,7 +18,7 @@ use Rattle.batcher.specs.declared.OpBatchAccumulator.{OpBatchAccumulator
 use Rattle.batcher.specs.declared.Work.{Work}
 use Rattle.batcher.specs.Good.{Good}
 use Rattle.batcher.specs.Batched.{Batched}
-use Rattle.batcher.specs.Model.{newAcc, fitsIn, addedAcc, addedRun, endedTotal, endedRun, endedWork, endedWorkRun, roomWork, roomRun, steppedWork, steppedRun, lastPlace}
+use Rattle.batcher.specs.Model.{newAcc, fitsIn, readyAcc, addedAcc, addedRun, endedTotal, endedRun, endedWork, endedWorkRun, roomWork, roomRun, steppedWork, steppedRun, lastPlace}
 use Rattle.batcher.proofs.Good as good
 use Rattle.batcher.proofs.Keeps.{roomy}
 use Rattle.batcher.proofs.Draft.{bytesWith, bytes-empty}
@@ -136,7 +136,7 @@ module _ (e : Arena) (t : List ℕ) (d : rule.Work) (w : Work) (a : Arena) (h : 
     put-slot : hasImmediate t x ≡ true → nextFree (ready t x (d .current)) < 8
     put-slot i =
         let r = good.ready (hasImmediate t x) (accOf t (d .current)) (h .good) put-fits in
-        let s : accOf t (ready t x (d .current)) .next < 8 = subst (λ (a : OpBatchAccumulator). a .next < 8) (acc-ready t x (d .current)) (r .slot i) in
+        let s : accOf t (ready t x (d .current)) .next < 8 = subst (λ (a : OpBatchAccumulator). a .next < 8) (acc-ready t x (d .current)) (good.slot-free (hasImmediate t x) (readyAcc (hasImmediate t x) (accOf t (d .current))) r i) in
         rw (acc-next t (ready t x (d .current))) at s
 
     put-records : addedRun (hasImmediate t x) (x .value) (82 * w .batches) (w .acc) (a .records)

@@ -8,7 +8,7 @@ use native.Mathlib.Omega.{arith}
 pub place-le : (k : ℕ) → k < 9 → 128 ^ k ≤ 128 ^ 8
 place-le k h = pow-le-pow-right {n = 128} (omega arith) {i = k} {j = 8} (omega arith)
 
-pub product-le : (c k : ℕ) → c < 128 → k < 9 → c * 128 ^ k ≤ 127 * 128 ^ 8
+product-le : (c k : ℕ) → c < 128 → k < 9 → c * 128 ^ k ≤ 127 * 128 ^ 8
 product-le c k hc hk = mul-le-mul {n₁ = c} {m₁ = 128 ^ k} {n₂ = 127} {m₂ = 128 ^ 8} (omega arith) (place-le k hk)
 
 pub number-next : (n c k : ℕ) → c < 128 → n < 128 ^ k → n + c * 128 ^ k < 128 ^ (k + 1)

@@ -1,10 +1,11 @@
 use mathlib.Core.Path.{sym, ap, ap₂, _∙_}
+use mathlib.Core.Bool.{true, false}
 use mathlib.Core.List.{List}
 use Prim.Native.Nat.{ℕ}
 use native.Mathlib.Omega.{arith}
 use Rattle.batcher.specs.declared.OpBatchAccumulator.{OpBatchAccumulator}
 use Rattle.batcher.specs.Model.{slottedAcc, slottedRun, joinedAcc, readyAcc}
-use Rattle.batcher.proofs.Good.{ready, slotted-ready, here-9, added-true, added-false, run-true, run-false}
+use Rattle.batcher.proofs.Good.{ready, slotted-ready, here-9, slot-free, added-as, run-as}
 use borrow.Author.Needs.{needs}
 use Rattle.batcher.proofs.OpBatchAccumulator.add_op.Statement.{statement}
 use Rattle.batcher.proofs.OpBatchAccumulator.add_op.Tie as tie
@@ -16,7 +17,7 @@ place-imm-requires : tie.Need-place-imm-requires
 place-imm-requires c κs =
     let a = c .before .before .before .before .before .before .before in
     let r = ready (a .args .imm) (a .args .self) (a .pre .0) (a .pre .1 .0) in
-    (rw (c .before .before .before .before .advance .ensures .0) (r .slot (c .before .if1 .taken)), a .pre .1 .1 .1)
+    (rw (c .before .before .before .before .advance .ensures .0) (slot-free (a .args .imm) (readyAcc (a .args .imm) (a .args .self)) r (c .before .if1 .taken)), a .pre .1 .1 .1)
 
 push-op-requires : tie.Need-push-op-requires
 push-op-requires c κs =
@@ -34,8 +35,8 @@ returns c =
     let e = c .before .before .before .before .before .before .before .before .advance .ensures in
     let p = c .before .before .before .place-imm .ensures in
     let t = c .before .before .before .before .before .if1 .taken in (
-      c .push-op .ensures ∙ ap (joinedAcc (a .code) (a .imm)) (p .0 ∙ ap slottedAcc (e .0)) ∙ sym (added-true (a .code) (a .imm) (a .self) t),
-      p .1 ∙ ap₂ (λ (x : OpBatchAccumulator) (l : List ℕ). slottedRun (a .v) (a .at) x l) (e .0) (e .1) ∙ sym (run-true (a .imm) (a .v) (a .at) (a .self) _ t),
+      c .push-op .ensures ∙ ap (joinedAcc (a .code) (a .imm)) (p .0 ∙ ap slottedAcc (e .0)) ∙ sym (added-as (a .imm) true (a .self) t (a .code)),
+      p .1 ∙ ap₂ (λ (x : OpBatchAccumulator) (l : List ℕ). slottedRun (a .v) (a .at) x l) (e .0) (e .1) ∙ sym (run-as (a .imm) true (a .self) t (a .v) (a .at) _),
     )
 
 push-op-requires-2 : tie.Need-push-op-requires-2
@@ -52,7 +53,7 @@ returns-2 c =
     let a = c .before .before .before .before .before .before .before .args in
     let e = c .before .before .before .before .advance .ensures in
     let t = c .before .if1 .left in
-    (c .push-op2 .ensures ∙ ap (joinedAcc (a .code) (a .imm)) (e .0) ∙ sym (added-false (a .code) (a .imm) (a .self) t), e .1 ∙ sym (run-false (a .imm) (a .v) (a .at) (a .self) _ t))
+    (c .push-op2 .ensures ∙ ap (joinedAcc (a .code) (a .imm)) (e .0) ∙ sym (added-as (a .imm) false (a .self) t (a .code)), e .1 ∙ sym (run-as (a .imm) false (a .self) t (a .v) (a .at) _))
 
 pub add-op-spec : {M : Type 1} → statement M
 add-op-spec =

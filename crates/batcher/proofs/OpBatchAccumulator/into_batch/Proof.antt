@@ -46,7 +46,7 @@ loop-again c =
     let e = c .before .before .finalize-op-group in
     let n = turned-next (l .a) in
     rw (e .ensures .0, e .ensures .1)
-    (turned-good (l .a) (l .inv .0) (omega arith), omega arith, l .inv .2, sym (ap length (e .ensures .1)) ∙ e .kept .1 .1 .0 ∙ l .inv .3, filled-turn _ (l .a) t ∙ l .inv .4, run-turn _ _ (l .a) (l .records) t ∙ l .inv .5)
+    (turned-good (l .a) (l .inv .0) (omega arith), omega arith, l .inv .2, sym (ap length (e .ensures .1)) ∙ e .kept .1 .1 .0 ∙ l .inv .3, filled-turn _ (l .a) t ∙ l .inv .4, run-turn _ (l .a) _ (l .records) t ∙ l .inv .5)
 
 close-requires : tie.Need-close-requires Inv-loop μ-loop
 close-requires c κs = (c .before .before .before .loop .inv .0, c .before .before .before .before .before .before .pre .1)
@@ -72,7 +72,7 @@ returns c =
     let a = c .before .before .before .before .before .before .before .before .before .before .before .before .before .args in
     let k = c .before .before .before .before .before .before .close .ensures in
     let la : l .a ≡ lastAcc (a .self) = sym (filled-none _ (l .a) h) ∙ l .inv .4 ∙ rw g in
-    let lr : l .records ≡ filledRun (target (a .self .next) - a .self .next) (a .at) (a .self) (a .records .now) = sym (run-none _ (a .at) (l .a) (l .records) h) ∙ l .inv .5 ∙ rw g in (
+    let lr : l .records ≡ filledRun (target (a .self .next) - a .self .next) (a .at) (a .self) (a .records .now) = sym (run-none _ (l .a) (a .at) (l .records) h) ∙ l .inv .5 ∙ rw g in (
       k .0 ∙ ap (λ (x : OpBatchAccumulator). x .total + padOf x) la,
       c .before .before .store8 .ensures ∙ ap₂ (λ (x : List ℕ) (n : ℕ). set x (a .at + 81) n) (k .1 ∙ ap₂ (λ (x : OpBatchAccumulator) (y : List ℕ). closedRun (a .at) x y) la lr) g,
     )
