@@ -1,0 +1,62 @@
+use native.Mathlib.Omega.{arith}
+use borrow.Author.Needs.{needs}
+use Prim.Native.Nat.{_≤_, _-_}
+use Rattle.listing.proofs.flagged.Statement.{statement}
+use Rattle.listing.proofs.flagged.Tie as tie
+use Rattle.listing.proofs.flagged.Reads as reads
+use Rattle.listing.proofs.flagged.Lts as lts
+use Rattle.listing.proofs.byte.Reads as byte-reads
+use Rattle.listing.proofs.marked.Reads as marked-reads
+
+abbrev Inv-loop : tie.InvT-loop
+Inv-loop records r n₀ g₀ n g = (g ≤ 8) × (n ≤ g)
+
+abbrev μ-loop : tie.MeasureT-loop
+μ-loop records r n₀ g₀ n g = 8 - g
+
+loop-holds : tie.Need-loop-holds Inv-loop μ-loop
+loop-holds c = search needs
+
+add-byte : tie.Need-add-byte Inv-loop μ-loop
+add-byte c = search needs
+
+add-byte-2 : tie.Need-add-byte-2 Inv-loop μ-loop
+add-byte-2 c = search needs
+
+byte-requires : tie.Need-byte-requires Inv-loop μ-loop
+byte-requires c κs = search needs
+
+marked-requires : tie.Need-marked-requires Inv-loop μ-loop
+marked-requires c κs = search needs
+
+add-n : tie.Need-add-n Inv-loop μ-loop
+add-n c = search needs
+
+add-g : tie.Need-add-g Inv-loop μ-loop
+add-g c = search needs
+
+loop-less : tie.Need-loop-less Inv-loop μ-loop
+loop-less c = search needs
+
+loop-again : tie.Need-loop-again Inv-loop μ-loop
+loop-again c = search needs
+
+returns : tie.Need-returns Inv-loop μ-loop
+returns c = search needs
+
+pub flagged-spec : {M : Type 1} → statement M
+flagged-spec =
+    tie.close
+    (tie.spec
+    Inv-loop
+    μ-loop
+    loop-holds
+    add-byte
+    add-byte-2
+    byte-requires
+    marked-requires
+    add-n
+    add-g
+    loop-less
+    loop-again
+    returns)
