@@ -48,7 +48,7 @@ fn name(code: u8, out: &mut [u8]) -> usize
     let mut n: usize = 0;
     while n < out.len() {
         let b = vm::name_byte(code, n);
-        if b == 0 {
+        if b == b' ' {
             break;
         }
         out[n] = b;
