@@ -1,0 +1,92 @@
+-- What a passed structure check says of an arena; how a check's answer leads on to what comes after it. Assumes nothing.
+use mathlib.Core.Path.{_≡_, refl, sym}
+use mathlib.Core.Bool.{Bool, true, false, cond, not}
+use mathlib.Core.List.{List, [], _∷_, _++_, map}
+use Prim.Native.Nat.{ℕ, zero, suc, _+_, _/_, _<_}
+use native.Mathlib.Nat.{add-zero, zero-add}
+use native.Mathlib.Omega.{arith}
+use borrow.Author.Tests.{eqb-true, not-false}
+use lib.ListN.{length}
+use lib.Dec.{eqb}
+use Rattle.rules.specs.Lists.{total}
+use Rattle.rules.specs.Answer.{Answer, good, refused, refuse, refuseFirst}
+use Rattle.rules.specs.Operations.{operations}
+use Rattle.rules.specs.Record.{Record, recordAt, recordsFrom, recordsIn}
+use Rattle.rules.specs.Checks.{ninth, recordRight, structureFaults}
+use Rattle.rules.specs.Functions.{arena, blockIn, within, structureChecked}
+use Rattle.rules.proofs.Answer.{clash, passed}
+use Rattle.operation.specs.declared.Verdict.the-variants.{Passed, Refused}
+use Rattle.operation.specs.Verdict.{verdictOf}
+
+-- ---- a verdict stands for one answer
+
+pub was-good : (d : Answer Unit) → verdictOf d ≡ Passed → d ≡ good tt
+was-good (good u) h = refl
+was-good (refused n p) h = let z : _≡_ {A = ℕ} 0 1 = cc in absurd (omega arith)
+
+pub was-refused : (d : Answer Unit) (n p : ℕ) → verdictOf d ≡ Refused n p → d ≡ refused n p
+was-refused (good u) n p h = let z : _≡_ {A = ℕ} 0 1 = cc in absurd (omega arith)
+was-refused (refused m q) n p h = cc
+
+-- ---- a check, and then what follows it
+
+abbrev pub andThen : {A : Type 0} → Answer Unit → Answer A → Answer A
+andThen (good u) r = r
+andThen (refused n p) r = refused n p
+
+module _ {A : Type 0} where
+  pub refuse-then : (b : Bool) (n p : ℕ) (d : Answer Unit) (r : Answer A) → refuse b n p (andThen d r) ≡ andThen (refuse b n p d) r
+  refuse-then true n p d r = refl
+  refuse-then false n p d r = refl
+
+  pub first-then : (i : ℕ) (ns : List ℕ) (d : Answer Unit) (r : Answer A) → refuseFirst i ns (andThen d r) ≡ andThen (refuseFirst i ns d) r
+  unfolding refuseFirst
+  first-then i [] d r = refl
+  first-then i (zero ∷ ns) d r = first-then (i + 1) ns d r
+  first-then i (suc n ∷ ns) d r = refl
+
+-- ---- structure
+
+-- every record passes the structure test, and their operations are those lent
+pub record Structured (cs vs rs : List ℕ) : Type 0 where
+  pub right : (b : ℕ) → b < length rs / 82 → recordRight 8 (recordAt rs b) ≡ true
+  pub sum : total (map ninth (recordsIn rs)) ≡ length (operations cs vs)
+
+-- the k records from the b-th on pass
+abbrev Rights : List ℕ → ℕ → ℕ → Type 0
+Rights s b k = (j : ℕ) → j < k → recordRight 8 (recordAt s (b + j)) ≡ true
+
+more : (s : List ℕ) (b k : ℕ) → recordRight 8 (recordAt s b) ≡ true → Rights s (b + 1) k → Rights s b (suc k)
+more s b k e f zero l = rw (add-zero b) e
+more s b k e f (suc j) l = let g : b + suc j ≡ b + 1 + j = omega arith in rw g (f j (omega arith))
+
+abbrev faults : ℕ → List ℕ → ℕ → Bool → List ℕ
+faults k s b q = map (λ (x : Record). cond (recordRight 8 x) 0 15) (recordsFrom k s b) ++ (cond q 0 15 ∷ [])
+
+module _ {A : Type 0} where
+  each : (i k : ℕ) (s : List ℕ) (b : ℕ) (q : Bool) (r : Answer A) (a : A) → refuseFirst i (faults k s b q) r ≡ good a → Rights s b k × (q ≡ true) × (r ≡ good a)
+  unfolding refuseFirst recordsFrom
+  each i zero s b true r a h = (λ j l. absurd (omega arith), refl, h)
+  each i zero s b false r a h = absurd (clash 15 i a h)
+  each i (suc k) s b q r a h = go (recordRight 8 (recordAt s b)) refl (λ g. each (i + 1) k s (b + 1) q r a g) h
+    where
+      go : (t : Bool) → recordRight 8 (recordAt s b) ≡ t
+          → (refuseFirst (i + 1) (faults k s (b + 1) q) r ≡ good a → Rights s (b + 1) k × (q ≡ true) × (r ≡ good a))
+          → refuseFirst i (cond t 0 15 ∷ faults k s (b + 1) q) r ≡ good a → Rights s b (suc k) × (q ≡ true) × (r ≡ good a)
+      go true e ih g = let p = ih g in (more s b k e (p .0), p .1, p .2)
+      go false e ih g = absurd (clash 15 i a g)
+
+  -- a good answer past the structure check
+  pub structured : (cs vs rs : List ℕ) (r : Answer A) (a : A) → refuseFirst 0 (structureFaults 8 (blockIn (arena cs vs rs))) r ≡ good a → Structured cs vs rs × (r ≡ good a)
+  unfolding structureFaults blockIn recordsIn
+  structured cs vs rs r a h =
+      let e = each 0 (length rs / 82) rs 0 (eqb (total (map ninth (recordsFrom (length rs / 82) rs 0))) (length (operations cs vs))) r a h in
+      (record { right = λ b l. rw (sym (zero-add b)) (e .0 b l); sum = eqb-true (total (map ninth (recordsFrom (length rs / 82) rs 0))) (length (operations cs vs)) (e .1) }, e .2)
+
+-- the public check's good answer
+pub checked : (cs vs rs : List ℕ) → structureChecked 8 (arena cs vs rs) ≡ good tt → (within (arena cs vs rs) ≡ true) × Structured cs vs rs
+unfolding structureChecked
+checked cs vs rs h =
+    let a = arena cs vs rs in
+    let p = passed (not (within a)) 3 0 (refuseFirst 0 (structureFaults 8 (blockIn a)) (good tt)) tt h in
+    (not-false (within a) (p .0), structured cs vs rs (good tt) tt (p .1) .0)

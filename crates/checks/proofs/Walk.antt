@@ -1,0 +1,65 @@
+-- The walk over the records to the first that fails the structure test, with the sum of the ninth starts; and what a passed check says. Assumes nothing.
+use mathlib.Core.Path.{_≡_}
+use mathlib.Core.Bool.{true, false, cond}
+use mathlib.Core.List.{List, [], _∷_, _++_, map}
+use Prim.Native.Nat.{ℕ, suc, _+_, _-_, _/_, _≤_, _<_}
+use native.Mathlib.Nat.{add-assoc, add-zero, zero-add, sub-zero}
+use native.Mathlib.Omega.{arith}
+use borrow.Author.Tests.{eq-eqb, ne-eqb, eqb-true}
+use lib.ListN.{length}
+use lib.Dec.{eqb}
+use Rattle.rules.specs.Lists.{total}
+use Rattle.rules.specs.Answer.{Answer, good, refused, refuseFirst}
+use Rattle.rules.specs.Operations.{operations}
+use Rattle.rules.specs.Record.{Record, recordAt, recordsFrom, recordsIn}
+use Rattle.rules.specs.Checks.{ninth, recordRight, structureFaults}
+use Rattle.rules.specs.Functions.{arena, blockIn, within}
+use Rattle.rules.proofs.Operations.{length-operations, true-left}
+
+-- ---- the records of a run from the b-th of n on
+
+pub records-turn : (n : ℕ) (s : List ℕ) (b : ℕ) → b < n → recordsFrom (n - b) s b ≡ recordAt s b ∷ recordsFrom (n - (b + 1)) s (b + 1)
+unfolding recordsFrom
+records-turn n s b h = let e : n - b ≡ suc (n - (b + 1)) = omega arith in rw e
+
+pub records-end : (n : ℕ) (s : List ℕ) (b : ℕ) → n ≤ b → recordsFrom (n - b) s b ≡ []
+unfolding recordsFrom
+records-end n s b h = let e : n - b ≡ 0 = omega arith in rw e
+
+-- ---- the walk
+
+-- the faults of records where others with this sum came before, and the operations are m
+unfoldable faultsOf : List Record → ℕ → ℕ → List ℕ
+faultsOf rs sum m = map (λ (r : Record). cond (recordRight 8 r) 0 15) rs ++ (cond (eqb (sum + total (map ninth rs)) m) 0 15 ∷ [])
+
+-- what the walk finds from the b-th of n records on
+pub left : ℕ → List ℕ → ℕ → ℕ → ℕ → Answer Unit
+left n s m b sum = refuseFirst b (faultsOf (recordsFrom (n - b) s b) sum m) (good tt)
+
+pub start : (cs vs rs : List ℕ) → length cs ≡ length vs
+    → left (length rs / 82) rs (length cs) 0 0 ≡ refuseFirst 0 (structureFaults 8 (blockIn (arena cs vs rs))) (good tt)
+unfolding left faultsOf structureFaults blockIn recordsIn
+start cs vs rs h = rw (sub-zero, zero-add, length-operations cs vs h)
+
+module _ (n : ℕ) (s : List ℕ) (m b sum : ℕ) where
+  pub turn : b < n → recordRight 8 (recordAt s b) ≡ true → left n s m (b + 1) (sum + ninth (recordAt s b)) ≡ left n s m b sum
+  unfolding left faultsOf refuseFirst total
+  turn h e = rw (records-turn n s b h, e, add-assoc sum (ninth (recordAt s b)) (total (map ninth (recordsFrom (n - (b + 1)) s (b + 1)))))
+
+  pub stop : b < n → recordRight 8 (recordAt s b) ≡ false → left n s m b sum ≡ refused 15 b
+  unfolding left faultsOf refuseFirst
+  stop h e = rw (records-turn n s b h, e)
+
+  pub short : b ≡ n → (sum ≡ m → ⊥) → left n s m b sum ≡ refused 15 n
+  unfolding left faultsOf refuseFirst total
+  short h f = rw (records-end n s b (omega arith), add-zero sum, ne-eqb sum m f, h)
+
+  pub done : n ≤ b → sum ≡ m → left n s m b sum ≡ good tt
+  unfolding left faultsOf refuseFirst total
+  done h e = rw (records-end n s b h, add-zero sum, eq-eqb sum m e)
+
+-- ---- what an arena within the limits has
+
+pub equal-lengths : (cs vs rs : List ℕ) → within (arena cs vs rs) ≡ true → length cs ≡ length vs
+unfolding within
+equal-lengths cs vs rs h = eqb-true (length cs) (length vs) (true-left (eqb (length cs) (length vs)) _ h)

@@ -1,0 +1,97 @@
+-- Laws of bytes and words read from a run: one element, and the walk along them. Assumes nothing.
+use mathlib.Core.Path.{_≡_, refl, ap, ap₂, _∙_}
+use mathlib.Core.Bool.{Bool, true, false}
+use mathlib.Core.List.{List, _∷_}
+use Prim.Native.Nat.{ℕ, zero, suc, _+_, _-_, _≤_, _<_}
+use native.Mathlib.Nat.{add-zero}
+use native.Mathlib.Omega.{arith}
+use borrow.Author.Tests.{le-leb, lt-leb}
+use lib.ListN.{length, getD}
+use lib.Dec.{leb, eqb}
+use Rattle.rules.specs.Lists.{every}
+use Rattle.rules.specs.Record.{bytesAt, wordsAt}
+use Rattle.rules.specs.Checks.{startsRight, recordRight}
+use Rattle.op_batch.specs.OpBatch.{layout}
+
+pub bytes-length : (k : ℕ) (s : List ℕ) (at : ℕ) → length (bytesAt k s at) ≡ k
+unfolding bytesAt
+bytes-length zero s at = refl
+bytes-length (suc k) s at = ap suc (bytes-length k s (at + 1))
+
+pub words-length : (k : ℕ) (s : List ℕ) (at : ℕ) → length (wordsAt k s at) ≡ k
+unfolding wordsAt
+words-length zero s at = refl
+words-length (suc k) s at = ap suc (words-length k s (at + 8))
+
+-- the i-th byte
+pub byte : (k : ℕ) (s : List ℕ) (at i : ℕ) → i < k → getD (bytesAt k s at) i 0 ≡ getD s (at + i) 0
+unfolding bytesAt
+byte zero s at i h = absurd (omega arith)
+byte (suc k) s at zero h = rw (add-zero at)
+byte (suc k) s at (suc i) h = byte k s (at + 1) i (omega arith) ∙ ap (λ (n : ℕ). getD s n 0) (omega arith)
+
+-- the bytes from the i-th of n on
+pub bytes-turn : (n : ℕ) (s : List ℕ) (at i : ℕ) → i < n → bytesAt (n - i) s (at + i) ≡ getD s (at + i) 0 ∷ bytesAt (n - (i + 1)) s (at + (i + 1))
+unfolding bytesAt
+bytes-turn n s at i h =
+    let e : n - i ≡ suc (n - (i + 1)) = omega arith in
+    let f : at + i + 1 ≡ at + (i + 1) = omega arith in
+    rw e (ap (λ (k : ℕ). getD s (at + i) 0 ∷ bytesAt (n - (i + 1)) s k) f)
+
+-- ---- flags, one after the other
+
+abbrev pub flagsFrom : List ℕ → ℕ → ℕ → Bool
+flagsFrom s at i = every (λ (f : ℕ). leb f 1) (bytesAt (8 - i) s (at + i))
+
+module _ (s : List ℕ) (at i : ℕ) (h : i < 8) where
+  pub flag-turn : getD s (at + i) 0 ≤ 1 → flagsFrom s at (i + 1) ≡ flagsFrom s at i
+  unfolding every
+  flag-turn k = rw (bytes-turn 8 s at i h, le-leb (getD s (at + i) 0) 1 k)
+
+  pub flag-stop : 1 < getD s (at + i) 0 → flagsFrom s at i ≡ false
+  unfolding every
+  flag-stop k = rw (bytes-turn 8 s at i h, lt-leb (getD s (at + i) 0) 1 k)
+
+pub flags-end : (s : List ℕ) (at i : ℕ) → 8 ≤ i → flagsFrom s at i ≡ true
+unfolding every bytesAt
+flags-end s at i h = let e : 8 - i ≡ 0 = omega arith in rw e
+
+-- ---- starts, one pair after the other
+
+abbrev pub startsLeft : List ℕ → ℕ → ℕ → Bool
+startsLeft s at i = startsRight (bytesAt (9 - i) s (at + i))
+
+module _ (s : List ℕ) (at i : ℕ) (h : i < 8) where
+  two : bytesAt (9 - i) s (at + i) ≡ getD s (at + i) 0 ∷ getD s (at + i + 1) 0 ∷ bytesAt (9 - (i + 2)) s (at + (i + 2))
+  two =
+      bytes-turn 9 s at i (omega arith)
+      ∙ ap (λ (r : List ℕ). getD s (at + i) 0 ∷ r) (bytes-turn 9 s at (i + 1) (omega arith) ∙ ap₂ (λ (j k : ℕ). getD s j 0 ∷ bytesAt (9 - k) s (at + k)) (omega arith) (omega arith))
+
+  one : bytesAt (9 - (i + 1)) s (at + (i + 1)) ≡ getD s (at + i + 1) 0 ∷ bytesAt (9 - (i + 2)) s (at + (i + 2))
+  one = bytes-turn 9 s at (i + 1) (omega arith) ∙ ap₂ (λ (j k : ℕ). getD s j 0 ∷ bytesAt (9 - k) s (at + k)) (omega arith) (omega arith)
+
+  pub start-turn : getD s (at + i) 0 ≤ getD s (at + i + 1) 0 → getD s (at + i + 1) 0 ≤ getD s (at + i) 0 + 9 → startsLeft s at (i + 1) ≡ startsLeft s at i
+  unfolding startsRight
+  start-turn a b = rw (two, one, le-leb (getD s (at + i) 0) (getD s (at + i + 1) 0) a, le-leb (getD s (at + i + 1) 0) (getD s (at + i) 0 + 9) b)
+
+  pub start-falls : getD s (at + i + 1) 0 < getD s (at + i) 0 → startsLeft s at i ≡ false
+  unfolding startsRight
+  start-falls a = rw (two, lt-leb (getD s (at + i) 0) (getD s (at + i + 1) 0) a)
+
+  pub start-over : getD s (at + i) 0 ≤ getD s (at + i + 1) 0 → getD s (at + i) 0 + 9 < getD s (at + i + 1) 0 → startsLeft s at i ≡ false
+  unfolding startsRight
+  start-over a b = rw (two, le-leb (getD s (at + i) 0) (getD s (at + i + 1) 0) a, lt-leb (getD s (at + i + 1) 0) (getD s (at + i) 0 + 9) b)
+
+pub starts-end : (s : List ℕ) (at i : ℕ) → i ≡ 8 → startsLeft s at i ≡ true
+unfolding startsRight bytesAt
+starts-end s at i h = rw h
+
+-- ---- the last of the structure test
+
+pub last-test : (s : List ℕ) (at : ℕ) (flags : List ℕ) (count : ℕ)
+    → count ≤ 8 → every (λ (f : ℕ). leb f 1) flags ≡ true → getD s at 0 ≡ 0 → startsRight (bytesAt 9 s at) ≡ true
+    → recordRight 8 (layout (bytesAt 9 s at) flags count) ≡ eqb (getD s (at + count) 0) (getD s (at + 8) 0)
+unfolding recordRight
+last-test s at flags count h f z r =
+    let first : getD (bytesAt 9 s at) 0 0 ≡ 0 = byte 9 s at 0 (omega arith) ∙ ap (λ (i : ℕ). getD s i 0) (add-zero at) ∙ z in
+    rw (le-leb count 8 h, f, first, r, byte 9 s at count (omega arith), byte 9 s at 8 (omega arith))
