@@ -1,2 +1,5 @@
 pub mod Walk
 pub mod Passed
+pub mod Groups
+pub mod Flags
+pub mod Batches

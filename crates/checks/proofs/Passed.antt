@@ -1,5 +1,5 @@
 -- What a passed structure check says of an arena; how a check's answer leads on to what comes after it. Assumes nothing.
-use mathlib.Core.Path.{_≡_, refl, sym}
+use mathlib.Core.Path.{_≡_, refl, sym, ap, _∙_}
 use mathlib.Core.Bool.{Bool, true, false, cond, not}
 use mathlib.Core.List.{List, [], _∷_, _++_, map}
 use Prim.Native.Nat.{ℕ, zero, suc, _+_, _/_, _<_}
@@ -13,7 +13,7 @@ use Rattle.rules.specs.Answer.{Answer, good, refused, refuse, refuseFirst}
 use Rattle.rules.specs.Operations.{operations}
 use Rattle.rules.specs.Record.{Record, recordAt, recordsFrom, recordsIn}
 use Rattle.rules.specs.Checks.{ninth, recordRight, structureFaults}
-use Rattle.rules.specs.Functions.{arena, blockIn, within, structureChecked}
+use Rattle.rules.specs.Functions.{Arena, arena, blockIn, within, structureChecked}
 use Rattle.rules.proofs.Answer.{clash, passed}
 use Rattle.operation.specs.declared.Verdict.the-variants.{Passed, Refused}
 use Rattle.operation.specs.Verdict.{verdictOf}
@@ -44,6 +44,21 @@ module _ {A : Type 0} where
   first-then i [] d r = refl
   first-then i (zero ∷ ns) d r = first-then (i + 1) ns d r
   first-then i (suc n ∷ ns) d r = refl
+
+  -- limits and structure, and then what follows them
+  pub structure-then : (w : ℕ) (a : Arena) (r : Answer A) → refuse (not (within a)) 3 0 (refuseFirst 0 (structureFaults w (blockIn a)) r) ≡ andThen (structureChecked w a) r
+  unfolding structureChecked
+  structure-then w a r =
+      ap (refuse (not (within a)) 3 0) (first-then 0 (structureFaults w (blockIn a)) (good tt) r)
+      ∙ refuse-then (not (within a)) 3 0 (refuseFirst 0 (structureFaults w (blockIn a)) (good tt)) r
+
+  pub went-on : (d : Answer Unit) (r : Answer A) → d ≡ good tt → andThen d r ≡ r
+  went-on d r h = rw h
+
+-- a refusal is handed on
+pub handed-on : (d r : Answer Unit) (n p : ℕ) → verdictOf d ≡ Refused n p → verdictOf (andThen d r) ≡ verdictOf d
+handed-on (good u) r n p h = let z : _≡_ {A = ℕ} 0 1 = cc in absurd (omega arith)
+handed-on (refused m q) r n p h = refl
 
 -- ---- structure
 

@@ -3,9 +3,10 @@ ghost use mathlib.Core.Path.{_≡_};
 ghost use Prim.Native.Nat.{_+_, _*_, _≤_};
 ghost use lib.ListN.{length};
 ghost use Rattle.rules.specs.Answer.{good, refuseFirst};
-ghost use Rattle.rules.specs.Checks.{structureFaults};
-ghost use Rattle.rules.specs.Functions.{arena, blockIn, within, structureChecked};
+ghost use Rattle.rules.specs.Checks.{structureFaults, paddingFault, paddingFaults};
+ghost use Rattle.rules.specs.Functions.{arena, blockIn, within, structureChecked, paddingChecked};
 ghost use Rattle.operation.specs.Verdict.{verdictOf};
+ghost use Rattle.checks.specs.Batch.{heldAt, Lies};
 use op_batch::RECORD;
 use operation::Verdict;
 
@@ -42,7 +43,7 @@ pub fn structure_fault(codes: &[u8], values: &[u64], records: &[u8]) -> Verdict
                 place: b,
             };
         }
-        sum += op_batch::ninth_start(records, b);
+        sum += op_batch::start(records, b, 8);
         b += 1;
     }
     if sum != codes.len() {
@@ -65,4 +66,63 @@ pub fn structure(codes: &[u8], values: &[u64], records: &[u8]) -> Verdict
         };
     }
     structure_fault(codes, values, records)
+}
+
+// ---- padding
+
+// One batch: a flagged group is under the count, holds operations and ends in opcode 0.
+fn batch_padding(codes: &[u8], values: &[u64], records: &[u8], b: usize, from: usize) -> u8
+    requires { ⌜ Lies (arena (now codes) (now values) (now records)) b from ⌝ }
+    ensures { λ r. ⌜ r ≡ paddingFault (heldAt (arena (now (codes .entry)) (now (values .entry)) (now (records .entry))) b from) ⌝ }
+{
+    let count = op_batch::count(records, b);
+    let mut g: usize = 0;
+    while g < 8 {
+        if op_batch::flag(records, b, g) == 0 {
+            g += 1;
+            continue;
+        }
+        if count <= g {
+            return 10;
+        }
+        let end = op_batch::start(records, b, g + 1);
+        if op_batch::start(records, b, g) == end {
+            return 10;
+        }
+        if codes[from + end - 1] != 0 {
+            return 10;
+        }
+        g += 1;
+    }
+    0
+}
+
+// The first batch with a padding fault, for callers whose arena passed the structure check.
+pub fn padding_fault(codes: &[u8], values: &[u64], records: &[u8]) -> Verdict
+    requires { ⌜ structureChecked 8 (arena (now codes) (now values) (now records)) ≡ good tt ⌝ }
+    ensures { λ r. ⌜ r ≡ verdictOf (refuseFirst 0 (paddingFaults (blockIn (arena (now (codes .entry)) (now (values .entry)) (now (records .entry))))) (good tt)) ⌝ }
+{
+    let n = records.len() / RECORD;
+    let mut from: usize = 0;
+    let mut b: usize = 0;
+    while b < n {
+        let number = batch_padding(codes, values, records, b, from);
+        if number != 0 {
+            return Verdict::Refused { number, place: b };
+        }
+        from += op_batch::start(records, b, 8);
+        b += 1;
+    }
+    Verdict::Passed
+}
+
+// Padding: refusals 3, 15, 10.
+pub fn padding(codes: &[u8], values: &[u64], records: &[u8]) -> Verdict
+    ensures { λ r. ⌜ r ≡ verdictOf (paddingChecked 8 (arena (now (codes .entry)) (now (values .entry)) (now (records .entry)))) ⌝ }
+{
+    let v = structure(codes, values, records);
+    let Verdict::Passed = v else {
+        return v;
+    };
+    padding_fault(codes, values, records)
 }

@@ -2,13 +2,14 @@
 use mathlib.Core.Path.{_≡_, refl, ap, ap₂, _∙_}
 use mathlib.Core.Bool.{Bool, true, false}
 use mathlib.Core.List.{List, _∷_}
-use Prim.Native.Nat.{ℕ, zero, suc, _+_, _-_, _≤_, _<_}
+use Prim.Native.Nat.{ℕ, zero, suc, _+_, _-_, _*_, _≤_, _<_}
 use native.Mathlib.Nat.{add-zero}
 use native.Mathlib.Omega.{arith}
 use borrow.Author.Tests.{le-leb, lt-leb}
 use lib.ListN.{length, getD}
 use lib.Dec.{leb, eqb}
 use Rattle.rules.specs.Lists.{every}
+use Rattle.rules.specs.Digits.{leAt}
 use Rattle.rules.specs.Record.{bytesAt, wordsAt}
 use Rattle.rules.specs.Checks.{startsRight, recordRight}
 use Rattle.op_batch.specs.OpBatch.{layout}
@@ -29,6 +30,13 @@ unfolding bytesAt
 byte zero s at i h = absurd (omega arith)
 byte (suc k) s at zero h = rw (add-zero at)
 byte (suc k) s at (suc i) h = byte k s (at + 1) i (omega arith) ∙ ap (λ (n : ℕ). getD s n 0) (omega arith)
+
+-- the i-th word
+pub word : (k : ℕ) (s : List ℕ) (at i : ℕ) → i < k → getD (wordsAt k s at) i 0 ≡ leAt 8 s (at + 8 * i)
+unfolding wordsAt
+word zero s at i h = absurd (omega arith)
+word (suc k) s at zero h = rw (add-zero at)
+word (suc k) s at (suc i) h = word k s (at + 8) i (omega arith) ∙ ap (leAt 8 s) (omega arith)
 
 -- the bytes from the i-th of n on
 pub bytes-turn : (n : ℕ) (s : List ℕ) (at i : ℕ) → i < n → bytesAt (n - i) s (at + i) ≡ getD s (at + i) 0 ∷ bytesAt (n - (i + 1)) s (at + (i + 1))

@@ -2,17 +2,18 @@
 use mathlib.Core.Path.{_≡_, sym, ap, _∙_}
 use mathlib.Core.Bool.{Bool, true, _&&_}
 use mathlib.Core.List.{List, [], _∷_}
-use Prim.Native.Nat.{ℕ, zero, suc, _+_, _*_, _≤_, _<_}
+use Prim.Native.Nat.{ℕ, zero, suc, _+_, _-_, _*_, _≤_, _<_}
 use native.Mathlib.Nat.{add-zero}
 use native.Mathlib.Omega.{arith}
 use borrow.Author.Tests.{leb-true, eqb-true}
 use lib.ListN.{length, getD}
 use lib.Dec.{leb, eqb}
 use Rattle.rules.specs.Lists.{every}
+use Rattle.rules.specs.Digits.{leAt}
 use Rattle.rules.specs.Record.{Record, bytesAt, recordAt}
 use Rattle.rules.specs.Checks.{ninth, startsRight, recordRight}
 use Rattle.rules.proofs.Operations.{true-left, true-right}
-use Rattle.op_batch.proofs.Bytes.{bytes-length, byte}
+use Rattle.op_batch.proofs.Bytes.{bytes-length, words-length, byte, word}
 
 every-at : (test : ℕ → Bool) (xs : List ℕ) (i : ℕ) → every test xs ≡ true → i < length xs → test (getD xs i 0) ≡ true
 unfolding every
@@ -57,47 +58,45 @@ sound w r e =
       last = eqb-true (getD (r .starts) (r .count) 0) (ninth r) (true-right d z e₃);
     }
 
+-- no right record has over 72 operations, and each start is at most the ninth
+module _ (w : ℕ) (r : Record) (x : Sound w r) (l : length (r .starts) ≡ 9) where
+  up : (g : ℕ) → g < 9 → getD (r .starts) g 0 ≤ 9 * g
+  up zero h = omega (arith, x .first)
+  up (suc g) h = omega (arith, x .rises g (omega arith), up g (omega arith))
+
+  pub ninth-small : ninth r ≤ 72
+  ninth-small = up 8 (omega arith)
+
+  down : (k g : ℕ) → g + k ≡ 8 → getD (r .starts) g 0 ≤ ninth r
+  down zero g h = let e : g ≡ 8 = omega arith in rw e (omega arith)
+  down (suc k) g h = omega (arith, x .rises g (omega arith), down k (suc g) (omega arith))
+
+  pub below-ninth : (g : ℕ) → g < 9 → getD (r .starts) g 0 ≤ ninth r
+  below-ninth g h = down (8 - g) g (omega arith)
+
 -- ---- records of a run
 
-pub ninth-at : (s : List ℕ) (b : ℕ) → ninth (recordAt s b) ≡ getD s (82 * b + 8) 0
-unfolding recordAt
-ninth-at s b = byte 9 s (82 * b) 8 (omega arith)
+module _ (s : List ℕ) (b : ℕ) where
+  pub starts-length : length (recordAt s b .starts) ≡ 9
+  unfolding recordAt
+  starts-length = bytes-length 9 s (82 * b)
 
--- the same parts where the record lies in a run from a place on
-pub record Right (s : List ℕ) (at : ℕ) : Type 0 where
-  pub count : getD s (at + 81) 0 ≤ 8
-  pub flags : (g : ℕ) → g < 8 → getD s (at + 9 + g) 0 ≤ 1
-  pub first : getD s at 0 ≡ 0
-  pub rises : (g : ℕ) → g < 8 → (getD s (at + g) 0 ≤ getD s (at + g + 1) 0) × (getD s (at + g + 1) 0 ≤ getD s (at + g) 0 + 9)
-  pub last : getD s (at + getD s (at + 81) 0) 0 ≡ getD s (at + 8) 0
+  pub flags-length : length (recordAt s b .flags) ≡ 8
+  unfolding recordAt
+  flags-length = bytes-length 8 s (82 * b + 9)
 
-pub right-at : (s : List ℕ) (b : ℕ) → recordRight 8 (recordAt s b) ≡ true → Right s (82 * b)
-unfolding recordAt
-right-at s b e =
-    let at = 82 * b in
-    let k = getD s (at + 81) 0 in
-    let r = sound 8 (recordAt s b) e in
-    record {
-      count = r .count;
-      flags = λ g h. rw (sym (byte 8 s (at + 9) g h)) (r .flags g (rw (bytes-length 8 s (at + 9)) h));
-      first = ap (λ (i : ℕ). getD s i 0) (sym (add-zero at)) ∙ sym (byte 9 s at 0 (omega arith)) ∙ r .first;
-      rises = λ g h. rises-at g h (r .rises g (rw (bytes-length 9 s at) (omega arith)));
-      last = let h : k < 9 = omega (arith, r .count) in sym (byte 9 s at k h) ∙ r .last ∙ ninth-at s b;
-    }
-  where
-    rises-at : (g : ℕ) → g < 8
-        → (getD (bytesAt 9 s (82 * b)) g 0 ≤ getD (bytesAt 9 s (82 * b)) (suc g) 0) × (getD (bytesAt 9 s (82 * b)) (suc g) 0 ≤ getD (bytesAt 9 s (82 * b)) g 0 + 9)
-        → (getD s (82 * b + g) 0 ≤ getD s (82 * b + g + 1) 0) × (getD s (82 * b + g + 1) 0 ≤ getD s (82 * b + g) 0 + 9)
-    rises-at g h p =
-        let x : getD (bytesAt 9 s (82 * b)) g 0 ≡ getD s (82 * b + g) 0 = byte 9 s (82 * b) g (omega arith) in
-        let y : getD (bytesAt 9 s (82 * b)) (suc g) 0 ≡ getD s (82 * b + g + 1) 0 = byte 9 s (82 * b) (suc g) (omega arith) ∙ ap (λ (i : ℕ). getD s i 0) (omega arith) in
-        (rw (sym x, sym y) (p .0), rw (sym x, sym y) (p .1))
+  pub numbers-length : length (recordAt s b .numbers) ≡ 8
+  unfolding recordAt
+  numbers-length = words-length 8 s (82 * b + 17)
 
--- no record has over 72 operations
-pub ninth-small : (s : List ℕ) (b : ℕ) → recordRight 8 (recordAt s b) ≡ true → ninth (recordAt s b) ≤ 72
-ninth-small s b e =
-    let at = 82 * b in
-    let r = right-at s b e in
-    let up : (g : ℕ) → g < 8 → getD s (at + g) 0 ≤ 9 * g → getD s (at + (g + 1)) 0 ≤ 9 * (g + 1) = λ g h k. let e : at + (g + 1) ≡ at + g + 1 = omega arith in rw e (omega (arith, r .rises g h)) in
-    let zero-ok : getD s (at + 0) 0 ≤ 0 = rw (add-zero at) (omega (arith, r .first)) in
-    rw (ninth-at s b) (up 7 (omega arith) (up 6 (omega arith) (up 5 (omega arith) (up 4 (omega arith) (up 3 (omega arith) (up 2 (omega arith) (up 1 (omega arith) (up 0 (omega arith) zero-ok))))))))
+  pub start-at : (g : ℕ) → g < 9 → getD (recordAt s b .starts) g 0 ≡ getD s (82 * b + g) 0
+  unfolding recordAt
+  start-at g h = byte 9 s (82 * b) g h
+
+  pub flag-at : (g : ℕ) → g < 8 → getD (recordAt s b .flags) g 0 ≡ getD s (82 * b + 9 + g) 0
+  unfolding recordAt
+  flag-at g h = byte 8 s (82 * b + 9) g h
+
+  pub number-at : (g : ℕ) → g < 8 → getD (recordAt s b .numbers) g 0 ≡ leAt 8 s (82 * b + 17 + 8 * g)
+  unfolding recordAt
+  number-at g h = word 8 s (82 * b + 17) g h

@@ -6,7 +6,7 @@ ghost use lib.ListN.{length, getD};
 ghost use lib.Dec.{leb};
 ghost use Rattle.rules.specs.Lists.{every};
 ghost use Rattle.rules.specs.Record.{bytesAt, recordAt};
-ghost use Rattle.rules.specs.Checks.{ninth, startsRight, recordRight};
+ghost use Rattle.rules.specs.Checks.{startsRight, recordRight};
 ghost use Rattle.op_batch.specs.OpBatch.{layout};
 
 // The bytes of a record in a run.
@@ -75,11 +75,34 @@ pub fn record_right(records: &[u8], b: usize) -> bool
     layout_right(records, at, records, at + 9, records[at + 81])
 }
 
-// The b-th record's ninth start: its operation total.
-pub fn ninth_start(records: &[u8], b: usize) -> usize
-    requires { ⌜ 82 * b + 82 ≤ length (now records) ⌝ }
-    ensures { λ r. ⌜ (r ≡ ninth (recordAt (now (records .entry)) b)) × (r < 256) ⌝ }
+// ---- what the b-th record of a run says
+
+pub fn start(records: &[u8], b: usize, g: usize) -> usize
+    requires { ⌜ (82 * b + 82 ≤ length (now records)) × (g < 9) ⌝ }
+    ensures { λ r. ⌜ (r ≡ getD (recordAt (now (records .entry)) b .starts) g 0) × (r < 256) ⌝ }
 {
-    let last = records[RECORD * b + 8];
-    last as usize
+    let at = RECORD * b + g;
+    records[at] as usize
+}
+
+pub fn flag(records: &[u8], b: usize, g: usize) -> u8
+    requires { ⌜ (82 * b + 82 ≤ length (now records)) × (g < 8) ⌝ }
+    ensures { λ r. ⌜ r ≡ getD (recordAt (now (records .entry)) b .flags) g 0 ⌝ }
+{
+    records[RECORD * b + 9 + g]
+}
+
+pub fn number(records: &[u8], b: usize, g: usize) -> u64
+    requires { ⌜ (82 * b + 82 ≤ length (now records)) × (g < 8) ⌝ }
+    ensures { λ r. ⌜ r ≡ getD (recordAt (now (records .entry)) b .numbers) g 0 ⌝ }
+{
+    word::le8(records, RECORD * b + 17 + 8 * g)
+}
+
+pub fn count(records: &[u8], b: usize) -> usize
+    requires { ⌜ 82 * b + 82 ≤ length (now records) ⌝ }
+    ensures { λ r. ⌜ (r ≡ recordAt (now (records .entry)) b .count) × (r < 256) ⌝ }
+{
+    let at = RECORD * b + 81;
+    records[at] as usize
 }

@@ -5,14 +5,15 @@ use borrow.Author.Needs.{needs}
 use borrow.Author.Tests.{not-true, not-false}
 use lib.ListN.{length}
 use Rattle.operation.specs.Verdict.{verdictOf}
-use Rattle.op_batch.proofs.Right.{ninth-small}
+use Rattle.rules.specs.Record.{recordAt}
+use Rattle.op_batch.proofs.Right.{sound, starts-length, ninth-small}
 use Rattle.checks.proofs.Walk.{left, start, turn, stop, short, done}
 use Rattle.checks.proofs.structure_fault.Statement.{statement}
 use Rattle.checks.proofs.structure_fault.Tie as tie
 use Rattle.checks.proofs.structure_fault.Reads as reads
 use Rattle.checks.proofs.structure_fault.Lts as lts
-use Rattle.op_batch.proofs.ninth_start.Reads as ninth-start-reads
 use Rattle.op_batch.proofs.record_right.Reads as record-right-reads
+use Rattle.op_batch.proofs.start.Reads as start-reads
 
 abbrev Inv-loop : tie.InvT-loop
 Inv-loop codes values records n sum₀ b₀ sum b =
@@ -33,14 +34,11 @@ returns c =
     let a = c .before .before .before .before .before .before .before .args in
     ap verdictOf (sym (stop _ (a .records .now) _ (l .b) (l .sum) (omega arith) (sym (c .before .record-right .ensures) ∙ not-true _ (c .if1 .taken))) ∙ l .inv .3 ∙ start (a .codes .now) (a .values .now) (a .records .now) (c .before .before .before .before .before .before .before .pre))
 
-ninth-start-requires : tie.Need-ninth-start-requires Inv-loop μ-loop
-ninth-start-requires c κs = omega arith
+start-requires : tie.Need-start-requires Inv-loop μ-loop
+start-requires c κs = omega arith
 
 add-sum : tie.Need-add-sum Inv-loop μ-loop
-add-sum c =
-    let l = c .before .before .before .before .loop in
-    let a = c .before .before .before .before .before .before .before .before .args in
-    omega arith
+add-sum c = omega arith
 
 add-b : tie.Need-add-b Inv-loop μ-loop
 add-b c = search needs
@@ -51,10 +49,10 @@ loop-less c = search needs
 loop-again : tie.Need-loop-again Inv-loop μ-loop
 loop-again c =
     let l = c .before .before .before .before .loop in
-    let a = c .before .before .before .before .before .before .before .before .args in
-    let e = c .ninth-start .ensures .0 in
+    let s = c .before .before .before .before .before .before .before .before .args .records .now in
+    let e = c .start .ensures .0 in
     let r = sym (c .before .before .record-right .ensures) ∙ not-false _ (c .before .if1 .left) in
-    (l .inv .0, omega arith, omega (arith, ninth-small (a .records .now) (l .b) r), rw e (turn _ (a .records .now) _ (l .b) (l .sum) (omega arith) r ∙ l .inv .3))
+    (l .inv .0, omega arith, omega (arith, ninth-small 8 (recordAt s (l .b)) (sound 8 (recordAt s (l .b)) r) (starts-length s (l .b))), rw e (turn _ s _ (l .b) (l .sum) (omega arith) r ∙ l .inv .3))
 
 returns-2 : tie.Need-returns-2 Inv-loop μ-loop
 returns-2 c =
@@ -77,7 +75,7 @@ structure-fault-spec =
     loop-holds
     record-right-requires
     returns
-    ninth-start-requires
+    start-requires
     add-sum
     add-b
     loop-less

@@ -1,0 +1,68 @@
+-- The walk over the batches of an arena that passed the structure check, to the first with a fault of any kind. Assumes nothing.
+use mathlib.Core.Path.{_≡_, refl, sym, ap, _∙_}
+use mathlib.Core.List.{List, [], _∷_, map}
+use Prim.Native.Nat.{ℕ, _+_, _-_, _*_, _/_, _≤_, _<_}
+use native.Mathlib.Nat.{sub-zero}
+use native.Mathlib.Omega.{arith}
+use lib.ListN.{length}
+use Rattle.rules.specs.Lists.{total}
+use Rattle.rules.specs.Answer.{Answer, good, refused, refuseFirst}
+use Rattle.rules.specs.Operations.{operations}
+use Rattle.rules.specs.Record.{recordAt, recordsFrom, recordsIn}
+use Rattle.rules.specs.Checks.{Held, ninth, heldFrom, held}
+use Rattle.rules.specs.Functions.{Arena, arena, blockIn, structureChecked}
+use Rattle.rules.proofs.Answer.{first-turn, first-stop, first-done}
+use Rattle.rules.proofs.Operations.{length-operations}
+use Rattle.checks.specs.Batch.{heldAt, Lies}
+use Rattle.checks.proofs.Walk.{records-turn, records-end, equal-lengths}
+use Rattle.checks.proofs.Passed.{checked}
+
+-- the operations of the batches from the b-th of n on
+unfoldable pub rest : ℕ → List ℕ → ℕ → ℕ
+rest n s b = total (map ninth (recordsFrom (n - b) s b))
+
+pub rest-turn : (n : ℕ) (s : List ℕ) (b : ℕ) → b < n → rest n s b ≡ ninth (recordAt s b) + rest n s (b + 1)
+unfolding rest total
+rest-turn n s b h = rw (records-turn n s b h)
+
+module _ (cs vs rs : List ℕ) (c : structureChecked 8 (arena cs vs rs) ≡ good tt) where
+  pub rest-all : rest (length rs / 82) rs 0 ≡ length cs
+  unfolding rest recordsIn
+  rest-all = let k = checked cs vs rs c in rw sub-zero (k .1 .sum ∙ length-operations cs vs (equal-lengths cs vs rs (k .0)))
+
+  pub lies : (b from : ℕ) → b < length rs / 82 → from + rest (length rs / 82) rs b ≡ length cs → Lies (arena cs vs rs) b from
+  lies b from h e =
+      let k = checked cs vs rs c in
+      record {
+        equal = equal-lengths cs vs rs (k .0);
+        whole = omega arith;
+        right = k .1 .right b h;
+        inside = omega (arith, rest-turn (length rs / 82) rs b h);
+      }
+
+-- what the walk finds from the b-th of n batches on, whose operations begin at a place
+unfoldable pub faultFrom : (Held → ℕ) → ℕ → Arena → ℕ → ℕ → Answer Unit
+faultFrom fault n a b from = refuseFirst b (map fault (heldFrom (recordsFrom (n - b) (a .records) b) (operations (a .codes) (a .values)) from)) (good tt)
+
+module _ (fault : Held → ℕ) (n : ℕ) (a : Arena) (b from : ℕ) where
+  abbrev more : List ℕ
+  more = map fault (heldFrom (recordsFrom (n - (b + 1)) (a .records) (b + 1)) (operations (a .codes) (a .values)) (from + ninth (recordAt (a .records) b)))
+
+  one : b < n → faultFrom fault n a b from ≡ refuseFirst b (fault (heldAt a b from) ∷ more) (good tt)
+  unfolding faultFrom heldFrom
+  one h = rw (records-turn n (a .records) b h)
+
+  pub turn : b < n → fault (heldAt a b from) ≡ 0 → faultFrom fault n a (b + 1) (from + ninth (recordAt (a .records) b)) ≡ faultFrom fault n a b from
+  unfolding faultFrom
+  turn h e = sym (one h ∙ first-turn b (fault (heldAt a b from)) more (good tt) e)
+
+  pub stop : b < n → (m : ℕ) → m ≡ fault (heldAt a b from) → (m ≡ 0 → ⊥) → faultFrom fault n a b from ≡ refused m b
+  stop h m e f = one h ∙ rw (sym e) (first-stop b m more (good tt) f)
+
+  pub done : n ≤ b → faultFrom fault n a b from ≡ good tt
+  unfolding faultFrom heldFrom
+  done h = rw (records-end n (a .records) b h) (first-done b (good tt))
+
+pub begin : (fault : Held → ℕ) (a : Arena) → faultFrom fault (length (a .records) / 82) a 0 0 ≡ refuseFirst 0 (map fault (held (blockIn a))) (good tt)
+unfolding faultFrom held blockIn recordsIn
+begin fault a = rw sub-zero

@@ -1,0 +1,98 @@
+-- The padding test of one batch, flag by flag. Assumes nothing.
+use mathlib.Core.Path.{_≡_, refl, sym, ap, _∙_}
+use mathlib.Core.Bool.{Bool, true, false, cond, _&&_}
+use mathlib.Core.List.{List, [], _∷_}
+use Prim.Native.Nat.{ℕ, zero, suc, _+_, _-_, _≤_, _<_}
+use native.Mathlib.Nat.{add-zero}
+use native.Mathlib.Numerals.{add-one}
+use native.Mathlib.Omega.{arith}
+use borrow.Author.Tests.{lt-ltb, le-ltb, eq-eqb, ne-eqb}
+use lib.ListN.{length, getD, take, drop, drop-of-length-le}
+use lib.Seq.{drop-cons}
+use lib.Dec.{ltb, eqb}
+use Rattle.rules.specs.Operations.{Op, operations}
+use Rattle.rules.specs.Record.{Record, recordAt}
+use Rattle.rules.specs.Block.{part, endsInNoop, paddingRight}
+use Rattle.rules.specs.Checks.{paddingFault}
+use Rattle.rules.specs.Functions.{Arena}
+use Rattle.rules.proofs.Digits.{split}
+use Rattle.rules.proofs.Operations.{op}
+use Rattle.checks.specs.Batch.{heldAt, Lies}
+use Rattle.checks.proofs.Groups.{Lying, lying, part-turn, group, under, under-start, under-turn, under-none, in-order, within-codes}
+
+-- ---- how a group ends
+
+ends-none : (n i : ℕ) (xs : List Op) → n ≡ 0 → endsInNoop (part n xs i) ≡ false
+unfolding endsInNoop
+ends-none n i xs h = rw h
+
+ends : (n i : ℕ) (cs vs : List ℕ) → i + suc n ≤ length cs → length cs ≡ length vs → endsInNoop (part (suc n) (operations cs vs) i) ≡ eqb (getD cs (i + n) 0) 0
+unfolding endsInNoop
+ends zero i cs vs h e = rw (part-turn 0 i cs vs (omega arith) e, add-zero i)
+ends (suc n) i cs vs h e =
+    ap endsInNoop (part-turn (suc n) i cs vs (omega arith) e)
+    ∙ skip (op (getD cs i 0) (getD vs i 0))
+    ∙ ends n (i + 1) cs vs (omega arith) e
+    ∙ ap (λ (k : ℕ). eqb (getD cs k 0) 0) (omega arith)
+  where
+    skip : (y : Op) → endsInNoop (y ∷ part (suc n) (operations cs vs) (i + 1)) ≡ endsInNoop (part (suc n) (operations cs vs) (i + 1))
+    skip y = rw (part-turn n (i + 1) cs vs (omega arith) e)
+
+-- ---- the walk
+
+-- whether the flags from the g-th on are right
+unfoldable pub padLeft : Record → List Op → ℕ → ℕ → Bool
+padLeft r xs from g = paddingRight (under r xs from g) (drop g (r .flags))
+
+same : (b : Bool) → cond b true false ≡ b
+same true = refl
+same false = refl
+
+module _ (r : Record) (cs vs : List ℕ) (from : ℕ) (x : Lying r cs vs from) (g : ℕ) (h : g < 8) where
+  step : padLeft r (operations cs vs) from g
+      ≡ cond (eqb (getD (r .flags) g 0) 0) true (ltb g (r .count) && endsInNoop (group r (operations cs vs) from g)) && padLeft r (operations cs vs) from (g + 1)
+  unfolding padLeft paddingRight
+  step =
+      let f : drop g (r .flags) ≡ getD (r .flags) g 0 ∷ drop (g + 1) (r .flags) = rw (add-one g) (drop-cons (r .flags) g 0 (omega (arith, x .flags))) in
+      split g (r .count)
+      (λ k. rw (under-turn r cs vs from x g k, f, lt-ltb g (r .count) k))
+      (λ k. rw (under-none r (operations cs vs) from g k, under-none r (operations cs vs) from (g + 1) (omega arith), f, le-ltb g (r .count) k, same (eqb (getD (r .flags) g 0) 0)))
+
+  pub plain : getD (r .flags) g 0 ≡ 0 → padLeft r (operations cs vs) from (g + 1) ≡ padLeft r (operations cs vs) from g
+  plain e = sym (step ∙ rw (eq-eqb (getD (r .flags) g 0) 0 e))
+
+  -- a set flag
+  module _ (f : getD (r .flags) g 0 ≡ 0 → ⊥) where
+    pub over : r .count ≤ g → padLeft r (operations cs vs) from g ≡ false
+    over k = step ∙ rw (ne-eqb (getD (r .flags) g 0) 0 f, le-ltb g (r .count) k)
+
+    module _ (k : g < r .count) where
+      pub empty : getD (r .starts) g 0 ≡ getD (r .starts) (g + 1) 0 → padLeft r (operations cs vs) from g ≡ false
+      empty e = step ∙ rw (ne-eqb (getD (r .flags) g 0) 0 f, lt-ltb g (r .count) k, ends-none (getD (r .starts) (g + 1) 0 - getD (r .starts) g 0) (from + getD (r .starts) g 0) (operations cs vs) (omega arith))
+
+      module _ (n : getD (r .starts) g 0 ≡ getD (r .starts) (g + 1) 0 → ⊥) where
+        last : endsInNoop (group r (operations cs vs) from g) ≡ eqb (getD cs (from + getD (r .starts) (g + 1) 0 - 1) 0) 0
+        last =
+            let a = getD (r .starts) g 0 in
+            let b = getD (r .starts) (g + 1) 0 in
+            let o = in-order r cs vs from x g h in
+            let i = within-codes r cs vs from x (g + 1) (omega arith) in
+            let e : b - a ≡ suc (b - a - 1) = omega arith in
+            let d : from + a + (b - a - 1) ≡ from + b - 1 = omega arith in
+            ap (λ (k : ℕ). endsInNoop (part k (operations cs vs) (from + a))) e
+            ∙ ends (b - a - 1) (from + a) cs vs (omega arith) (x .equal)
+            ∙ ap (λ (k : ℕ). eqb (getD cs k 0) 0) d
+
+        pub other : (getD cs (from + getD (r .starts) (g + 1) 0 - 1) 0 ≡ 0 → ⊥) → padLeft r (operations cs vs) from g ≡ false
+        other c = step ∙ rw (ne-eqb (getD (r .flags) g 0) 0 f, lt-ltb g (r .count) k, last, ne-eqb (getD cs (from + getD (r .starts) (g + 1) 0 - 1) 0) 0 c)
+
+        pub noop : getD cs (from + getD (r .starts) (g + 1) 0 - 1) 0 ≡ 0 → padLeft r (operations cs vs) from (g + 1) ≡ padLeft r (operations cs vs) from g
+        noop c = sym (step ∙ rw (ne-eqb (getD (r .flags) g 0) 0 f, lt-ltb g (r .count) k, last, eq-eqb (getD cs (from + getD (r .starts) (g + 1) 0 - 1) 0) 0 c))
+
+pub padded : (r : Record) (cs vs : List ℕ) (from : ℕ) (x : Lying r cs vs from) (g : ℕ) → 8 ≤ g → padLeft r (operations cs vs) from g ≡ true
+unfolding padLeft paddingRight
+padded r cs vs from x g h = rw (drop-of-length-le (r .flags) {i = g} (omega (arith, x .flags)))
+
+pub begin : (a : Arena) (b from : ℕ) → Lies a b from → cond (padLeft (recordAt (a .records) b) (operations (a .codes) (a .values)) from 0) 0 10 ≡ paddingFault (heldAt a b from)
+unfolding padLeft paddingFault
+begin a b from x = rw (under-start (recordAt (a .records) b) (a .codes) (a .values) from (lying a b from x))

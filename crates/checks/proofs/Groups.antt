@@ -1,0 +1,97 @@
+-- The groups of one batch, one after the other. Assumes nothing.
+use mathlib.Core.Path.{_≡_, refl, sym, ap, ap₂, _∙_}
+use mathlib.Core.Bool.{Bool, true, false, cond, _&&_}
+use mathlib.Core.List.{List, [], _∷_}
+use Prim.Native.Nat.{ℕ, zero, suc, _+_, _-_, _≤_, _<_}
+use native.Mathlib.Nat.{add-zero, sub-zero}
+use native.Mathlib.Numerals.{add-one}
+use native.Mathlib.Omega.{arith}
+use lib.ListN.{length, getD, take, drop, drop-of-length-le}
+use lib.Seq.{drop-cons, drop-nil, drop-drop, take-nil}
+use Rattle.rules.specs.Operations.{Op, operations}
+use Rattle.rules.specs.Record.{Record, differences, recordAt}
+use Rattle.rules.specs.Block.{cut, part}
+use Rattle.rules.specs.Checks.{ninth}
+use Rattle.rules.specs.Functions.{Arena}
+use Rattle.rules.proofs.Operations.{op, length-operations, operations-turn}
+use Rattle.op_batch.proofs.Right.{Sound, sound, starts-length, flags-length, numbers-length, below-ninth}
+use Rattle.checks.specs.Batch.{Lies}
+
+-- what the walks know of a batch's record and of its operations, which begin at a place
+pub record Lying (r : Record) (cs vs : List ℕ) (from : ℕ) : Type 0 where
+  pub equal : length cs ≡ length vs
+  pub starts : length (r .starts) ≡ 9
+  pub flags : length (r .flags) ≡ 8
+  pub numbers : length (r .numbers) ≡ 8
+  pub sound : Sound 8 r
+  pub inside : from + ninth r ≤ length cs
+
+pub lying : (a : Arena) (b from : ℕ) → Lies a b from → Lying (recordAt (a .records) b) (a .codes) (a .values) from
+lying a b from x =
+    record {
+      equal = x .equal;
+      starts = starts-length (a .records) b;
+      flags = flags-length (a .records) b;
+      numbers = numbers-length (a .records) b;
+      sound = sound 8 (recordAt (a .records) b) (x .right);
+      inside = x .inside;
+    }
+
+-- ---- parts of the operations
+
+pub drop-operations : (i : ℕ) (cs vs : List ℕ) → drop i (operations cs vs) ≡ operations (drop i cs) (drop i vs)
+unfolding operations
+drop-operations zero cs vs = refl
+drop-operations (suc i) [] vs = refl
+drop-operations (suc i) (c ∷ cs) [] = sym (empty (drop i cs))
+  where
+    empty : (ds : List ℕ) → operations ds [] ≡ []
+    empty [] = refl
+    empty (d ∷ ds) = refl
+drop-operations (suc i) (c ∷ cs) (v ∷ vs) = drop-operations i cs vs
+
+pub part-turn : (n i : ℕ) (cs vs : List ℕ) → i < length cs → length cs ≡ length vs
+    → part (suc n) (operations cs vs) i ≡ op (getD cs i 0) (getD vs i 0) ∷ part n (operations cs vs) (i + 1)
+part-turn n i cs vs h e = rw (drop-operations i cs vs, drop-operations (i + 1) cs vs, operations-turn cs vs i h (omega arith))
+
+-- ---- the groups from the g-th on, and those of them under the count
+
+unfoldable pub groupsFrom : Record → List Op → ℕ → ℕ → List (List Op)
+groupsFrom r xs from g = cut (differences (drop g (r .starts))) xs (from + getD (r .starts) g 0)
+
+abbrev pub group : Record → List Op → ℕ → ℕ → List Op
+group r xs from g = part (getD (r .starts) (g + 1) 0 - getD (r .starts) g 0) xs (from + getD (r .starts) g 0)
+
+abbrev pub under : Record → List Op → ℕ → ℕ → List (List Op)
+under r xs from g = take (r .count - g) (groupsFrom r xs from g)
+
+module _ (r : Record) (cs vs : List ℕ) (from : ℕ) (x : Lying r cs vs from) where
+  groups-turn : (g : ℕ) → g < 8 → groupsFrom r (operations cs vs) from g ≡ group r (operations cs vs) from g ∷ groupsFrom r (operations cs vs) from (g + 1)
+  unfolding groupsFrom differences cut
+  groups-turn g h =
+      let s = r .starts in
+      let up = x .sound .rises g (omega (arith, x .starts)) in
+      let e : from + getD s g 0 + (getD s (g + 1) 0 - getD s g 0) ≡ from + getD s (g + 1) 0 = rw (add-one g) (omega (arith, up)) in
+      rw (drop-cons s g 0 (omega (arith, x .starts)), sym (add-one g), drop-cons s (g + 1) 0 (omega (arith, x .starts)), e)
+
+  pub under-start : under r (operations cs vs) from 0 ≡ take (r .count) (cut (differences (r .starts)) (operations cs vs) from)
+  unfolding groupsFrom
+  under-start = rw (sub-zero, x .sound .first, add-zero from)
+
+  pub under-turn : (g : ℕ) → g < r .count → under r (operations cs vs) from g ≡ group r (operations cs vs) from g ∷ under r (operations cs vs) from (g + 1)
+  under-turn g h =
+      let e : r .count - g ≡ suc (r .count - (g + 1)) = omega arith in
+      rw (e, groups-turn g (omega (arith, x .sound .count)))
+
+  -- where the g-th group lies
+  pub in-order : (g : ℕ) → g < 8 → getD (r .starts) g 0 ≤ getD (r .starts) (g + 1) 0
+  in-order g h = rw (add-one g) (x .sound .rises g (omega (arith, x .starts)) .0)
+
+  pub at-most-9 : (g : ℕ) → g < 8 → getD (r .starts) (g + 1) 0 ≤ getD (r .starts) g 0 + 9
+  at-most-9 g h = rw (add-one g) (x .sound .rises g (omega (arith, x .starts)) .1)
+
+  pub within-codes : (g : ℕ) → g < 9 → from + getD (r .starts) g 0 ≤ length cs
+  within-codes g h = omega (arith, below-ninth 8 r (x .sound) (x .starts) g h, x .inside)
+
+pub under-none : (r : Record) (xs : List Op) (from g : ℕ) → r .count ≤ g → under r xs from g ≡ []
+under-none r xs from g h = let e : r .count - g ≡ 0 = omega arith in rw e
