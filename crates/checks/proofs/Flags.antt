@@ -17,14 +17,10 @@ use Rattle.rules.specs.Checks.{paddingFault}
 use Rattle.rules.specs.Functions.{Arena}
 use Rattle.rules.proofs.Digits.{split}
 use Rattle.rules.proofs.Operations.{op}
-use Rattle.checks.specs.Batch.{heldAt, Lies}
-use Rattle.checks.proofs.Groups.{Lying, lying, part-turn, group, under, under-start, under-turn, under-none, in-order, within-codes}
+use Rattle.checks.specs.Batch.{heldAt, Lies, under}
+use Rattle.checks.proofs.Groups.{Lying, lying, part-turn, span-none, group, under-start, under-turn, under-none, in-order, within-codes}
 
 -- ---- how a group ends
-
-ends-none : (n i : ℕ) (xs : List Op) → n ≡ 0 → endsInNoop (part n xs i) ≡ false
-unfolding endsInNoop
-ends-none n i xs h = rw h
 
 ends : (n i : ℕ) (cs vs : List ℕ) → i + suc n ≤ length cs → length cs ≡ length vs → endsInNoop (part (suc n) (operations cs vs) i) ≡ eqb (getD cs (i + n) 0) 0
 unfolding endsInNoop
@@ -68,20 +64,20 @@ module _ (r : Record) (cs vs : List ℕ) (from : ℕ) (x : Lying r cs vs from) (
 
     module _ (k : g < r .count) where
       pub empty : getD (r .starts) g 0 ≡ getD (r .starts) (g + 1) 0 → padLeft r (operations cs vs) from g ≡ false
-      empty e = step ∙ rw (ne-eqb (getD (r .flags) g 0) 0 f, lt-ltb g (r .count) k, ends-none (getD (r .starts) (g + 1) 0 - getD (r .starts) g 0) (from + getD (r .starts) g 0) (operations cs vs) (omega arith))
+      unfolding endsInNoop
+      empty e = step ∙ rw (ne-eqb (getD (r .flags) g 0) 0 f, lt-ltb g (r .count) k, span-none (from + getD (r .starts) g 0) (from + getD (r .starts) (g + 1) 0) (operations cs vs) (omega arith))
 
       module _ (n : getD (r .starts) g 0 ≡ getD (r .starts) (g + 1) 0 → ⊥) where
         last : endsInNoop (group r (operations cs vs) from g) ≡ eqb (getD cs (from + getD (r .starts) (g + 1) 0 - 1) 0) 0
         last =
-            let a = getD (r .starts) g 0 in
-            let b = getD (r .starts) (g + 1) 0 in
+            let i = from + getD (r .starts) g 0 in
+            let to = from + getD (r .starts) (g + 1) 0 in
             let o = in-order r cs vs from x g h in
-            let i = within-codes r cs vs from x (g + 1) (omega arith) in
-            let e : b - a ≡ suc (b - a - 1) = omega arith in
-            let d : from + a + (b - a - 1) ≡ from + b - 1 = omega arith in
-            ap (λ (k : ℕ). endsInNoop (part k (operations cs vs) (from + a))) e
-            ∙ ends (b - a - 1) (from + a) cs vs (omega arith) (x .equal)
-            ∙ ap (λ (k : ℕ). eqb (getD cs k 0) 0) d
+            let l = within-codes r cs vs from x (g + 1) (omega arith) in
+            let e : to - i ≡ suc (to - i - 1) = omega arith in
+            ap (λ (k : ℕ). endsInNoop (part k (operations cs vs) i)) e
+            ∙ ends (to - i - 1) i cs vs (omega arith) (x .equal)
+            ∙ ap (λ (k : ℕ). eqb (getD cs k 0) 0) (omega arith)
 
         pub other : (getD cs (from + getD (r .starts) (g + 1) 0 - 1) 0 ≡ 0 → ⊥) → padLeft r (operations cs vs) from g ≡ false
         other c = step ∙ rw (ne-eqb (getD (r .flags) g 0) 0 f, lt-ltb g (r .count) k, last, ne-eqb (getD cs (from + getD (r .starts) (g + 1) 0 - 1) 0) 0 c)

@@ -15,7 +15,7 @@ use Rattle.rules.specs.Checks.{ninth}
 use Rattle.rules.specs.Functions.{Arena}
 use Rattle.rules.proofs.Operations.{op, length-operations, operations-turn}
 use Rattle.op_batch.proofs.Right.{Sound, sound, starts-length, flags-length, numbers-length, below-ninth}
-use Rattle.checks.specs.Batch.{Lies}
+use Rattle.checks.specs.Batch.{Lies, groupsFrom, under, span}
 
 -- what the walks know of a batch's record and of its operations, which begin at a place
 pub record Lying (r : Record) (cs vs : List ℕ) (from : ℕ) : Type 0 where
@@ -54,16 +54,17 @@ pub part-turn : (n i : ℕ) (cs vs : List ℕ) → i < length cs → length cs �
     → part (suc n) (operations cs vs) i ≡ op (getD cs i 0) (getD vs i 0) ∷ part n (operations cs vs) (i + 1)
 part-turn n i cs vs h e = rw (drop-operations i cs vs, drop-operations (i + 1) cs vs, operations-turn cs vs i h (omega arith))
 
--- ---- the groups from the g-th on, and those of them under the count
+pub span-turn : (i to : ℕ) (cs vs : List ℕ) → i < to → to ≤ length cs → length cs ≡ length vs
+    → span (operations cs vs) i to ≡ op (getD cs i 0) (getD vs i 0) ∷ span (operations cs vs) (i + 1) to
+span-turn i to cs vs h k e = let n : to - i ≡ suc (to - (i + 1)) = omega arith in rw n (part-turn (to - (i + 1)) i cs vs (omega arith) e)
 
-unfoldable pub groupsFrom : Record → List Op → ℕ → ℕ → List (List Op)
-groupsFrom r xs from g = cut (differences (drop g (r .starts))) xs (from + getD (r .starts) g 0)
+pub span-none : (i to : ℕ) (xs : List Op) → to ≤ i → span xs i to ≡ []
+span-none i to xs h = let n : to - i ≡ 0 = omega arith in rw n
+
+-- ---- the groups from the g-th on
 
 abbrev pub group : Record → List Op → ℕ → ℕ → List Op
-group r xs from g = part (getD (r .starts) (g + 1) 0 - getD (r .starts) g 0) xs (from + getD (r .starts) g 0)
-
-abbrev pub under : Record → List Op → ℕ → ℕ → List (List Op)
-under r xs from g = take (r .count - g) (groupsFrom r xs from g)
+group r xs from g = span xs (from + getD (r .starts) g 0) (from + getD (r .starts) (g + 1) 0)
 
 module _ (r : Record) (cs vs : List ℕ) (from : ℕ) (x : Lying r cs vs from) where
   groups-turn : (g : ℕ) → g < 8 → groupsFrom r (operations cs vs) from g ≡ group r (operations cs vs) from g ∷ groupsFrom r (operations cs vs) from (g + 1)
@@ -72,7 +73,8 @@ module _ (r : Record) (cs vs : List ℕ) (from : ℕ) (x : Lying r cs vs from) w
       let s = r .starts in
       let up = x .sound .rises g (omega (arith, x .starts)) in
       let e : from + getD s g 0 + (getD s (g + 1) 0 - getD s g 0) ≡ from + getD s (g + 1) 0 = rw (add-one g) (omega (arith, up)) in
-      rw (drop-cons s g 0 (omega (arith, x .starts)), sym (add-one g), drop-cons s (g + 1) 0 (omega (arith, x .starts)), e)
+      let f : getD s (g + 1) 0 - getD s g 0 ≡ from + getD s (g + 1) 0 - (from + getD s g 0) = omega arith in
+      rw (drop-cons s g 0 (omega (arith, x .starts)), sym (add-one g), drop-cons s (g + 1) 0 (omega (arith, x .starts)), e, f)
 
   pub under-start : under r (operations cs vs) from 0 ≡ take (r .count) (cut (differences (r .starts)) (operations cs vs) from)
   unfolding groupsFrom

@@ -3,3 +3,4 @@ pub mod Passed
 pub mod Groups
 pub mod Flags
 pub mod Batches
+pub mod Numbers

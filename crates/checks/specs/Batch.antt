@@ -1,11 +1,12 @@
 -- One batch of an arena, as the checks walk them: cited by the contracts of private functions only.
 use mathlib.Core.Path.{_≡_}
 use mathlib.Core.Bool.{true}
-use Prim.Native.Nat.{ℕ, _+_, _*_, _≤_}
-use lib.ListN.{length}
-use Rattle.rules.specs.Operations.{operations}
-use Rattle.rules.specs.Record.{recordAt, differences}
-use Rattle.rules.specs.Block.{cut}
+use Prim.Native.Nat.{ℕ, _+_, _-_, _*_, _≤_, _<_}
+use mathlib.Core.List.{List}
+use lib.ListN.{length, getD, take, drop}
+use Rattle.rules.specs.Operations.{Op, operations}
+use Rattle.rules.specs.Record.{Record, recordAt, differences}
+use Rattle.rules.specs.Block.{cut, part}
 use Rattle.rules.specs.Checks.{Held, ninth, recordRight}
 use Rattle.rules.specs.Functions.{Arena}
 
@@ -23,3 +24,20 @@ pub record Lies (a : Arena) (b from : ℕ) : Type 0 where
   pub whole : 82 * b + 82 ≤ length (a .records)
   pub right : recordRight 8 (recordAt (a .records) b) ≡ true
   pub inside : from + ninth (recordAt (a .records) b) ≤ length (a .codes)
+
+-- a table of 128 kinds, and opcodes that have one
+pub record Apt (t cs : List ℕ) : Type 0 where
+  pub table : length t ≡ 128
+  pub codes : (i : ℕ) → i < length cs → getD cs i 0 < 128
+
+-- ---- the groups of a batch from the g-th on, and those of them under the count
+
+unfoldable pub groupsFrom : Record → List Op → ℕ → ℕ → List (List Op)
+groupsFrom r xs from g = cut (differences (drop g (r .starts))) xs (from + getD (r .starts) g 0)
+
+abbrev pub under : Record → List Op → ℕ → ℕ → List (List Op)
+under r xs from g = take (r .count - g) (groupsFrom r xs from g)
+
+-- the operations from one index up to another
+abbrev pub span : List Op → ℕ → ℕ → List Op
+span xs from to = part (to - from) xs from

@@ -1,12 +1,16 @@
 // The three checks of a block in a lent arena: structure, padding, commitment (document 01, "Checks").
 ghost use mathlib.Core.Path.{_≡_};
-ghost use Prim.Native.Nat.{_+_, _*_, _≤_};
-ghost use lib.ListN.{length};
+ghost use Prim.Native.Nat.{ℕ, _+_, _*_, _≤_, _<_};
+ghost use lib.ListN.{length, getD, drop};
+ghost use lib.Dec.{eqb};
 ghost use Rattle.rules.specs.Answer.{good, refuseFirst};
-ghost use Rattle.rules.specs.Checks.{structureFaults, paddingFault, paddingFaults};
+ghost use Rattle.rules.specs.Operations.{operations, kindOf};
+ghost use Rattle.rules.specs.Record.{recordAt, codesNumber};
+ghost use Rattle.rules.specs.Block.{immediates};
+ghost use Rattle.rules.specs.Checks.{structureFaults, paddingFault, paddingFaults, placingFault, begins};
 ghost use Rattle.rules.specs.Functions.{arena, blockIn, within, structureChecked, paddingChecked};
 ghost use Rattle.operation.specs.Verdict.{verdictOf};
-ghost use Rattle.checks.specs.Batch.{heldAt, Lies};
+ghost use Rattle.checks.specs.Batch.{heldAt, Lies, Apt, under, span};
 use op_batch::RECORD;
 use operation::Verdict;
 
@@ -125,4 +129,110 @@ pub fn padding(codes: &[u8], values: &[u64], records: &[u8]) -> Verdict
         return v;
     };
     padding_fault(codes, values, records)
+}
+
+// ---- commitment
+
+// Whether an opcode's value is placed in a group: kind 1.
+fn placed(table: &[u8], code: u8) -> bool
+    requires { ⌜ (length (now table) ≡ 128) × (code < 128) ⌝ }
+    ensures { λ r. ⌜ r ≡ eqb (kindOf (now (table .entry)) code) 1 ⌝ }
+{
+    table[code as usize] == 1
+}
+
+// The group number of the operations from one index up to another, at most nine; the last opcode counts most.
+fn codes_number(codes: &[u8], values: &[u64], from: usize, to: usize) -> u64
+    requires { ⌜ (length (now codes) ≡ length (now values)) × (to ≤ length (now codes)) × (from ≤ to) × (to ≤ from + 9) ⌝ }
+    requires { ⌜ ((i : ℕ) → i < length (now codes) → getD (now codes) i 0 < 128) ⌝ }
+    ensures { λ r. ⌜ r ≡ codesNumber (span (operations (now (codes .entry)) (now (values .entry))) from to) ⌝ }
+{
+    let mut sum: u64 = 0;
+    let mut i = to;
+    while from < i {
+        i -= 1;
+        sum = word::wide(codes[i]) + 128 * sum;
+    }
+    sum
+}
+
+// How many of the operations from one index up to another have an immediate.
+fn count_immediates(table: &[u8], codes: &[u8], values: &[u64], from: usize, to: usize) -> usize
+    requires { ⌜ (length (now codes) ≡ length (now values)) × (to ≤ length (now codes)) × Apt (now table) (now codes) ⌝ }
+    ensures { λ r. ⌜ r ≡ length (immediates (now (table .entry)) (span (operations (now (codes .entry)) (now (values .entry))) from to)) ⌝ }
+{
+    let mut n: usize = 0;
+    let mut i = from;
+    while i < to {
+        if !placed(table, codes[i]) {
+            i += 1;
+            continue;
+        }
+        n += 1;
+        i += 1;
+    }
+    n
+}
+
+// 8 or 9 where n immediates find no empty groups under the count from the g-th on; else 0.
+fn placing_fault(
+    codes: &[u8],
+    values: &[u64],
+    records: &[u8],
+    b: usize,
+    from: usize,
+    g: usize,
+    n: usize,
+) -> u8
+    requires { ⌜ Lies (arena (now codes) (now values) (now records)) b from × (g ≤ 8) ⌝ }
+    ensures { λ r. ⌜ r ≡ placingFault n (under (recordAt (now (records .entry)) b) (operations (now (codes .entry)) (now (values .entry))) from g) ⌝ }
+{
+    let count = op_batch::count(records, b);
+    let mut left = n;
+    let mut j = g;
+    while 0 < left {
+        if count <= j {
+            return 8;
+        }
+        if op_batch::start(records, b, j) != op_batch::start(records, b, j + 1) {
+            return 9;
+        }
+        left -= 1;
+        j += 1;
+    }
+    0
+}
+
+// Whether the numbers of the groups from the g-th on begin with the immediates of the operations from one index up to another.
+fn values_right(
+    table: &[u8],
+    codes: &[u8],
+    values: &[u64],
+    records: &[u8],
+    b: usize,
+    g: usize,
+    from: usize,
+    to: usize,
+) -> bool
+    requires { ⌜ (length (now codes) ≡ length (now values)) × (to ≤ length (now codes)) × Apt (now table) (now codes) ⌝ }
+    requires { ⌜ (82 * b + 82 ≤ length (now records)) × (g ≤ 8) ⌝ }
+    ensures { λ r. ⌜ r ≡ begins (drop g (recordAt (now (records .entry)) b .numbers)) (immediates (now (table .entry)) (span (operations (now (codes .entry)) (now (values .entry))) from to)) ⌝ }
+{
+    let mut j = g;
+    let mut i = from;
+    while i < to {
+        if !placed(table, codes[i]) {
+            i += 1;
+            continue;
+        }
+        if 8 <= j {
+            return false;
+        }
+        if op_batch::number(records, b, j) != values[i] {
+            return false;
+        }
+        j += 1;
+        i += 1;
+    }
+    true
 }
