@@ -1,19 +1,18 @@
 -- The groups of one batch, one after the other. Assumes nothing.
-use mathlib.Core.Path.{_≡_, refl, sym, ap, ap₂, _∙_}
-use mathlib.Core.Bool.{Bool, true, false, cond, _&&_}
+use mathlib.Core.Path.{_≡_, refl, sym}
 use mathlib.Core.List.{List, [], _∷_}
 use Prim.Native.Nat.{ℕ, zero, suc, _+_, _-_, _≤_, _<_}
 use native.Mathlib.Nat.{add-zero, sub-zero}
 use native.Mathlib.Numerals.{add-one}
 use native.Mathlib.Omega.{arith}
-use lib.ListN.{length, getD, take, drop, drop-of-length-le}
-use lib.Seq.{drop-cons, drop-nil, drop-drop, take-nil}
+use lib.ListN.{length, getD, take, drop}
+use lib.Seq.{drop-cons}
 use Rattle.rules.specs.Operations.{Op, operations}
 use Rattle.rules.specs.Record.{Record, differences, recordAt}
 use Rattle.rules.specs.Block.{cut, part}
 use Rattle.rules.specs.Checks.{ninth}
 use Rattle.rules.specs.Functions.{Arena}
-use Rattle.rules.proofs.Operations.{op, length-operations, operations-turn}
+use Rattle.rules.proofs.Operations.{op, operations-turn}
 use Rattle.op_batch.proofs.Right.{Sound, sound, starts-length, flags-length, numbers-length, below-ninth}
 use Rattle.checks.specs.Batch.{Lies, groupsFrom, under, span}
 

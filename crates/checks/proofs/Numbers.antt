@@ -1,9 +1,9 @@
 -- The commitment test of one batch: numbers and immediates of a group, slots, group by group. Assumes nothing.
-use mathlib.Core.Path.{_≡_, refl, sym, ap, ap₂, _∙_}
-use mathlib.Core.Bool.{Bool, true, false, cond, _&&_}
+use mathlib.Core.Path.{_≡_, refl, sym, ap, _∙_}
+use mathlib.Core.Bool.{Bool, true, false, cond}
 use mathlib.Core.List.{List, [], _∷_}
 use Prim.Native.Nat.{ℕ, zero, suc, _+_, _-_, _*_, _^_, _≤_, _<_}
-use native.Mathlib.Nat.{add-zero, pow-zero, pow-suc, pow-le-pow-right}
+use native.Mathlib.Nat.{pow-zero, pow-suc, pow-le-pow-right}
 use native.Mathlib.Numerals.{add-one}
 use native.Mathlib.Omega.{arith}
 use borrow.Author.Tests.{eq-eqb, ne-eqb}
@@ -12,12 +12,12 @@ use lib.Seq.{drop-cons}
 use lib.Dec.{eqb}
 use Rattle.rules.specs.Digits.{number}
 use Rattle.rules.specs.Operations.{Op, operations, codes, kindOf, hasImmediate}
-use Rattle.rules.specs.Record.{Record, codesNumber}
-use Rattle.rules.specs.Block.{part, immediates}
+use Rattle.rules.specs.Record.{Record, differences, codesNumber}
+use Rattle.rules.specs.Block.{cut, part, immediates}
 use Rattle.rules.specs.Checks.{placingFault, begins, orElse, groupsFault, emptyZero}
 use Rattle.rules.proofs.Operations.{op}
 use Rattle.checks.specs.Batch.{under, span}
-use Rattle.checks.proofs.Groups.{Lying, part-turn, span-turn, span-none, group, under-turn, under-none, in-order, within-codes}
+use Rattle.checks.proofs.Groups.{Lying, part-turn, span-turn, span-none, group, under-start, under-turn, under-none, in-order, within-codes}
 
 -- ---- the operations of a group, one after the other
 
@@ -101,3 +101,107 @@ module _ (ns : List ℕ) (j v : ℕ) (vs : List ℕ) where
 pub all-agree : (ns : List ℕ) → begins ns [] ≡ true
 unfolding begins
 all-agree ns = refl
+
+-- ---- group by group
+
+pub first-fault : (p n : ℕ) → (p ≡ 0 → ⊥) → orElse p n ≡ p
+first-fault zero n q = absurd (q refl)
+first-fault (suc p) n q = refl
+
+-- what is found from the g-th group on
+unfoldable pub groupsLeft : List ℕ → Record → List Op → ℕ → ℕ → ℕ
+groupsLeft t r xs from g = groupsFault t (under r xs from g) (drop g (r .numbers))
+
+-- the same of empty groups, where the next k of them hold immediates
+unfoldable pub emptyLeft : List ℕ → Record → List Op → ℕ → ℕ → ℕ → Bool
+emptyLeft t r xs from k g = emptyZero t k (under r xs from g) (drop g (r .numbers))
+
+module _ (t : List ℕ) (r : Record) (cs vs : List ℕ) (from : ℕ) (x : Lying r cs vs from) (g : ℕ) where
+  pub groups-done : r .count ≤ g → groupsLeft t r (operations cs vs) from g ≡ 0
+  unfolding groupsLeft groupsFault
+  groups-done h = rw (under-none r (operations cs vs) from g h)
+
+  pub empty-done : (k : ℕ) → r .count ≤ g → emptyLeft t r (operations cs vs) from k g ≡ true
+  unfolding emptyLeft emptyZero
+  empty-done k h = rw (under-none r (operations cs vs) from g h)
+
+  -- a group under the count, from one operation up to another
+  module _ (h : g < r .count) (i to : ℕ) (a : i ≡ from + getD (r .starts) g 0) (z : to ≡ from + getD (r .starts) (g + 1) 0) where
+    ahead : under r (operations cs vs) from g ≡ span (operations cs vs) i to ∷ under r (operations cs vs) from (g + 1)
+    ahead = rw (a, z) (under-turn r cs vs from x g h)
+
+    number-ahead : drop g (r .numbers) ≡ getD (r .numbers) g 0 ∷ drop (g + 1) (r .numbers)
+    number-ahead = rw (add-one g) (drop-cons (r .numbers) g 0 (omega (arith, x .numbers, x .sound .count)))
+
+    module _ (e : i ≡ to) where
+      none : span (operations cs vs) i to ≡ []
+      none = span-none i to (operations cs vs) (omega arith)
+
+      pub group-skip : groupsLeft t r (operations cs vs) from (g + 1) ≡ groupsLeft t r (operations cs vs) from g
+      unfolding groupsLeft groupsFault
+      group-skip = rw (ahead, number-ahead, none)
+
+      pub empty-held : (k : ℕ) → 0 < k → emptyLeft t r (operations cs vs) from (k - 1) (g + 1) ≡ emptyLeft t r (operations cs vs) from k g
+      unfolding emptyLeft emptyZero
+      empty-held k p =
+          let d : k ≡ suc (k - 1) = omega arith in
+          sym (ap (λ (m : ℕ). emptyLeft t r (operations cs vs) from m g) d ∙ rw (ahead, number-ahead, none))
+
+      pub empty-right : (k : ℕ) → k ≡ 0 → getD (r .numbers) g 0 ≡ 0 → emptyLeft t r (operations cs vs) from k (g + 1) ≡ emptyLeft t r (operations cs vs) from k g
+      unfolding emptyLeft emptyZero
+      empty-right k d n = rw (d, ahead, number-ahead, none, eq-eqb (getD (r .numbers) g 0) 0 n)
+
+      pub empty-wrong : (k : ℕ) → k ≡ 0 → (getD (r .numbers) g 0 ≡ 0 → ⊥) → emptyLeft t r (operations cs vs) from k g ≡ false
+      unfolding emptyLeft emptyZero
+      empty-wrong k d n = rw (d, ahead, number-ahead, none, ne-eqb (getD (r .numbers) g 0) 0 n)
+
+    module _ (f : i ≡ to → ⊥) where
+      abbrev more : List Op
+      more = span (operations cs vs) (i + 1) to
+
+      some : span (operations cs vs) i to ≡ op (getD cs i 0) (getD vs i 0) ∷ more
+      some =
+          let j : g < 8 = omega (arith, x .sound .count) in
+          span-turn i to cs vs (omega (arith, in-order r cs vs from x g j)) (omega (arith, within-codes r cs vs from x (g + 1) (omega arith))) (x .equal)
+
+      pub empty-skip : (k m : ℕ) → m ≡ length (immediates t (span (operations cs vs) i to)) → emptyLeft t r (operations cs vs) from m (g + 1) ≡ emptyLeft t r (operations cs vs) from k g
+      unfolding emptyLeft emptyZero
+      empty-skip k m e = rw (e, ahead, number-ahead, some)
+
+      full : groupsLeft t r (operations cs vs) from g
+          ≡ orElse (cond (eqb (getD (r .numbers) g 0) (codesNumber (span (operations cs vs) i to))) 0 16)
+          (orElse (placingFault (length (immediates t (span (operations cs vs) i to))) (under r (operations cs vs) from (g + 1)))
+          (orElse (cond (begins (drop (g + 1) (r .numbers)) (immediates t (span (operations cs vs) i to))) 0 16)
+          (groupsLeft t r (operations cs vs) from (g + 1))))
+      unfolding groupsLeft groupsFault
+      full = rw (ahead, number-ahead, some)
+
+      pub group-wrong : (getD (r .numbers) g 0 ≡ codesNumber (span (operations cs vs) i to) → ⊥) → groupsLeft t r (operations cs vs) from g ≡ 16
+      group-wrong n = full ∙ rw (ne-eqb (getD (r .numbers) g 0) (codesNumber (span (operations cs vs) i to)) n)
+
+      module _ (n : getD (r .numbers) g 0 ≡ codesNumber (span (operations cs vs) i to)) (m : ℕ) (d : m ≡ length (immediates t (span (operations cs vs) i to))) where
+        counted : groupsLeft t r (operations cs vs) from g
+            ≡ orElse (placingFault m (under r (operations cs vs) from (g + 1)))
+            (orElse (cond (begins (drop (g + 1) (r .numbers)) (immediates t (span (operations cs vs) i to))) 0 16)
+            (groupsLeft t r (operations cs vs) from (g + 1)))
+        counted = full ∙ rw (eq-eqb (getD (r .numbers) g 0) (codesNumber (span (operations cs vs) i to)) n, d)
+
+        pub group-unplaced : (p : ℕ) → p ≡ placingFault m (under r (operations cs vs) from (g + 1)) → (p ≡ 0 → ⊥) → groupsLeft t r (operations cs vs) from g ≡ p
+        group-unplaced p e q = counted ∙ rw (sym e) (first-fault p _ q)
+
+        module _ (e : placingFault m (under r (operations cs vs) from (g + 1)) ≡ 0) where
+          pub group-unequal : begins (drop (g + 1) (r .numbers)) (immediates t (span (operations cs vs) i to)) ≡ false → groupsLeft t r (operations cs vs) from g ≡ 16
+          group-unequal b = counted ∙ rw (e, b)
+
+          pub group-right : begins (drop (g + 1) (r .numbers)) (immediates t (span (operations cs vs) i to)) ≡ true → groupsLeft t r (operations cs vs) from (g + 1) ≡ groupsLeft t r (operations cs vs) from g
+          group-right b = sym (counted ∙ rw (e, b))
+
+-- where the walks begin
+module _ (t : List ℕ) (r : Record) (cs vs : List ℕ) (from : ℕ) (x : Lying r cs vs from) where
+  pub groups-begin : groupsLeft t r (operations cs vs) from 0 ≡ groupsFault t (take (r .count) (cut (differences (r .starts)) (operations cs vs) from)) (r .numbers)
+  unfolding groupsLeft
+  groups-begin = rw (under-start r cs vs from x)
+
+  pub empty-begin : emptyLeft t r (operations cs vs) from 0 0 ≡ emptyZero t 0 (take (r .count) (cut (differences (r .starts)) (operations cs vs) from)) (r .numbers)
+  unfolding emptyLeft
+  empty-begin = rw (under-start r cs vs from x)

@@ -6,15 +6,17 @@ use Prim.Native.Nat.{ℕ, zero, suc, _+_, _/_, _<_}
 use native.Mathlib.Nat.{add-zero, zero-add}
 use native.Mathlib.Omega.{arith}
 use borrow.Author.Tests.{eqb-true, not-false}
-use lib.ListN.{length}
+use lib.ListN.{length, getD}
 use lib.Dec.{eqb}
 use Rattle.rules.specs.Lists.{total}
 use Rattle.rules.specs.Answer.{Answer, good, refused, refuse, refuseFirst}
-use Rattle.rules.specs.Operations.{operations}
+use Rattle.rules.specs.Operations.{operations, goodTable, opFault}
 use Rattle.rules.specs.Record.{Record, recordAt, recordsFrom, recordsIn}
-use Rattle.rules.specs.Checks.{ninth, recordRight, structureFaults}
-use Rattle.rules.specs.Functions.{Arena, arena, blockIn, within, structureChecked}
-use Rattle.rules.proofs.Answer.{clash, passed}
+use Rattle.rules.specs.Checks.{ninth, recordRight, structureFaults, commitmentFaults}
+use Rattle.rules.specs.Functions.{Arena, arena, blockIn, within, structureChecked, commitmentChecked}
+use Rattle.rules.proofs.Answer.{clash, passed, no-fault}
+use Rattle.rules.proofs.Operations.{op, admitted, table-128}
+use Rattle.checks.specs.Batch.{Apt}
 use Rattle.operation.specs.declared.Verdict.the-variants.{Passed, Refused}
 use Rattle.operation.specs.Verdict.{verdictOf}
 
@@ -105,3 +107,35 @@ checked cs vs rs h =
     let a = arena cs vs rs in
     let p = passed (not (within a)) 3 0 (refuseFirst 0 (structureFaults 8 (blockIn a)) (good tt)) tt h in
     (not-false (within a) (p .0), structured cs vs rs (good tt) tt (p .1) .0)
+
+-- ---- admissible operations have opcodes that a good table knows
+
+small : (t cs vs : List ℕ) → length cs ≡ length vs → ((k : ℕ) → k < length (map (opFault t) (operations cs vs)) → getD (map (opFault t) (operations cs vs)) k 0 ≡ 0)
+    → (k : ℕ) → k < length cs → getD cs k 0 < 128
+unfolding operations
+small t [] vs e f k h = absurd (omega arith)
+small t (c ∷ cs) [] e f k h = absurd (omega arith)
+small t (c ∷ cs) (v ∷ vs) e f zero h = admitted t (op c v) (f 0 (omega arith)) .code
+small t (c ∷ cs) (v ∷ vs) e f (suc k) h = small t cs vs (omega arith) (λ j l. f (suc j) (omega arith)) k (omega arith)
+
+pub apt : (t cs vs : List ℕ) → goodTable t ≡ true → length cs ≡ length vs → _≡_ {A = Answer Unit} (refuseFirst 0 (map (opFault t) (operations cs vs)) (good tt)) (good tt) → Apt t cs
+apt t cs vs g e h = record { table = table-128 t g; codes = small t cs vs e (no-fault 0 (map (opFault t) (operations cs vs)) (good tt) tt h .0) }
+
+-- ---- the stages of the commitment check, past its two guards
+
+abbrev pub structureStage : Arena → Answer Unit
+structureStage a = refuseFirst 0 (structureFaults 8 (blockIn a)) (good tt)
+
+abbrev pub admissibleStage : List ℕ → Arena → Answer Unit
+admissibleStage t a = refuseFirst 0 (map (opFault t) (operations (a .codes) (a .values))) (good tt)
+
+abbrev pub commitmentStage : List ℕ → Arena → Answer Unit
+commitmentStage t a = refuseFirst 0 (commitmentFaults t (blockIn a)) (good tt)
+
+pub stages : (t : List ℕ) (a : Arena) → within a ≡ true → goodTable t ≡ true
+    → commitmentChecked 8 t a ≡ andThen (structureStage a) (andThen (admissibleStage t a) (commitmentStage t a))
+unfolding commitmentChecked blockIn
+stages t a h g =
+    rw (h, g)
+    (ap (refuseFirst 0 (structureFaults 8 (blockIn a))) (first-then 0 (map (opFault t) (operations (a .codes) (a .values))) (good tt) (commitmentStage t a))
+    ∙ first-then 0 (structureFaults 8 (blockIn a)) (good tt) (andThen (admissibleStage t a) (commitmentStage t a)))

@@ -7,8 +7,8 @@ ghost use Rattle.rules.specs.Answer.{good, refuseFirst};
 ghost use Rattle.rules.specs.Operations.{operations, kindOf};
 ghost use Rattle.rules.specs.Record.{recordAt, codesNumber};
 ghost use Rattle.rules.specs.Block.{immediates};
-ghost use Rattle.rules.specs.Checks.{structureFaults, paddingFault, paddingFaults, placingFault, begins};
-ghost use Rattle.rules.specs.Functions.{arena, blockIn, within, structureChecked, paddingChecked};
+ghost use Rattle.rules.specs.Checks.{structureFaults, paddingFault, paddingFaults, underCount, placingFault, begins, groupsFault, emptyZero, commitmentFault, commitmentFaults};
+ghost use Rattle.rules.specs.Functions.{arena, blockIn, within, structureChecked, paddingChecked, commitmentChecked};
 ghost use Rattle.operation.specs.Verdict.{verdictOf};
 ghost use Rattle.checks.specs.Batch.{heldAt, Lies, Apt, under, span};
 use op_batch::RECORD;
@@ -235,4 +235,144 @@ fn values_right(
         i += 1;
     }
     true
+}
+
+// One batch, group by group: number right, immediates placed, their values right.
+fn groups_fault(
+    table: &[u8],
+    codes: &[u8],
+    values: &[u64],
+    records: &[u8],
+    b: usize,
+    from: usize,
+) -> u8
+    requires { ⌜ Lies (arena (now codes) (now values) (now records)) b from × Apt (now table) (now codes) ⌝ }
+    ensures { λ r. ⌜ r ≡ groupsFault (now (table .entry)) (underCount (heldAt (arena (now (codes .entry)) (now (values .entry)) (now (records .entry))) b from)) (recordAt (now (records .entry)) b .numbers) ⌝ }
+{
+    let count = op_batch::count(records, b);
+    let mut g: usize = 0;
+    while g < count {
+        let start = from + op_batch::start(records, b, g);
+        let end = from + op_batch::start(records, b, g + 1);
+        if start == end {
+            g += 1;
+            continue;
+        }
+        if op_batch::number(records, b, g) != codes_number(codes, values, start, end) {
+            return 16;
+        }
+        let n = count_immediates(table, codes, values, start, end);
+        let number = placing_fault(codes, values, records, b, from, g + 1, n);
+        if number != 0 {
+            return number;
+        }
+        if !values_right(table, codes, values, records, b, g + 1, start, end) {
+            return 16;
+        }
+        g += 1;
+    }
+    0
+}
+
+// One batch: every empty group under the count that holds no immediate is 0.
+fn empty_zero(
+    table: &[u8],
+    codes: &[u8],
+    values: &[u64],
+    records: &[u8],
+    b: usize,
+    from: usize,
+) -> bool
+    requires { ⌜ Lies (arena (now codes) (now values) (now records)) b from × Apt (now table) (now codes) ⌝ }
+    ensures { λ r. ⌜ r ≡ emptyZero (now (table .entry)) 0 (underCount (heldAt (arena (now (codes .entry)) (now (values .entry)) (now (records .entry))) b from)) (recordAt (now (records .entry)) b .numbers) ⌝ }
+{
+    let count = op_batch::count(records, b);
+    let mut held: usize = 0;
+    let mut g: usize = 0;
+    while g < count {
+        let start = from + op_batch::start(records, b, g);
+        let end = from + op_batch::start(records, b, g + 1);
+        if start != end {
+            held = count_immediates(table, codes, values, start, end);
+            g += 1;
+            continue;
+        }
+        if 0 < held {
+            held -= 1;
+            g += 1;
+            continue;
+        }
+        if op_batch::number(records, b, g) != 0 {
+            return false;
+        }
+        g += 1;
+    }
+    true
+}
+
+fn batch_commitment(
+    table: &[u8],
+    codes: &[u8],
+    values: &[u64],
+    records: &[u8],
+    b: usize,
+    from: usize,
+) -> u8
+    requires { ⌜ Lies (arena (now codes) (now values) (now records)) b from × Apt (now table) (now codes) ⌝ }
+    ensures { λ r. ⌜ r ≡ commitmentFault (now (table .entry)) (heldAt (arena (now (codes .entry)) (now (values .entry)) (now (records .entry))) b from) ⌝ }
+{
+    let number = groups_fault(table, codes, values, records, b, from);
+    if number != 0 {
+        return number;
+    }
+    if empty_zero(table, codes, values, records, b, from) {
+        return 0;
+    }
+    16
+}
+
+// The first batch with a fault, for callers whose arena passed the structure check and has only assigned opcodes.
+pub fn commitment_fault(table: &[u8], codes: &[u8], values: &[u64], records: &[u8]) -> Verdict
+    requires { ⌜ (structureChecked 8 (arena (now codes) (now values) (now records)) ≡ good tt) × Apt (now table) (now codes) ⌝ }
+    ensures { λ r. ⌜ r ≡ verdictOf (refuseFirst 0 (commitmentFaults (now (table .entry)) (blockIn (arena (now (codes .entry)) (now (values .entry)) (now (records .entry))))) (good tt)) ⌝ }
+{
+    let n = records.len() / RECORD;
+    let mut from: usize = 0;
+    let mut b: usize = 0;
+    while b < n {
+        let number = batch_commitment(table, codes, values, records, b, from);
+        if number != 0 {
+            return Verdict::Refused { number, place: b };
+        }
+        from += op_batch::start(records, b, 8);
+        b += 1;
+    }
+    Verdict::Passed
+}
+
+// Commitment: refusals 3, 14, 15, 4, then batch by batch 16, 8 or 9.
+pub fn commitment(table: &[u8], codes: &[u8], values: &[u64], records: &[u8]) -> Verdict
+    ensures { λ r. ⌜ r ≡ verdictOf (commitmentChecked 8 (now (table .entry)) (arena (now (codes .entry)) (now (values .entry)) (now (records .entry)))) ⌝ }
+{
+    if !within(codes, values, records) {
+        return Verdict::Refused {
+            number: 3,
+            place: 0,
+        };
+    }
+    if !operation::good_table(table) {
+        return Verdict::Refused {
+            number: 14,
+            place: 0,
+        };
+    }
+    let structure = structure_fault(codes, values, records);
+    let Verdict::Passed = structure else {
+        return structure;
+    };
+    let admissible = operation::first_fault(table, codes, values);
+    let Verdict::Passed = admissible else {
+        return admissible;
+    };
+    commitment_fault(table, codes, values, records)
 }

@@ -1,16 +1,15 @@
 -- What a record that passes the structure test has, and where its parts lie in a run. Assumes nothing.
-use mathlib.Core.Path.{_≡_, sym, ap, _∙_}
+use mathlib.Core.Path.{_≡_}
 use mathlib.Core.Bool.{Bool, true, _&&_}
 use mathlib.Core.List.{List, [], _∷_}
 use Prim.Native.Nat.{ℕ, zero, suc, _+_, _-_, _*_, _≤_, _<_}
-use native.Mathlib.Nat.{add-zero}
 use native.Mathlib.Omega.{arith}
 use borrow.Author.Tests.{leb-true, eqb-true}
 use lib.ListN.{length, getD}
 use lib.Dec.{leb, eqb}
 use Rattle.rules.specs.Lists.{every}
 use Rattle.rules.specs.Digits.{leAt}
-use Rattle.rules.specs.Record.{Record, bytesAt, recordAt}
+use Rattle.rules.specs.Record.{Record, recordAt}
 use Rattle.rules.specs.Checks.{ninth, startsRight, recordRight}
 use Rattle.rules.proofs.Operations.{true-left, true-right}
 use Rattle.op_batch.proofs.Bytes.{bytes-length, words-length, byte, word}
