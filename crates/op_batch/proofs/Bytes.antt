@@ -1,12 +1,13 @@
 -- Laws of bytes and words read from a run: one element, and the walk along them. Assumes nothing.
-use mathlib.Core.Path.{_≡_, refl, ap, ap₂, _∙_}
+use mathlib.Core.Path.{_≡_, refl, sym, ap, ap₂, _∙_}
 use mathlib.Core.Bool.{Bool, true, false}
 use mathlib.Core.List.{List, _∷_}
 use Prim.Native.Nat.{ℕ, zero, suc, _+_, _-_, _*_, _≤_, _<_}
-use native.Mathlib.Nat.{add-zero}
+use native.Mathlib.Nat.{add-zero, zero-add}
 use native.Mathlib.Omega.{arith}
 use borrow.Author.Tests.{le-leb, lt-leb}
 use lib.ListN.{length, getD}
+use lib.Seq.{ext-getD}
 use lib.Dec.{leb, eqb}
 use Rattle.rules.specs.Lists.{every}
 use Rattle.rules.specs.Digits.{leAt}
@@ -30,6 +31,10 @@ unfolding bytesAt
 byte zero s at i h = absurd (omega arith)
 byte (suc k) s at zero h = rw (add-zero at)
 byte (suc k) s at (suc i) h = byte k s (at + 1) i (omega arith) ∙ ap (λ (n : ℕ). getD s n 0) (omega arith)
+
+-- a whole list read byte by byte
+pub bytes-all : (s : List ℕ) (n : ℕ) → length s ≡ n → bytesAt n s 0 ≡ s
+bytes-all s n h = ext-getD 0 (bytesAt n s 0) s (bytes-length n s 0 ∙ sym h) (λ i l. byte n s 0 i (rw (bytes-length n s 0) at l) ∙ ap (λ (k : ℕ). getD s k 0) (zero-add i))
 
 -- the i-th word
 pub word : (k : ℕ) (s : List ℕ) (at i : ℕ) → i < k → getD (wordsAt k s at) i 0 ≡ leAt 8 s (at + 8 * i)
