@@ -13,7 +13,7 @@ use Rattle.rules.specs.Block.{cut, part}
 use Rattle.rules.specs.Checks.{ninth}
 use Rattle.rules.specs.Functions.{Arena}
 use Rattle.rules.proofs.Operations.{op, operations-turn}
-use Rattle.op_batch.proofs.Right.{Sound, sound, starts-length, flags-length, numbers-length, below-ninth}
+use Rattle.op_batch.proofs.Right.{Sound, sound, starts-length, flags-length, numbers-length, rise, below-ninth}
 use Rattle.checks.specs.Batch.{Lies, groupsFrom, under, span}
 
 -- what the walks know of a batch's record and of its operations, which begin at a place
@@ -86,10 +86,10 @@ module _ (r : Record) (cs vs : List ℕ) (from : ℕ) (x : Lying r cs vs from) w
 
   -- where the g-th group lies
   pub in-order : (g : ℕ) → g < 8 → getD (r .starts) g 0 ≤ getD (r .starts) (g + 1) 0
-  in-order g h = rw (add-one g) (x .sound .rises g (omega (arith, x .starts)) .0)
+  in-order g h = rise 8 r (x .sound) (x .starts) g h .0
 
   pub at-most-9 : (g : ℕ) → g < 8 → getD (r .starts) (g + 1) 0 ≤ getD (r .starts) g 0 + 9
-  at-most-9 g h = rw (add-one g) (x .sound .rises g (omega (arith, x .starts)) .1)
+  at-most-9 g h = rise 8 r (x .sound) (x .starts) g h .1
 
   pub within-codes : (g : ℕ) → g < 9 → from + getD (r .starts) g 0 ≤ length cs
   within-codes g h = omega (arith, below-ninth 8 r (x .sound) (x .starts) g h, x .inside)

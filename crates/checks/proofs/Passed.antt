@@ -12,8 +12,8 @@ use Rattle.rules.specs.Lists.{total}
 use Rattle.rules.specs.Answer.{Answer, good, refused, refuse, refuseFirst}
 use Rattle.rules.specs.Operations.{operations, goodTable, opFault}
 use Rattle.rules.specs.Record.{Record, recordAt, recordsFrom, recordsIn}
-use Rattle.rules.specs.Checks.{ninth, recordRight, structureFaults, commitmentFaults}
-use Rattle.rules.specs.Functions.{Arena, arena, blockIn, within, structureChecked, commitmentChecked}
+use Rattle.rules.specs.Checks.{ninth, recordRight, structureFaults, paddingFaults, commitmentFaults}
+use Rattle.rules.specs.Functions.{Arena, arena, blockIn, within, structureChecked, paddingChecked, commitmentChecked}
 use Rattle.rules.proofs.Answer.{clash, passed, no-fault}
 use Rattle.rules.proofs.Operations.{op, admitted, table-128}
 use Rattle.checks.specs.Batch.{Apt}
@@ -56,6 +56,10 @@ module _ {A : Type 0} where
 
   pub went-on : (d : Answer Unit) (r : Answer A) → d ≡ good tt → andThen d r ≡ r
   went-on d r h = rw h
+
+  pub first-good : (d : Answer Unit) (r : Answer A) (a : A) → andThen d r ≡ good a → d ≡ good tt
+  first-good (good u) r a h = refl
+  first-good (refused n p) r a h = absurd (clash n p a h)
 
 -- a refusal is handed on
 pub handed-on : (d r : Answer Unit) (n p : ℕ) → verdictOf d ≡ Refused n p → verdictOf (andThen d r) ≡ verdictOf d
@@ -107,6 +111,13 @@ checked cs vs rs h =
     let a = arena cs vs rs in
     let p = passed (not (within a)) 3 0 (refuseFirst 0 (structureFaults 8 (blockIn a)) (good tt)) tt h in
     (not-false (within a) (p .0), structured cs vs rs (good tt) tt (p .1) .0)
+
+-- an arena that passed the padding check passed the structure check
+pub padding-good : (a : Arena) → paddingChecked 8 a ≡ good tt → structureChecked 8 a ≡ good tt
+unfolding paddingChecked
+padding-good a h =
+    let r = refuseFirst 0 (paddingFaults (blockIn a)) (good tt) in
+    first-good (structureChecked 8 a) r tt (sym (structure-then 8 a r) ∙ h)
 
 -- ---- admissible operations have opcodes that a good table knows
 

@@ -1,20 +1,20 @@
 -- The walk over the records to the first that fails the structure test, with the sum of the ninth starts; and what a passed check says. Assumes nothing.
 use mathlib.Core.Path.{_≡_}
-use mathlib.Core.Bool.{true, false, cond}
+use mathlib.Core.Bool.{true, false, cond, _&&_}
 use mathlib.Core.List.{List, [], _∷_, _++_, map}
-use Prim.Native.Nat.{ℕ, suc, _+_, _-_, _/_, _≤_, _<_}
+use Prim.Native.Nat.{ℕ, suc, _+_, _-_, _/_, _%_, _≤_, _<_}
 use native.Mathlib.Nat.{add-assoc, add-zero, zero-add, sub-zero}
 use native.Mathlib.Omega.{arith}
-use borrow.Author.Tests.{eq-eqb, ne-eqb, eqb-true}
+use borrow.Author.Tests.{eq-eqb, ne-eqb, eqb-true, leb-true}
 use lib.ListN.{length}
-use lib.Dec.{eqb}
+use lib.Dec.{leb, eqb}
 use Rattle.rules.specs.Lists.{total}
 use Rattle.rules.specs.Answer.{Answer, good, refused, refuseFirst}
 use Rattle.rules.specs.Operations.{operations}
 use Rattle.rules.specs.Record.{Record, recordAt, recordsFrom, recordsIn}
 use Rattle.rules.specs.Checks.{ninth, recordRight, structureFaults}
 use Rattle.rules.specs.Functions.{arena, blockIn, within}
-use Rattle.rules.proofs.Operations.{length-operations, true-left}
+use Rattle.rules.proofs.Operations.{length-operations, true-left, true-right}
 
 -- ---- the records of a run from the b-th of n on
 
@@ -63,3 +63,12 @@ module _ (n : ℕ) (s : List ℕ) (m b sum : ℕ) where
 pub equal-lengths : (cs vs rs : List ℕ) → within (arena cs vs rs) ≡ true → length cs ≡ length vs
 unfolding within
 equal-lengths cs vs rs h = eqb-true (length cs) (length vs) (true-left (eqb (length cs) (length vs)) _ h)
+
+pub few-records : (cs vs rs : List ℕ) → within (arena cs vs rs) ≡ true → length rs / 82 ≤ 16384
+unfolding within
+few-records cs vs rs h =
+    let a = eqb (length cs) (length vs) in
+    let b = leb (length cs) 65535 in
+    let c = eqb (length rs % 82) 0 in
+    let d = leb (length rs / 82) 16384 in
+    leb-true (length rs / 82) 16384 (true-right c d (true-right b (c && d) (true-right a (b && (c && d)) h)))

@@ -3,6 +3,7 @@ use mathlib.Core.Path.{_≡_}
 use mathlib.Core.Bool.{Bool, true, _&&_}
 use mathlib.Core.List.{List, [], _∷_}
 use Prim.Native.Nat.{ℕ, zero, suc, _+_, _-_, _*_, _≤_, _<_}
+use native.Mathlib.Numerals.{add-one}
 use native.Mathlib.Omega.{arith}
 use borrow.Author.Tests.{leb-true, eqb-true}
 use lib.ListN.{length, getD}
@@ -57,8 +58,11 @@ sound w r e =
       last = eqb-true (getD (r .starts) (r .count) 0) (ninth r) (true-right d z e₃);
     }
 
--- no right record has over 72 operations, and each start is at most the ninth
+-- a right record of nine starts: no group is over 9, no batch over 72 operations, and no start over the ninth
 module _ (w : ℕ) (r : Record) (x : Sound w r) (l : length (r .starts) ≡ 9) where
+  pub rise : (g : ℕ) → g < 8 → (getD (r .starts) g 0 ≤ getD (r .starts) (g + 1) 0) × (getD (r .starts) (g + 1) 0 ≤ getD (r .starts) g 0 + 9)
+  rise g h = rw (add-one g) (x .rises g (omega arith))
+
   up : (g : ℕ) → g < 9 → getD (r .starts) g 0 ≤ 9 * g
   up zero h = omega (arith, x .first)
   up (suc g) h = omega (arith, x .rises g (omega arith), up g (omega arith))

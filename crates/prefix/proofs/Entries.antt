@@ -1,0 +1,155 @@
+-- The entries of a table, group by group and batch by batch; and the ways to its answer. Assumes nothing.
+use mathlib.Core.Path.{_≡_, refl, sym, ap, ap₂, _∙_}
+use mathlib.Core.Bool.{Bool, true, false, cond, not}
+use mathlib.Core.List.{List, [], _∷_, _++_, append-assoc}
+use Prim.Native.Nat.{ℕ, zero, suc, _+_, _-_, _≤_, _<_}
+use native.Mathlib.Nat.{add-zero, sub-zero}
+use native.Mathlib.Numerals.{add-one}
+use native.Mathlib.Omega.{arith}
+use borrow.Author.Tests.{lt-ltb, le-ltb}
+use lib.ListN.{length, getD, take, drop, replicate, length-append, length-replicate, drop-of-length-le}
+use lib.Seq.{sets, sets-eq, drop-cons, take-append-seam}
+use lib.Dec.{ltb, eqb}
+use Rattle.rules.specs.Lists.{fitted}
+use Rattle.rules.specs.Answer.{Answer, good, refuse, refuseFirst}
+use Rattle.rules.specs.Record.{Record, Block, differences, recordAt, recordsFrom, recordsIn}
+use Rattle.rules.specs.Checks.{structureFaults, paddingFaults}
+use Rattle.rules.specs.Lookups.{marksIn, marksOf, marks, rawEntries, paddedEntries, rawTable, paddedTable}
+use Rattle.rules.specs.Functions.{Arena, blockIn, within, paddingChecked, tableOf, tableLeft}
+use Rattle.rules.proofs.Digits.{sets-append}
+use Rattle.rules.proofs.Runs.{zeroed}
+use Rattle.operation.specs.Verdict.{verdictOf}
+use Rattle.operation.specs.declared.Verdict.the-variants.{Refused}
+use Rattle.checks.proofs.Walk.{records-turn, records-end}
+use Rattle.checks.proofs.Passed.{was-refused, andThen, refuse-then, first-then, went-on}
+use Rattle.prefix.specs.declared.Tabled.the-variants as tabled
+use Rattle.prefix.specs.Tables.{Answered, tableBy, tableFrom, padsIn, keptIn, marksAt, Filling}
+
+-- ---- the marks of a batch
+
+module _ (r : Record) (s : length (r .starts) ≡ 9) (f : length (r .flags) ≡ 8) where
+  pub marks-turn : (g : ℕ) → g < 8 → marksAt r g ≡ marksIn (getD (r .starts) (g + 1) 0 - getD (r .starts) g 0) (getD (r .flags) g 0) ++ marksAt r (g + 1)
+  unfolding marksAt differences marksOf
+  marks-turn g h =
+      rw (
+        drop-cons (r .starts) g 0 (omega arith),
+        drop-cons (r .flags) g 0 (omega arith),
+        sym (add-one g),
+        drop-cons (r .starts) (g + 1) 0 (omega arith),
+      )
+
+  pub marks-end : (g : ℕ) → g ≡ 8 → marksAt r g ≡ []
+  unfolding marksAt differences marksOf
+  marks-end g h = rw (drop-cons (r .starts) g 0 (omega arith), drop-of-length-le (r .starts) {i = suc g} (omega arith))
+
+-- ---- the entries of a group: n plain operations, and perhaps a padding
+
+plain : (padded : Bool) (n k : ℕ) (ms : List Bool) → tableFrom padded k (replicate n false ++ ms) ≡ replicate n k ++ tableFrom padded k ms
+unfolding rawEntries paddedEntries
+plain padded zero k ms = refl
+plain true (suc n) k ms = ap (λ (l : List ℕ). k ∷ l) (plain true n k ms)
+plain false (suc n) k ms = ap (λ (l : List ℕ). k ∷ l) (plain false n k ms)
+
+snoc : (n k : ℕ) (es : List ℕ) → replicate n k ++ (k ∷ es) ≡ k ∷ (replicate n k ++ es)
+snoc zero k es = refl
+snoc (suc n) k es = ap (λ (l : List ℕ). k ∷ l) (snoc n k es)
+
+pub group : (padded : Bool) (n f k : ℕ) (rest : List Bool) → tableFrom padded k (marksIn n f ++ rest) ≡ replicate (keptIn padded n (padsIn n f)) k ++ tableFrom padded (k + padsIn n f) rest
+unfolding marksIn rawEntries paddedEntries
+group true zero f k rest = rw (add-zero k)
+group false zero f k rest = rw (add-zero k)
+group padded (suc n) f k rest =
+    ap (tableFrom padded k) (append-assoc (replicate n false) (eqb f 1 ∷ []) rest)
+    ∙ plain padded n k (eqb f 1 ∷ rest)
+    ∙ last padded (eqb f 1)
+  where
+    last : (padded b : Bool) → replicate n k ++ tableFrom padded k (b ∷ rest) ≡ replicate (keptIn padded (suc n) (cond b 1 0)) k ++ tableFrom padded (k + cond b 1 0) rest
+    last true true = snoc n k (paddedEntries (k + 1) rest)
+    last true false = snoc n k (paddedEntries k rest) ∙ rw (add-zero k)
+    last false true = let e : suc n - 1 ≡ n = omega arith in rw e
+    last false false = snoc n k (rawEntries k rest) ∙ rw (sub-zero, add-zero k)
+
+-- ---- a turn of the walk over groups, and its end, in the form of `Goes`
+
+module _ (padded : Bool) (r : Record) (s : length (r .starts) ≡ 9) (f : length (r .flags) ≡ 8) (g : ℕ) (h : g < 8) (k n p : ℕ)
+    (en : n ≡ keptIn padded (getD (r .starts) (g + 1) 0 - getD (r .starts) g 0) p)
+    (ep : p ≡ padsIn (getD (r .starts) (g + 1) 0 - getD (r .starts) g 0) (getD (r .flags) g 0)) (rest : List Bool) where
+  one : tableFrom padded k (marksAt r g ++ rest) ≡ replicate n k ++ tableFrom padded (k + p) (marksAt r (g + 1) ++ rest)
+  one =
+      ap (λ (ms : List Bool). tableFrom padded k (ms ++ rest)) (marks-turn r s f g h)
+      ∙ ap (tableFrom padded k) (append-assoc (marksIn (getD (r .starts) (g + 1) 0 - getD (r .starts) g 0) (getD (r .flags) g 0)) (marksAt r (g + 1)) rest)
+      ∙ group padded (getD (r .starts) (g + 1) 0 - getD (r .starts) g 0) (getD (r .flags) g 0) k (marksAt r (g + 1) ++ rest)
+      ∙ rw (en, ep)
+
+  pub run-turn : (out out′ : List ℕ) (at : ℕ) → out′ ≡ sets out at (replicate n k)
+      → sets out′ (at + n) (tableFrom padded (k + p) (marksAt r (g + 1) ++ rest)) ≡ sets out at (tableFrom padded k (marksAt r g ++ rest))
+  run-turn out out′ at e =
+      let more = tableFrom padded (k + p) (marksAt r (g + 1) ++ rest) in
+      ap₂ (λ (l : List ℕ) (m : ℕ). sets l (at + m) more) e (sym (length-replicate {A = ℕ} n k)) ∙ sym (ap (sets out at) one ∙ sets-append out at (replicate n k) more)
+
+  pub entries-turn : (at : ℕ) → at + n + length (tableFrom padded (k + p) (marksAt r (g + 1) ++ rest)) ≡ at + length (tableFrom padded k (marksAt r g ++ rest))
+  entries-turn at = omega (arith, ap length one, length-append (replicate n k) (tableFrom padded (k + p) (marksAt r (g + 1) ++ rest)), length-replicate {A = ℕ} n k)
+
+-- ---- batch by batch
+
+pub marks-next : (n : ℕ) (s : List ℕ) (b : ℕ) → b < n → marks (recordsFrom (n - b) s b) ≡ marksAt (recordAt s b) 0 ++ marks (recordsFrom (n - (b + 1)) s (b + 1))
+unfolding marks marksAt
+marks-next n s b h = rw (records-turn n s b h)
+
+pub marks-none : (n : ℕ) (s : List ℕ) (b : ℕ) → n ≤ b → marks (recordsFrom (n - b) s b) ≡ []
+unfolding marks
+marks-none n s b h = rw (records-end n s b h)
+
+-- the last entry
+pub last-entry : (padded : Bool) (k : ℕ) → tableFrom padded k [] ≡ k ∷ []
+unfolding rawEntries paddedEntries
+last-entry true k = refl
+last-entry false k = refl
+
+-- ---- the whole answer
+
+pub same-table : (padded : Bool) (a : Arena) → tableBy padded (blockIn a) ≡ tableFrom padded 0 (marks (recordsIn (a .records)))
+unfolding rawTable paddedTable blockIn
+same-table true a = refl
+same-table false a = refl
+
+pub table-then : (table : Block → List ℕ) (a : Arena) (room : ℕ)
+    → tableOf table 8 a room ≡ andThen (paddingChecked 8 a) (refuse (ltb room (length (table (blockIn a)))) 13 0 (good (table (blockIn a))))
+unfolding tableOf paddingChecked
+table-then table a room =
+    let r = refuse (ltb room (length (table (blockIn a)))) 13 0 (good (table (blockIn a))) in
+    let s = structureFaults 8 (blockIn a) in
+    let p = paddingFaults (blockIn a) in
+    ap (λ (d : Answer (List ℕ)). refuse (not (within a)) 3 0 (refuseFirst 0 s d)) (first-then 0 p (good tt) r)
+    ∙ ap (refuse (not (within a)) 3 0) (first-then 0 s (refuseFirst 0 p (good tt)) r)
+    ∙ refuse-then (not (within a)) 3 0 (refuseFirst 0 s (refuseFirst 0 p (good tt))) r
+
+-- ---- the ways out
+
+module _ (padded : Bool) (a : Arena) (out : List ℕ) where
+  abbrev answer : Answer (List ℕ)
+  answer = tableOf (tableBy padded) 8 a (length out)
+
+  pub refused-way : (n p : ℕ) (out′ : List ℕ) → verdictOf (paddingChecked 8 a) ≡ Refused n p → out′ ≡ fitted (length out) (take 0 out) → Answered answer (tabled.Refused n p) out out′
+  unfolding tableLeft
+  refused-way n p out′ h z =
+      rw (table-then (tableBy padded) a (length out), was-refused (paddingChecked 8 a) n p h)
+      (record { reply = refl; left = z })
+
+  module _ (g : paddingChecked 8 a ≡ good tt) (n : ℕ) (out′ : List ℕ) (w : Filling (tableFrom padded 0 (marks (recordsIn (a .records)))) n out out′) where
+    decided : answer ≡ refuse (ltb (length out) n) 13 0 (good (tableFrom padded 0 (marks (recordsIn (a .records)))))
+    decided =
+        table-then (tableBy padded) a (length out)
+        ∙ went-on (paddingChecked 8 a) _ g
+        ∙ rw (same-table padded a, w .entries)
+
+    pub no-room : (end : List ℕ) → length out < n → length out′ ≡ length out → end ≡ fitted (length out′) (take 0 out′) → Answered answer (tabled.Refused 13 0) out end
+    unfolding tableLeft
+    no-room end h l z = rw (decided, lt-ltb (length out) n h) (record { reply = refl; left = z ∙ ap (λ (k : ℕ). fitted k []) l })
+
+    pub made : (end : List ℕ) → n ≤ length out → length out′ ≡ length out → end ≡ fitted (length out′) (take n out′) → Answered answer (tabled.Made n) out end
+    unfolding tableLeft
+    made end h l z =
+        let table = tableFrom padded 0 (marks (recordsIn (a .records))) in
+        let front : take (length table) out′ ≡ table = ap (take (length table)) (w .run ∙ sets-eq table out 0 (omega (arith, w .entries))) ∙ take-append-seam table (drop (0 + length table) out) in
+        rw (decided, le-ltb (length out) n h) (record { reply = ap tabled.Made (w .entries); left = z ∙ zeroed out out′ table n l front (w .entries) })

@@ -1,0 +1,185 @@
+// The two index tables of a block, RawToPaddedPrefix and PaddedToRawPrefix, and lookups in them (document 01, "Lookups and tables").
+ghost use mathlib.Core.Path.{_≡_};
+ghost use mathlib.Core.Bool.{true};
+ghost use Prim.Native.Nat.{ℕ, _+_, _-_, _*_, _/_, _≤_, _<_, _^_};
+ghost use lib.ListN.{length, replicate};
+ghost use lib.Seq.{sets};
+ghost use Rattle.rules.specs.Record.{recordAt, recordsIn};
+ghost use Rattle.rules.specs.Checks.{recordRight};
+ghost use Rattle.rules.specs.Lookups.{marks, paddedIndex, rawIndex};
+ghost use Rattle.rules.specs.Functions.{arena, rawTabled, paddedTabled, tableOf};
+ghost use Rattle.prefix.specs.Tables.{paddedFound, rawFound, tableBy, tableFrom, padsIn, keptIn, marksAt, Goes, Filling, Answered};
+use op_batch::RECORD;
+use operation::Verdict;
+
+// An index of an operation among those without flagged paddings, and among all.
+pub struct RawIndex(pub usize);
+
+pub struct PaddedIndex(pub usize);
+
+pub enum PaddedFound {
+    At(PaddedIndex),
+    Nothing,
+}
+
+pub enum RawFound {
+    At(RawIndex),
+    Nothing,
+}
+
+pub enum Tabled {
+    Made { entries: usize },
+    Refused { number: u8, place: usize },
+}
+
+// ---- lookups
+
+const LARGEST: usize = 18446744073709551615;
+
+pub fn raw_to_padded_index(table: &[u64], i: RawIndex) -> PaddedFound
+    ensures { λ r. ⌜ r ≡ paddedFound (paddedIndex (now (table .entry)) (i .0)) ⌝ }
+{
+    let raw = i.0;
+    if table.len() <= raw {
+        return PaddedFound::Nothing;
+    }
+    let entry = table[raw] as usize;
+    if LARGEST - raw < entry {
+        return PaddedFound::Nothing;
+    }
+    PaddedFound::At(PaddedIndex(raw + entry))
+}
+
+pub fn padded_to_raw_index(table: &[u64], i: PaddedIndex) -> RawFound
+    ensures { λ r. ⌜ r ≡ rawFound (rawIndex (now (table .entry)) (i .0)) ⌝ }
+{
+    let padded = i.0;
+    if table.len() <= padded {
+        return RawFound::Nothing;
+    }
+    let entry = table[padded] as usize;
+    if padded < entry {
+        return RawFound::Nothing;
+    }
+    RawFound::At(RawIndex(padded - entry))
+}
+
+// ---- tables: `padded` says which of the two, and is all they differ in
+
+// How far a table is: entries written, paddings counted.
+struct Filled {
+    entries: usize,
+    paddings: usize,
+}
+
+// n copies of a value, those past the end left out.
+fn fill64(out: &mut [u64], at: usize, n: usize, v: u64)
+    requires { ⌜ at + n < 2 ^ 63 ⌝ }
+    ensures { λ _. ⌜ now (out .exit) ≡ sets (now (out .entry)) at (replicate n v) ⌝ }
+{
+    let mut i: usize = 0;
+    while i < n {
+        word::store64(out, at + i, v);
+        i += 1;
+    }
+}
+
+// The flagged paddings of a group, 0 or 1.
+fn pads_in(size: usize, flag: u8) -> usize
+    ensures { λ r. ⌜ (r ≡ padsIn size flag) × (r ≤ 1) × (r ≤ size) ⌝ }
+{
+    if size == 0 {
+        return 0;
+    }
+    if flag == 1 {
+        return 1;
+    }
+    0
+}
+
+// The entries of a group: the raw table has none for a padding.
+fn kept_in(padded: bool, size: usize, pads: usize) -> usize
+    requires { ⌜ pads ≤ size ⌝ }
+    ensures { λ r. ⌜ (r ≡ keptIn padded size pads) × (r ≤ size) ⌝ }
+{
+    if padded {
+        return size;
+    }
+    size - pads
+}
+
+// The entries of one batch, group by group.
+fn batch_entries(records: &[u8], b: usize, padded: bool, from: Filled, out: &mut [u64]) -> Filled
+    requires { ⌜ (82 * b + 82 ≤ length (now records)) × (recordRight 8 (recordAt (now records) b) ≡ true) × (b < 16384) ⌝ }
+    requires { ⌜ (from .entries ≤ 72 * b) × (from .paddings ≤ 8 * b) ⌝ }
+    ensures { λ r. ⌜ Goes padded (marksAt (recordAt (now (records .entry)) b) 0) from r (now (out .entry)) (now (out .exit)) ⌝ }
+    ensures { λ r. ⌜ (r .entries ≤ 72 * (b + 1)) × (r .paddings ≤ 8 * (b + 1)) ⌝ }
+{
+    let mut entries = from.entries;
+    let mut paddings = from.paddings;
+    let mut g: usize = 0;
+    while g < 8 {
+        let size = op_batch::start(records, b, g + 1) - op_batch::start(records, b, g);
+        let pads = pads_in(size, op_batch::flag(records, b, g));
+        let n = kept_in(padded, size, pads);
+        fill64(out, entries, n, paddings as u64);
+        entries += n;
+        paddings += pads;
+        g += 1;
+    }
+    Filled { entries, paddings }
+}
+
+// A whole table, and how many entries it has; those past the end of the lent run are left out.
+fn fill(records: &[u8], padded: bool, out: &mut [u64]) -> usize
+    requires { ⌜ length (now records) / 82 ≤ 16384 ⌝ }
+    requires { ⌜ ((b : ℕ) → b < length (now records) / 82 → recordRight 8 (recordAt (now records) b) ≡ true) ⌝ }
+    ensures { λ r. ⌜ Filling (tableFrom padded 0 (marks (recordsIn (now (records .entry))))) r (now (out .entry)) (now (out .exit)) ⌝ }
+{
+    let n = records.len() / RECORD;
+    let mut done = Filled {
+        entries: 0,
+        paddings: 0,
+    };
+    let mut b: usize = 0;
+    while b < n {
+        done = batch_entries(records, b, padded, done, out);
+        b += 1;
+    }
+    word::store64(out, done.entries, done.paddings as u64);
+    done.entries + 1
+}
+
+fn table(codes: &[u8], values: &[u64], records: &[u8], padded: bool, out: &mut [u64]) -> Tabled
+    ensures { λ r. ⌜ Answered (tableOf (tableBy padded) 8 (arena (now (codes .entry)) (now (values .entry)) (now (records .entry))) (length (now (out .entry)))) r (now (out .entry)) (now (out .exit)) ⌝ }
+{
+    let v = checks::padding(codes, values, records);
+    if let Verdict::Refused { number, place } = v {
+        word::zero_words(out, 0);
+        return Tabled::Refused { number, place };
+    }
+    let entries = fill(records, padded, out);
+    if out.len() < entries {
+        word::zero_words(out, 0);
+        return Tabled::Refused {
+            number: 13,
+            place: 0,
+        };
+    }
+    word::zero_words(out, entries);
+    Tabled::Made { entries }
+}
+
+// RawToPaddedPrefix: for each raw operation the flagged paddings before it, then all. Refusals 3, 15, 10, 13.
+pub fn raw_to_padded(codes: &[u8], values: &[u64], records: &[u8], out: &mut [u64]) -> Tabled
+    ensures { λ r. ⌜ Answered (rawTabled 8 (arena (now (codes .entry)) (now (values .entry)) (now (records .entry))) (length (now (out .entry)))) r (now (out .entry)) (now (out .exit)) ⌝ }
+{
+    table(codes, values, records, false, out)
+}
+
+// PaddedToRawPrefix: the same for each padded operation.
+pub fn padded_to_raw(codes: &[u8], values: &[u64], records: &[u8], out: &mut [u64]) -> Tabled
+    ensures { λ r. ⌜ Answered (paddedTabled 8 (arena (now (codes .entry)) (now (values .entry)) (now (records .entry))) (length (now (out .entry)))) r (now (out .entry)) (now (out .exit)) ⌝ }
+{
+    table(codes, values, records, true, out)
+}
