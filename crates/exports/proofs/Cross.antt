@@ -1,0 +1,44 @@
+-- A reply made from the library's enum is the reply made from the definitions' answer. Assumes nothing.
+use mathlib.Core.Path.{_≡_, refl}
+use mathlib.Core.List.{List}
+use mathlib.Core.Option.{Option, none, some}
+use Prim.Native.Nat.{ℕ}
+use Rattle.rules.specs.Answer.{Answer, good, refused}
+use Rattle.rules.specs.Record.{Block}
+use Rattle.rules.specs.Lookups.{Place}
+use Rattle.operation.specs.Verdict.{verdictOf}
+use Rattle.build.specs.Outcome.{builtOf}
+use Rattle.prefix.specs.Tables.{tabledOf, paddedFound, rawFound}
+use Rattle.op_batch.specs.OpBatch.{lookupOf, nextOf}
+use Rattle.exports.specs.Replies.{buildReply, checkReply, tableReply, indexReply, groupReply, nextReply}
+use Rattle.exports.specs.Flat.{flatBuilt, flatVerdict, flatTabled, flatPadded, flatRaw, flatGroup, flatNext}
+
+pub cross-built : (d : Answer Block) → flatBuilt (builtOf d) ≡ buildReply d
+cross-built (good b) = refl
+cross-built (refused n p) = refl
+
+pub cross-verdict : (d : Answer Unit) → flatVerdict (verdictOf d) ≡ checkReply d
+cross-verdict (good u) = refl
+cross-verdict (refused n p) = refl
+
+pub cross-tabled : (d : Answer (List ℕ)) → flatTabled (tabledOf d) ≡ tableReply d
+cross-tabled (good es) = refl
+cross-tabled (refused n p) = refl
+
+pub cross-padded : (d : Option ℕ) → flatPadded (paddedFound d) ≡ indexReply d
+cross-padded none = refl
+cross-padded (some i) = refl
+
+pub cross-raw : (d : Option ℕ) → flatRaw (rawFound d) ≡ indexReply d
+cross-raw none = refl
+cross-raw (some i) = refl
+
+pub cross-group : (d : Answer (Option Place)) → flatGroup (lookupOf d) ≡ groupReply d
+cross-group (good none) = refl
+cross-group (good (some p)) = refl
+cross-group (refused n p) = refl
+
+pub cross-next : (d : Answer (Option ℕ)) → flatNext (nextOf d) ≡ nextReply d
+cross-next (good none) = refl
+cross-next (good (some g)) = refl
+cross-next (refused n p) = refl

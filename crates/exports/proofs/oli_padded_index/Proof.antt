@@ -1,0 +1,26 @@
+use Rattle.rules.specs.Lookups.{paddedIndex}
+use mathlib.Core.Path.{_≡_, refl, sym, ap, _∙_}
+use Rattle.exports.specs.Flat.{flatPadded}
+use Rattle.exports.proofs.Cross.{cross-padded}
+use borrow.Author.Needs.{needs}
+use Rattle.exports.proofs.oli_padded_index.Statement.{statement}
+use Rattle.exports.proofs.oli_padded_index.Tie as tie
+use Rattle.exports.proofs.oli_padded_index.Reads as reads
+use Rattle.exports.proofs.oli_padded_index.Lts as lts
+use Rattle.exports.proofs.flat_padded.Reads as flat-padded-reads
+use Rattle.prefix.proofs.raw_to_padded_index.Reads as raw-to-padded-index-reads
+
+raw-to-padded-index-requires : tie.Need-raw-to-padded-index-requires
+raw-to-padded-index-requires c κs = search needs
+
+flat-padded-requires : tie.Need-flat-padded-requires
+flat-padded-requires c κs = search needs
+
+returns : tie.Need-returns
+returns c =
+    let a = c .before .before .before .args in
+    c .flat-padded .ensures ∙ (ap flatPadded (c .before .raw-to-padded-index .ensures) ∙ cross-padded (paddedIndex (a .table .now) (a .raw)))
+
+pub oli-padded-index-spec : {M : Type 1} → statement M
+oli-padded-index-spec =
+    tie.close (tie.spec raw-to-padded-index-requires flat-padded-requires returns)

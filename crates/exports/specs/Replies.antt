@@ -1,0 +1,59 @@
+-- The replies that cross to Rust, by the definitions' answers: number 0 where nothing is refused, every length and total 0 where something is.
+use mathlib.Core.Path.{_≡_}
+use mathlib.Core.Bool.{not}
+use mathlib.Core.List.{List}
+use mathlib.Core.Option.{Option, none, some}
+use Prim.Native.Nat.{ℕ}
+use lib.ListN.{length}
+use lib.Dec.{eqb}
+use Rattle.rules.specs.Answer.{Answer, good, refused, refuse}
+use Rattle.rules.specs.Record.{Block, recordSize, recordAt}
+use Rattle.rules.specs.Block.{Room}
+use Rattle.rules.specs.Lookups.{Place}
+use Rattle.rules.specs.Functions.{Arena, roomIn, filled, blockLeft, tableLeft, groupLookup, nextLookup}
+use Rattle.exports.specs.declared.BuildReply.{BuildReply}
+use Rattle.exports.specs.declared.CheckReply.{CheckReply}
+use Rattle.exports.specs.declared.TableReply.{TableReply}
+use Rattle.exports.specs.declared.IndexReply.{IndexReply}
+use Rattle.exports.specs.declared.GroupReply.{GroupReply}
+use Rattle.exports.specs.declared.NextReply.{NextReply}
+
+abbrev pub buildReply : Answer Block → BuildReply
+buildReply (good b) = record { number = 0; place = 0; batches = length (b .records); operations = length (b .ops) }
+buildReply (refused n p) = record { number = n; place = p; batches = 0; operations = 0 }
+
+-- build's reply and what it leaves in the lent runs; `answer` is what the rules answer for a room
+pub record Builds (answer : Room → Answer Block) (r : BuildReply) (before after : Arena) : Type 0 where
+  pub reply : r ≡ buildReply (answer (roomIn before))
+  pub runs : after ≡ filled before (blockLeft (answer (roomIn before)))
+
+abbrev pub checkReply : Answer Unit → CheckReply
+checkReply (good u) = record { number = 0; place = 0 }
+checkReply (refused n p) = record { number = n; place = p }
+
+abbrev pub tableReply : Answer (List ℕ) → TableReply
+tableReply (good es) = record { number = 0; place = 0; entries = length es }
+tableReply (refused n p) = record { number = n; place = p; entries = 0 }
+
+pub record Tables (answer : Answer (List ℕ)) (r : TableReply) (out out′ : List ℕ) : Type 0 where
+  pub reply : r ≡ tableReply answer
+  pub left : out′ ≡ tableLeft out answer
+
+abbrev pub indexReply : Option ℕ → IndexReply
+indexReply none = record { found = 0; index = 0 }
+indexReply (some i) = record { found = 1; index = i }
+
+-- ---- lookups in one batch: a run of bytes that is not one record is refused with 3
+
+unfoldable pub oneRecord : {A : Type 0} → List ℕ → Answer A → Answer A
+oneRecord s r = refuse (not (eqb (length s) recordSize)) 3 0 r
+
+abbrev pub groupReply : Answer (Option Place) → GroupReply
+groupReply (good none) = record { number = 0; place = 0; found = 0; group = 0; position = 0 }
+groupReply (good (some p)) = record { number = 0; place = 0; found = 1; group = p .group; position = p .place }
+groupReply (refused n p) = record { number = n; place = p; found = 0; group = 0; position = 0 }
+
+abbrev pub nextReply : Answer (Option ℕ) → NextReply
+nextReply (good none) = record { number = 0; place = 0; found = 0; group = 0 }
+nextReply (good (some g)) = record { number = 0; place = 0; found = 1; group = g }
+nextReply (refused n p) = record { number = n; place = p; found = 0; group = 0 }

@@ -1,0 +1,319 @@
+// What a Rust or C program calls: the public functions over numbers and slices, with replies as plain structs. In each reply number 0 means that
+// nothing was refused; a refusal has every length and total 0.
+ghost use mathlib.Core.Path.{_≡_};
+ghost use lib.ListN.{length};
+ghost use Rattle.rules.specs.Record.{recordAt};
+ghost use Rattle.rules.specs.Lookups.{paddedIndex, rawIndex};
+ghost use Rattle.rules.specs.Functions.{arena, built, structureChecked, paddingChecked, commitmentChecked, rawTabled, paddedTabled, groupLookup, nextLookup};
+ghost use Rattle.exports.specs.Replies.{Builds, checkReply, Tables, indexReply, oneRecord, groupReply, nextReply};
+ghost use Rattle.exports.specs.Flat.{flatBuilt, flatVerdict, flatTabled, flatPadded, flatRaw, flatGroup, flatNext};
+use build::Built;
+use op_batch::Lookup;
+use op_batch::NextGroup;
+use operation::Verdict;
+use prefix::PaddedFound;
+use prefix::PaddedIndex;
+use prefix::RawFound;
+use prefix::RawIndex;
+use prefix::Tabled;
+
+#[repr(C)]
+pub struct BuildReply {
+    pub number: u8,
+    pub place: usize,
+    pub batches: usize,
+    pub operations: usize,
+}
+
+#[repr(C)]
+pub struct CheckReply {
+    pub number: u8,
+    pub place: usize,
+}
+
+#[repr(C)]
+pub struct TableReply {
+    pub number: u8,
+    pub place: usize,
+    pub entries: usize,
+}
+
+#[repr(C)]
+pub struct IndexReply {
+    pub found: u8,
+    pub index: usize,
+}
+
+#[repr(C)]
+pub struct GroupReply {
+    pub number: u8,
+    pub place: usize,
+    pub found: u8,
+    pub group: usize,
+    pub position: usize,
+}
+
+#[repr(C)]
+pub struct NextReply {
+    pub number: u8,
+    pub place: usize,
+    pub found: u8,
+    pub group: usize,
+}
+
+// ---- batching
+
+fn flat_built(r: Built) -> BuildReply
+    ensures { λ a. ⌜ a ≡ flatBuilt r ⌝ }
+{
+    match r {
+        Built::Made {
+            batches,
+            operations,
+        } => BuildReply {
+            number: 0,
+            place: 0,
+            batches,
+            operations,
+        },
+        Built::Refused { number, place } => BuildReply {
+            number,
+            place,
+            batches: 0,
+            operations: 0,
+        },
+    }
+}
+
+#[no_mangle]
+pub extern "C" fn oli_build(
+    table: &[u8],
+    codes: &[u8],
+    values: &[u64],
+    out_codes: &mut [u8],
+    out_values: &mut [u64],
+    records: &mut [u8],
+) -> BuildReply
+    ensures { λ r. ⌜ Builds (built 8 (now (table .entry)) (now (codes .entry)) (now (values .entry))) r (arena (now («out_codes» .entry)) (now («out_values» .entry)) (now (records .entry))) (arena (now («out_codes» .exit)) (now («out_values» .exit)) (now (records .exit))) ⌝ }
+{
+    let r = build::build(table, codes, values, out_codes, out_values, records);
+    flat_built(r)
+}
+
+// ---- checks
+
+fn flat_verdict(r: Verdict) -> CheckReply
+    ensures { λ a. ⌜ a ≡ flatVerdict r ⌝ }
+{
+    match r {
+        Verdict::Passed => CheckReply {
+            number: 0,
+            place: 0,
+        },
+        Verdict::Refused { number, place } => CheckReply { number, place },
+    }
+}
+
+#[no_mangle]
+pub extern "C" fn oli_structure(codes: &[u8], values: &[u64], records: &[u8]) -> CheckReply
+    ensures { λ r. ⌜ r ≡ checkReply (structureChecked 8 (arena (now (codes .entry)) (now (values .entry)) (now (records .entry)))) ⌝ }
+{
+    let r = checks::structure(codes, values, records);
+    flat_verdict(r)
+}
+
+#[no_mangle]
+pub extern "C" fn oli_padding(codes: &[u8], values: &[u64], records: &[u8]) -> CheckReply
+    ensures { λ r. ⌜ r ≡ checkReply (paddingChecked 8 (arena (now (codes .entry)) (now (values .entry)) (now (records .entry)))) ⌝ }
+{
+    let r = checks::padding(codes, values, records);
+    flat_verdict(r)
+}
+
+#[no_mangle]
+pub extern "C" fn oli_commitment(
+    table: &[u8],
+    codes: &[u8],
+    values: &[u64],
+    records: &[u8],
+) -> CheckReply
+    ensures { λ r. ⌜ r ≡ checkReply (commitmentChecked 8 (now (table .entry)) (arena (now (codes .entry)) (now (values .entry)) (now (records .entry)))) ⌝ }
+{
+    let r = checks::commitment(table, codes, values, records);
+    flat_verdict(r)
+}
+
+// ---- index tables
+
+fn flat_tabled(r: Tabled) -> TableReply
+    ensures { λ a. ⌜ a ≡ flatTabled r ⌝ }
+{
+    match r {
+        Tabled::Made { entries } => TableReply {
+            number: 0,
+            place: 0,
+            entries,
+        },
+        Tabled::Refused { number, place } => TableReply {
+            number,
+            place,
+            entries: 0,
+        },
+    }
+}
+
+#[no_mangle]
+pub extern "C" fn oli_raw_table(
+    codes: &[u8],
+    values: &[u64],
+    records: &[u8],
+    out: &mut [u64],
+) -> TableReply
+    ensures { λ r. ⌜ Tables (rawTabled 8 (arena (now (codes .entry)) (now (values .entry)) (now (records .entry))) (length (now (out .entry)))) r (now (out .entry)) (now (out .exit)) ⌝ }
+{
+    let r = prefix::raw_to_padded(codes, values, records, out);
+    flat_tabled(r)
+}
+
+#[no_mangle]
+pub extern "C" fn oli_padded_table(
+    codes: &[u8],
+    values: &[u64],
+    records: &[u8],
+    out: &mut [u64],
+) -> TableReply
+    ensures { λ r. ⌜ Tables (paddedTabled 8 (arena (now (codes .entry)) (now (values .entry)) (now (records .entry))) (length (now (out .entry)))) r (now (out .entry)) (now (out .exit)) ⌝ }
+{
+    let r = prefix::padded_to_raw(codes, values, records, out);
+    flat_tabled(r)
+}
+
+fn flat_padded(r: PaddedFound) -> IndexReply
+    ensures { λ a. ⌜ a ≡ flatPadded r ⌝ }
+{
+    match r {
+        PaddedFound::At(i) => IndexReply {
+            found: 1,
+            index: i.0,
+        },
+        PaddedFound::Nothing => IndexReply { found: 0, index: 0 },
+    }
+}
+
+#[no_mangle]
+pub extern "C" fn oli_padded_index(table: &[u64], raw: usize) -> IndexReply
+    ensures { λ r. ⌜ r ≡ indexReply (paddedIndex (now (table .entry)) raw) ⌝ }
+{
+    let r = prefix::raw_to_padded_index(table, RawIndex(raw));
+    flat_padded(r)
+}
+
+fn flat_raw(r: RawFound) -> IndexReply
+    ensures { λ a. ⌜ a ≡ flatRaw r ⌝ }
+{
+    match r {
+        RawFound::At(i) => IndexReply {
+            found: 1,
+            index: i.0,
+        },
+        RawFound::Nothing => IndexReply { found: 0, index: 0 },
+    }
+}
+
+#[no_mangle]
+pub extern "C" fn oli_raw_index(table: &[u64], padded: usize) -> IndexReply
+    ensures { λ r. ⌜ r ≡ indexReply (rawIndex (now (table .entry)) padded) ⌝ }
+{
+    let r = prefix::padded_to_raw_index(table, PaddedIndex(padded));
+    flat_raw(r)
+}
+
+// ---- lookups in one batch
+
+fn flat_group(r: Lookup) -> GroupReply
+    ensures { λ a. ⌜ a ≡ flatGroup r ⌝ }
+{
+    match r {
+        Lookup::Found { group, place } => GroupReply {
+            number: 0,
+            place: 0,
+            found: 1,
+            group,
+            position: place,
+        },
+        Lookup::Nothing => GroupReply {
+            number: 0,
+            place: 0,
+            found: 0,
+            group: 0,
+            position: 0,
+        },
+        Lookup::Refused { number, place } => GroupReply {
+            number,
+            place,
+            found: 0,
+            group: 0,
+            position: 0,
+        },
+    }
+}
+
+#[no_mangle]
+pub extern "C" fn oli_group(run: &[u8], index: usize) -> GroupReply
+    ensures { λ r. ⌜ r ≡ groupReply (oneRecord (now (run .entry)) (groupLookup 8 (recordAt (now (run .entry)) 0) index)) ⌝ }
+{
+    if run.len() != op_batch::RECORD {
+        return GroupReply {
+            number: 3,
+            place: 0,
+            found: 0,
+            group: 0,
+            position: 0,
+        };
+    }
+    let batch = op_batch::load(run, 0);
+    let r = batch.op_idx_in_batch_to_group(index);
+    flat_group(r)
+}
+
+fn flat_next(r: NextGroup) -> NextReply
+    ensures { λ a. ⌜ a ≡ flatNext r ⌝ }
+{
+    match r {
+        NextGroup::At(group) => NextReply {
+            number: 0,
+            place: 0,
+            found: 1,
+            group,
+        },
+        NextGroup::Nothing => NextReply {
+            number: 0,
+            place: 0,
+            found: 0,
+            group: 0,
+        },
+        NextGroup::Refused { number, place } => NextReply {
+            number,
+            place,
+            found: 0,
+            group: 0,
+        },
+    }
+}
+
+#[no_mangle]
+pub extern "C" fn oli_next_group(run: &[u8], group: usize) -> NextReply
+    ensures { λ r. ⌜ r ≡ nextReply (oneRecord (now (run .entry)) (nextLookup 8 (recordAt (now (run .entry)) 0) group)) ⌝ }
+{
+    if run.len() != op_batch::RECORD {
+        return NextReply {
+            number: 3,
+            place: 0,
+            found: 0,
+            group: 0,
+        };
+    }
+    let batch = op_batch::load(run, 0);
+    let r = batch.next_op_group_index(group);
+    flat_next(r)
+}
