@@ -67,6 +67,10 @@ p7more =
     block (pushes 7 ++ (op 0 0 ∷ op 1 5 ∷ op 0 0 ∷ []))
     (is (0 ∷ replicate 8 8) (1 ∷ replicate 7 0) (4432676798593 ∷ replicate 7 5) 8 ∷ is (0 ∷ replicate 8 2) (1 ∷ replicate 7 0) (1 ∷ 5 ∷ replicate 6 0) 2 ∷ [])
 
+-- the record of a batch of one operation of opcode 2
+abbrev pub single : Record
+single = is (0 ∷ replicate 8 1) (replicate 8 0) (2 ∷ replicate 7 0) 1
+
 -- bytes: n operations of opcode 2, then one batch with these nibbles
 abbrev pub bare : ℕ → List ℕ → List ℕ
 bare n ns = countBytes n ++ (replicate n 2 ++ ((1 ∷ 0 ∷ 0 ∷ 0 ∷ []) ++ (ns ++ (0 ∷ []))))
@@ -109,6 +113,17 @@ pub record Numbers : Type 0 where
       1 ∷ 1 ∷ [])))))))))))
   pub five-first : read (1 ∷ 0x01 ∷ 0x40 ∷ 0 ∷ 0 ∷ replicate 9 0) 0 ≡ refused 5 0
   pub empty-block : (write (block [] []) ≡ good (1 ∷ 0 ∷ 0 ∷ 0 ∷ 0 ∷ [])) × (read (1 ∷ 0 ∷ 0 ∷ 0 ∷ 0 ∷ []) 0 ≡ found (block [] []) 5)
+  -- "Errors the rules must catch": a kind 2 value in a group, a caller's own Noop dropped, an empty batch in the middle refused
+  pub kind-two : build (op 3 7 ∷ []) ≡ good (block (op 3 7 ∷ []) (is (0 ∷ replicate 8 1) (replicate 8 0) (3 ∷ replicate 7 0) 1 ∷ []))
+  pub own-noop : build (op 2 0 ∷ op 0 0 ∷ []) ≡ good (block (op 2 0 ∷ op 0 0 ∷ []) (is (0 ∷ replicate 8 2) (replicate 8 0) (2 ∷ replicate 7 0) 1 ∷ []))
+  pub empty-between :
+      read (0x05 ∷ 2 ∷ 2 ∷ 3 ∷ 0 ∷ 0 ∷ 0 ∷ 1 ∷ 0 ∷ 0 ∷ 0 ∷ 0 ∷ 0 ∷ 0 ∷ 0 ∷ 1 ∷ 0 ∷ 0 ∷ 0 ∷ 0 ∷ 0 ∷ 0 ∷ []) 0
+      ≡ found (block (twos 2) (single ∷ is (replicate 9 0) (replicate 8 0) (replicate 8 0) 0 ∷ single ∷ [])) 22
+  -- what the checks are for: batch data that belongs to another operation list does not pass
+  pub passes : (structureChecked 8 (lent p1) ≡ good tt) × (paddingChecked 8 (lent p1) ≡ good tt) × (commitmentChecked 8 tableT (lent p1) ≡ good tt)
+  pub stale-value : commitmentChecked 8 tableT (lent (block (op 1 6 ∷ op 0 0 ∷ []) (p1 .records))) ≡ refused 16 0
+  pub stale-code : commitmentChecked 8 tableT (lent (block (op 2 0 ∷ op 0 0 ∷ []) (p1 .records))) ≡ refused 16 0
+  pub stale-length : structureChecked 8 (lent (block (op 1 5 ∷ op 0 0 ∷ op 2 0 ∷ []) (p1 .records))) ≡ refused 15 1
 
 pub numbers : Numbers
 unfolding document
@@ -143,4 +158,11 @@ numbers =
       two-batches = refl;
       five-first = refl;
       empty-block = (refl, refl);
+      kind-two = refl;
+      own-noop = refl;
+      empty-between = refl;
+      passes = (refl, refl, refl);
+      stale-value = refl;
+      stale-code = refl;
+      stale-length = refl;
     }
