@@ -87,7 +87,7 @@ fn batch_padding(codes: &[u8], values: &[u64], records: &[u8], b: usize, from: u
             continue;
         }
         if count <= g {
-            return 10;
+            return 10; // a flag from the count on
         }
         let end = op_batch::start(records, b, g + 1);
         if op_batch::start(records, b, g) == end {

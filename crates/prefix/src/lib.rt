@@ -122,9 +122,10 @@ fn batch_entries(records: &[u8], b: usize, padded: bool, from: Filled, out: &mut
         let size = op_batch::start(records, b, g + 1) - op_batch::start(records, b, g);
         let pads = pads_in(size, op_batch::flag(records, b, g));
         let n = kept_in(padded, size, pads);
+        let next = paddings + pads;
         fill64(out, entries, n, paddings as u64);
         entries += n;
-        paddings += pads;
+        paddings = next;
         g += 1;
     }
     Filled { entries, paddings }

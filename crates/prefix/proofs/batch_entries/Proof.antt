@@ -59,6 +59,9 @@ pads-in-requires c κs = search needs
 kept-in-requires : tie.Need-kept-in-requires Inv-loop μ-loop
 kept-in-requires c κs = search needs
 
+add-next : tie.Need-add-next Inv-loop μ-loop
+add-next c = search needs
+
 fill64-requires : tie.Need-fill64-requires Inv-loop μ-loop
 fill64-requires c κs =
     let a = c .before .before .before .before .before .before .before .before .before .before .args in
@@ -70,9 +73,6 @@ add-entries c =
     let a = c .before .before .before .before .before .before .before .before .before .before .before .before .before .args in
     let r = recordAt (a .records .now) (a .b) in
     omega (arith, rise 8 r (sound 8 r (c .before .before .before .before .before .before .before .before .before .before .before .before .before .pre .0 .1)) (starts-length (a .records .now) (a .b)) (c .before .before .before .before .before .before .before .before .before .before .loop .g) (omega arith), c .before .before .before .before .before .before .before .start2 .ensures .0, c .before .before .before .before .before .before .before .before .start .ensures .0)
-
-add-paddings : tie.Need-add-paddings Inv-loop μ-loop
-add-paddings c = search needs
 
 add-g : tie.Need-add-g Inv-loop μ-loop
 add-g c = search needs
@@ -123,9 +123,9 @@ batch-entries-spec =
     flag-requires
     pads-in-requires
     kept-in-requires
+    add-next
     fill64-requires
     add-entries
-    add-paddings
     add-g
     loop-less
     loop-again

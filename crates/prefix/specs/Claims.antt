@@ -1,0 +1,49 @@
+-- What the two tables are for, as statements about the definitions: proved in proofs/Claims.antt.
+use mathlib.Core.Path.{_≡_}
+use mathlib.Core.Bool.{Bool, true, false}
+use mathlib.Core.List.{List, [], _∷_}
+use mathlib.Core.Option.{some}
+use Prim.Native.Nat.{ℕ, zero, suc, _≤_, _<_}
+use lib.ListN.{length, getD, take}
+use Rattle.rules.specs.Answer.{good}
+use Rattle.rules.specs.Record.{Block}
+use Rattle.rules.specs.Lookups.{marks, rawTable, paddedTable, largest, paddedIndex, rawIndex}
+use Rattle.rules.specs.Functions.{Arena, blockIn, structureChecked}
+
+-- how many operations are raw, that is no flagged paddings
+unfoldable pub raws : List Bool → ℕ
+raws [] = 0
+raws (true ∷ ms) = raws ms
+raws (false ∷ ms) = suc (raws ms)
+
+-- the padded place of the i-th raw operation
+unfoldable pub placeOf : ℕ → List Bool → ℕ
+placeOf i [] = 0
+placeOf i (true ∷ ms) = suc (placeOf i ms)
+placeOf zero (false ∷ ms) = 0
+placeOf (suc i) (false ∷ ms) = suc (placeOf i ms)
+
+-- the raw operations under i stand before a padded place, and those from i on after it: i is the next raw operation's number, or the raw total
+pub record NextRaw (ms : List Bool) (p i : ℕ) : Type 0 where
+  pub before : (j : ℕ) → j < i → placeOf j ms < p
+  pub after : (j : ℕ) → i ≤ j → j < raws ms → p < placeOf j ms
+  pub counted : i ≤ raws ms
+
+-- of a block whose operations can be counted by an index
+pub record Leads (b : Block) : Type 0 where
+  -- "the raw table's entry leads each raw operation to its padded place"
+  pub there : (i : ℕ) → i < raws (marks (b .records)) → paddedIndex (rawTable b) i ≡ some (placeOf i (marks (b .records)))
+  -- "the padded table's leads it back"
+  pub back : (i : ℕ) → i < raws (marks (b .records)) → rawIndex (paddedTable b) (placeOf i (marks (b .records))) ≡ some i
+  -- "A padding's raw index is the next raw operation's, or the raw total."
+  pub padding : (p : ℕ) → p < length (marks (b .records)) → getD (marks (b .records)) p false ≡ true
+      → (i : ℕ) × ((rawIndex (paddedTable b) p ≡ some i) × NextRaw (marks (b .records)) p i)
+  -- the last entries lead from total to total
+  pub ends : (paddedIndex (rawTable b) (raws (marks (b .records))) ≡ some (length (marks (b .records)))) × (rawIndex (paddedTable b) (length (marks (b .records))) ≡ some (raws (marks (b .records))))
+
+-- and every block that passes the structure check is one: each of its operations has a mark
+abbrev pub AllMarked : Type 0
+AllMarked = (a : Arena) → structureChecked 8 a ≡ good tt → length (marks (blockIn a .records)) ≡ length (a .codes)
+
+abbrev pub TablesLead : Type 0
+TablesLead = (b : Block) → length (marks (b .records)) ≤ largest → Leads b
