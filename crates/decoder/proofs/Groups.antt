@@ -1,0 +1,319 @@
+-- A walk over the eight groups of a batch: their numbers, and their immediates in the slots right after them. Assumes nothing.
+use mathlib.Core.Path.{_≡_, refl, sym, ap, _∙_}
+use mathlib.Core.Bool.{true}
+use mathlib.Core.List.{List, [], _∷_, _++_}
+use Prim.Native.Nat.{ℕ, zero, suc, _+_, _-_, _*_, _/_, _%_, _^_, _≤_, _<_}
+use native.Mathlib.Nat.{pow-suc, pow-le-pow-right}
+use native.Mathlib.Numerals.{add-one}
+use native.Mathlib.Omega.{arith}
+use borrow.Author.Tests.{ne-eqb, leb-true}
+use lib.ListN.{length, getD, take, drop, set, drop-of-length-le, length-take, length-drop}
+use lib.Seq.{append-snoc, take-suc-set, length-take-le, drop-cons, getD-take, getD-drop}
+use lib.Dec.{leb}
+use Rattle.rules.specs.Lists.{fitted, total, every}
+use Rattle.rules.specs.Digits.{digits, number}
+use Rattle.rules.specs.Answer.{good, refused, Read, found, _then_}
+use Rattle.rules.specs.Operations.{Op, operations, hasImmediate}
+use Rattle.rules.specs.Record.{codesNumber}
+use Rattle.rules.specs.Bytes.{upTo}
+use Rattle.rules.specs.Block.{part, immediates, emptyBefore, slots}
+use Rattle.rules.proofs.Operations.{kind-at, operations-turn, operations-end, true-left, true-right}
+use Rattle.rules.proofs.Runs.{fitted-set, fitted-length}
+use Rattle.wire.proofs.Laws.{digits-turn, digits-end}
+use Rattle.decoder.specs.Replies.{Coded, glue, behind, onward, Placed}
+use Rattle.decoder.proofs.Ops.{codes-operations, part-operations}
+
+-- ---- a group's number, from its last opcode on
+
+pub number-turn : (b : ℕ) (cs : List ℕ) (i : ℕ) → 0 < i → i ≤ length cs → number b (drop (i - 1) cs) ≡ getD cs (i - 1) 0 + b * number b (drop i cs)
+unfolding number
+number-turn b cs i h k =
+    let e : suc (i - 1) ≡ i = omega arith in
+    ap (number b) (drop-cons cs (i - 1) 0 (omega arith)) ∙ ap (λ (j : ℕ). getD cs (i - 1) 0 + b * number b (drop j cs)) e
+
+pub number-end : (b : ℕ) (cs : List ℕ) → number b (drop (length cs) cs) ≡ 0
+unfolding number
+number-end b cs = rw (drop-of-length-le cs {i = length cs} (omega arith))
+
+pub power-turn : (b n i : ℕ) → 0 < i → i ≤ n → b ^ (n - (i - 1)) ≡ b ^ (n - i) * b
+power-turn b n i h k = let e : n - (i - 1) ≡ suc (n - i) = omega arith in rw (e, pow-suc)
+
+pub power-most : (b n i : ℕ) → 0 < b → n ≤ 9 → b ^ (n - i) ≤ b ^ 9
+power-most b n i h k = let l : n - i ≤ 9 = omega arith in pow-le-pow-right h l
+
+-- ---- immediates of the operations of two runs, from the i-th on
+
+module _ (t cs vs : List ℕ) (i : ℕ) where
+  abbrev pub due : List ℕ
+  due = immediates t (operations (drop i cs) (drop i vs))
+
+  pub due-plain : i < length cs → i < length vs → getD cs i 0 < length t → (getD t (getD cs i 0) 0 ≡ 1 → ⊥) → due ≡ immediates t (operations (drop (i + 1) cs) (drop (i + 1) vs))
+  unfolding immediates hasImmediate
+  due-plain h k l e = rw (operations-turn cs vs i h k, kind-at t (getD cs i 0) l, ne-eqb (getD t (getD cs i 0) 0) 1 e)
+
+  pub due-placed : i < length cs → i < length vs → getD cs i 0 < length t → getD t (getD cs i 0) 0 ≡ 1 → due ≡ getD vs i 0 ∷ immediates t (operations (drop (i + 1) cs) (drop (i + 1) vs))
+  unfolding immediates hasImmediate
+  due-placed h k l e = rw (operations-turn cs vs i h k, kind-at t (getD cs i 0) l, e)
+
+  pub due-none : length cs ≤ i → due ≡ []
+  unfolding immediates
+  due-none h = rw (operations-end cs vs i h)
+
+-- ---- numbers in a run of eight, zeros after the first g
+
+take-fitted : (g n : ℕ) (us : List ℕ) → g ≤ n → take g (fitted n us) ≡ fitted g us
+unfolding fitted
+take-fitted zero n us h = refl
+take-fitted (suc g) zero us h = absurd (omega arith)
+take-fitted (suc g) (suc n) [] h = ap (λ (l : List ℕ). 0 ∷ l) (take-fitted g n [] (omega arith))
+take-fitted (suc g) (suc n) (u ∷ us) h = ap (λ (l : List ℕ). u ∷ l) (take-fitted g n us (omega arith))
+
+fitted-fitted : (n g : ℕ) (us : List ℕ) → length us ≤ g → fitted n (fitted g us) ≡ fitted n us
+unfolding fitted
+fitted-fitted zero g us h = refl
+fitted-fitted (suc n) zero [] h = refl
+fitted-fitted (suc n) zero (u ∷ us) h = absurd (omega arith)
+fitted-fitted (suc n) (suc g) [] h = ap (λ (l : List ℕ). 0 ∷ l) (fitted-fitted n g [] (omega arith))
+fitted-fitted (suc n) (suc g) (u ∷ us) h = ap (λ (l : List ℕ). u ∷ l) (fitted-fitted n g us (omega arith))
+
+fitted-snoc : (g : ℕ) (us : List ℕ) → length us ≤ g → fitted (suc g) us ≡ fitted g us ++ (0 ∷ [])
+unfolding fitted
+fitted-snoc zero [] h = refl
+fitted-snoc zero (u ∷ us) h = absurd (omega arith)
+fitted-snoc (suc g) [] h = ap (λ (l : List ℕ). 0 ∷ l) (fitted-snoc g [] (omega arith))
+fitted-snoc (suc g) (u ∷ us) h = ap (λ (l : List ℕ). u ∷ l) (fitted-snoc g us (omega arith))
+
+-- the first c groups have numbers, and zeros stand after them
+module _ (gs : List ℕ) (c g : ℕ) (n : length gs ≡ 8) (h : c ≤ g) (f : gs ≡ fitted 8 (take c gs)) where
+  few : length (take c gs) ≤ g
+  few = omega (arith, length-take c gs)
+
+  front : g ≤ 8 → take g gs ≡ fitted g (take c gs)
+  front l = ap (take g) f ∙ take-fitted g 8 (take c gs) l
+
+  pub zeros-more : g ≤ 8 → gs ≡ fitted 8 (take g gs)
+  zeros-more l = f ∙ sym (fitted-fitted 8 g (take c gs) few) ∙ ap (fitted 8) (sym (front l))
+
+  pub zeros-next : g < 8 → take (g + 1) gs ≡ take g gs ++ (0 ∷ [])
+  zeros-next l =
+      rw (add-one g)
+      (ap (take (suc g)) f ∙ take-fitted (suc g) 8 (take c gs) l ∙ fitted-snoc g (take c gs) few ∙ ap (λ (r : List ℕ). r ++ (0 ∷ [])) (sym (front (omega arith))))
+
+-- a number more
+module _ (gs : List ℕ) (g v : ℕ) (n : length gs ≡ 8) (h : g < 8) where
+  pub take-next : take (g + 1) (set gs g v) ≡ take g gs ++ (v ∷ [])
+  take-next = rw (add-one g) (take-suc-set gs g v (omega arith))
+
+  pub store : gs ≡ fitted 8 (take g gs) → set gs g v ≡ fitted 8 (take (g + 1) (set gs g v))
+  store f =
+      ap (λ (l : List ℕ). set l g v) f
+      ∙ ap (λ (k : ℕ). set (fitted 8 (take g gs)) k v) (sym (length-take-le g gs (omega arith)))
+      ∙ fitted-set 8 (take g gs) v
+      ∙ ap (fitted 8) (sym take-next)
+
+-- ---- the walk
+
+module _ (us ws : List ℕ) where
+  behind-empty : (r : Read (List ℕ)) → behind us ws (r then λ vs end. found (emptyBefore vs) end) ≡ behind us (ws ++ (0 ∷ [])) r
+  unfolding emptyBefore
+  behind-empty (good i) = rw (go (i .item))
+    where
+      go : (vs : List ℕ) → glue us ws (emptyBefore vs) ≡ glue us (ws ++ (0 ∷ [])) vs
+      go [] = refl
+      go (v ∷ vs) = sym (append-snoc ws 0 (v ∷ vs))
+  behind-empty (refused n p) = refl
+
+  behind-number : (v : ℕ) (r : Read (List ℕ)) → behind us ws (r then λ vs end. found (v ∷ vs) end) ≡ behind (ws ++ (v ∷ [])) (ws ++ (v ∷ [])) r
+  behind-number v (good i) = rw (go (i .item))
+    where
+      go : (vs : List ℕ) → ws ++ (v ∷ vs) ≡ glue (ws ++ (v ∷ [])) (ws ++ (v ∷ [])) vs
+      go [] = refl
+      go (w ∷ vs) = sym (append-snoc ws v (w ∷ vs))
+  behind-number v (refused n p) = refl
+
+module _ (t : List ℕ) (b : ℕ) (xs : List Op) where
+  -- an empty group, nothing due
+  pub turn-empty : (us ws : List ℕ) (g left at : ℕ) → g < 8 → left % 16 ≡ 0
+      → behind us ws (slots t b (digits 16 (8 - g) left) [] xs at) ≡ behind us (ws ++ (0 ∷ [])) (slots t b (digits 16 (8 - (g + 1)) (left / 16)) [] xs at)
+  unfolding slots
+  turn-empty us ws g left at h e = rw (digits-turn 16 8 g left h, e) (behind-empty us ws (slots t b (digits 16 (8 - (g + 1)) (left / 16)) [] xs at))
+
+  group : (us ws : List ℕ) (n : ℕ) (ns : List ℕ) (at : ℕ) → (n ≡ 0 → ⊥)
+      → behind us ws (slots t b (n ∷ ns) [] xs at) ≡ behind (ws ++ (codesNumber (part n xs at) ∷ [])) (ws ++ (codesNumber (part n xs at) ∷ [])) (slots t b ns (immediates t (part n xs at)) xs (at + n))
+  unfolding slots
+  group us ws zero ns at h = absurd (h refl)
+  group us ws (suc n) ns at h = behind-number us ws (codesNumber (part (suc n) xs at)) (slots t b ns (immediates t (part (suc n) xs at)) xs (at + suc n))
+
+  -- a group: its number, and its immediates are due
+  pub turn-group : (us gs : List ℕ) (g left at : ℕ) → length gs ≡ 8 → g < 8 → (left % 16 ≡ 0 → ⊥)
+      → behind us (take g gs) (slots t b (digits 16 (8 - g) left) [] xs at)
+      ≡ onward t b xs (at + left % 16) (set gs g (codesNumber (part (left % 16) xs at))) (g + 1) (left / 16) (immediates t (part (left % 16) xs at))
+  turn-group us gs g left at n h e =
+      rw (digits-turn 16 8 g left h, take-next gs g (codesNumber (part (left % 16) xs at)) n h) (group us (take g gs) (left % 16) (digits 16 (8 - (g + 1)) (left / 16)) at e)
+
+  -- an immediate: it takes the next slot, which is an empty group under 8
+  pub turn-placed : (gs : List ℕ) (g left v : ℕ) (due : List ℕ) (end : ℕ) → length gs ≡ 8 → g < 8 → left % 16 ≡ 0
+      → onward t b xs end gs g left (v ∷ due) ≡ onward t b xs end (set gs g v) (g + 1) (left / 16) due
+  unfolding slots
+  turn-placed gs g left v due end n h e =
+      rw (digits-turn 16 8 g left h, e, take-next gs g v n h) (behind-number (take g gs) (take g gs) v (slots t b (digits 16 (8 - (g + 1)) (left / 16)) due xs end))
+
+  pub stop-8 : (gs : List ℕ) (g left v : ℕ) (due : List ℕ) (end : ℕ) → 8 ≤ g → onward t b xs end gs g left (v ∷ due) ≡ refused 8 b
+  unfolding slots
+  stop-8 gs g left v due end h = rw (digits-end 16 8 g left h)
+
+  taken : (n : ℕ) (ns : List ℕ) (v : ℕ) (due : List ℕ) (at : ℕ) → (n ≡ 0 → ⊥) → slots t b (n ∷ ns) (v ∷ due) xs at ≡ refused 9 b
+  unfolding slots
+  taken zero ns v due at h = absurd (h refl)
+  taken (suc n) ns v due at h = refl
+
+  pub stop-9 : (gs : List ℕ) (g left v : ℕ) (due : List ℕ) (end : ℕ) → g < 8 → (left % 16 ≡ 0 → ⊥) → onward t b xs end gs g left (v ∷ due) ≡ refused 9 b
+  stop-9 gs g left v due end h e = rw (digits-turn 16 8 g left h, taken (left % 16) (digits 16 (8 - (g + 1)) (left / 16)) v due end e)
+
+  pub done : (us ws : List ℕ) (g left at : ℕ) → 8 ≤ g → behind us ws (slots t b (digits 16 (8 - g) left) [] xs at) ≡ found us at
+  unfolding slots
+  done us ws g left at h = rw (digits-end 16 8 g left h)
+
+-- ---- the sizes left
+
+pub total-end : (g left : ℕ) → 8 ≤ g → total (digits 16 (8 - g) left) ≡ 0
+unfolding total
+total-end g left h = rw (digits-end 16 8 g left h)
+
+module _ (g left : ℕ) (h : g < 8) where
+  pub total-turn : total (digits 16 (8 - g) left) ≡ left % 16 + total (digits 16 (8 - (g + 1)) (left / 16))
+  unfolding total
+  total-turn = rw (digits-turn 16 8 g left h)
+
+  pub small-first : upTo 9 (digits 16 (8 - g) left) ≡ true → left % 16 ≤ 9
+  unfolding every
+  small-first e = leb-true (left % 16) 9 (true-left (leb (left % 16) 9) (upTo 9 (digits 16 (8 - (g + 1)) (left / 16))) (rw (digits-turn 16 8 g left h) at e))
+
+  pub small-rest : upTo 9 (digits 16 (8 - g) left) ≡ true → upTo 9 (digits 16 (8 - (g + 1)) (left / 16)) ≡ true
+  unfolding every
+  small-rest e = true-right (leb (left % 16) 9) (upTo 9 (digits 16 (8 - (g + 1)) (left / 16))) (rw (digits-turn 16 8 g left h) at e)
+
+  pub small-empty : left % 16 ≡ 0 → upTo 9 (digits 16 (8 - g) left) ≡ upTo 9 (digits 16 (8 - (g + 1)) (left / 16))
+  unfolding every
+  small-empty e = rw (digits-turn 16 8 g left h, e)
+
+-- ---- the immediates of a group, placed one after the other
+
+-- a run of eight numbers
+pub eight : (gs us : List ℕ) → gs ≡ fitted 8 us → length gs ≡ 8
+eight gs us f = ap length f ∙ fitted-length 8 us
+
+module _ (t : List ℕ) (b : ℕ) (due gs : List ℕ) (g deltas : ℕ) where
+  pub place-none : g ≤ 8 → gs ≡ fitted 8 (take g gs) → Placed t b due gs g deltas due gs g deltas
+  place-none h f = record { walk = λ xs end. refl; up = omega arith; under = h; numbers = f; sizes = refl; small = refl }
+
+  module _ (rest hs : List ℕ) (h left : ℕ) (p : Placed t b due gs g deltas rest hs h left) where
+    pub place-plain : (more : List ℕ) → rest ≡ more → Placed t b due gs g deltas more hs h left
+    place-plain more e = rw e at p
+
+    pub place-turn : (v : ℕ) (more : List ℕ) → rest ≡ v ∷ more → h < 8 → left % 16 ≡ 0 → Placed t b due gs g deltas more (set hs h v) (h + 1) (left / 16)
+    place-turn v more e l z =
+        let n = eight hs (take h hs) (p .numbers) in
+        let s = total-turn h left l in
+        record {
+          walk = λ xs end. p .walk xs end ∙ rw e (turn-placed t b xs hs h left v more end n l z);
+          up = omega (arith, p .up);
+          under = omega arith;
+          numbers = store hs h v n l (p .numbers);
+          sizes = omega (arith, p .sizes);
+          small = p .small ∙ small-empty h left l z;
+        }
+
+-- ---- a part of a run, as it is lent
+
+abbrev pub lent : List ℕ → ℕ → ℕ → List ℕ
+lent cs at n = take (at + n - at) (drop at cs)
+
+module _ (cs : List ℕ) (at n : ℕ) (h : at + n ≤ length cs) where
+  pub lent-length : length (lent cs at n) ≡ n
+  lent-length = simp (length-take, length-drop) (omega arith)
+
+  pub lent-coded : Coded cs → Coded (lent cs at n)
+  lent-coded f i l =
+      let k : i < n = omega (arith, lent-length) in
+      let m : i < at + n - at = omega arith in
+      rw (getD-take (at + n - at) (drop at cs) i 0 m, getD-drop at cs i 0) (f (at + i) (omega arith))
+
+lent-part : (n at : ℕ) (cs vs : List ℕ) → operations (lent cs at n) (lent vs at n) ≡ part n (operations cs vs) at
+lent-part n at cs vs = let e : at + n - at ≡ n = omega arith in rw e (sym (part-operations n at cs vs))
+
+lent-number : (n at : ℕ) (cs vs : List ℕ) → at + n ≤ length cs → length cs ≡ length vs → number 128 (lent cs at n) ≡ codesNumber (part n (operations cs vs) at)
+unfolding codesNumber
+lent-number n at cs vs h l =
+    let k : at + n ≤ length vs = omega arith in
+    ap (number 128) (sym (codes-operations (lent cs at n) (lent vs at n) (lent-length cs at n h ∙ sym (lent-length vs at n k))))
+    ∙ ap (λ (xs : List Op). codesNumber xs) (lent-part n at cs vs)
+
+-- ---- the walk over the groups: those before g are done, and count numbers are found
+
+pub record Walking (t : List ℕ) (b : ℕ) (cs vs : List ℕ) (at deltas : ℕ) (gs : List ℕ) (count g left from : ℕ) : Type 0 where
+  pub up : count ≤ g
+  pub under : g ≤ 8
+  pub numbers : gs ≡ fitted 8 (take count gs)
+  pub room : from + total (digits 16 (8 - g) left) ≤ length cs
+  pub small : upTo 9 (digits 16 (8 - g) left) ≡ true
+  pub walk : slots t b (digits 16 8 deltas) [] (operations cs vs) at ≡ behind (take count gs) (take g gs) (slots t b (digits 16 (8 - g) left) [] (operations cs vs) from)
+
+module _ (t : List ℕ) (b : ℕ) (cs vs : List ℕ) (at deltas : ℕ) where
+  pub walk-start : (gs : List ℕ) → gs ≡ fitted 8 [] → at + total (digits 16 8 deltas) ≤ length cs → upTo 9 (digits 16 8 deltas) ≡ true → Walking t b cs vs at deltas gs 0 0 deltas at
+  walk-start gs f r s = record { up = omega arith; under = omega arith; numbers = f; room = r; small = s; walk = sym (same (slots t b (digits 16 8 deltas) [] (operations cs vs) at)) }
+    where
+      same : (r : Read (List ℕ)) → behind [] [] r ≡ r
+      same (good i) = rw (go (i .item))
+        where
+          go : (vs : List ℕ) → glue [] [] vs ≡ vs
+          go [] = refl
+          go (v ∷ vs) = refl
+      same (refused n p) = refl
+
+  module _ (gs : List ℕ) (count g left from : ℕ) (w : Walking t b cs vs at deltas gs count g left from) (h : g < 8) where
+    n : length gs ≡ 8
+    n = eight gs (take count gs) (w .numbers)
+
+    pub walk-empty : left % 16 ≡ 0 → Walking t b cs vs at deltas gs count (g + 1) (left / 16) from
+    walk-empty z =
+        record {
+          up = omega (arith, w .up);
+          under = omega arith;
+          numbers = w .numbers;
+          room = omega (arith, w .room, total-turn g left h);
+          small = small-rest g left h (w .small);
+          walk = w .walk ∙ rw (zeros-next gs count g n (w .up) (w .numbers) h) (turn-empty t b (operations cs vs) (take count gs) (take g gs) g left from h z);
+        }
+
+    pub group-fits : from + left % 16 ≤ length cs
+    group-fits = omega (arith, w .room, total-turn g left h)
+
+    pub group-small : left % 16 ≤ 9
+    group-small = small-first g left h (w .small)
+
+    pub group-stored : (v : ℕ) → set gs g v ≡ fitted 8 (take (g + 1) (set gs g v))
+    group-stored v = store gs g v n h (zeros-more gs count g n (w .up) (w .numbers) (w .under))
+
+    module _ (v : ℕ) (e : v ≡ number 128 (lent cs from (left % 16))) (z : left % 16 ≡ 0 → ⊥) (l : length cs ≡ length vs) where
+      abbrev pub owed : List ℕ
+      owed = immediates t (operations (lent cs from (left % 16)) (lent vs from (left % 16)))
+
+      walk-on : slots t b (digits 16 8 deltas) [] (operations cs vs) at ≡ onward t b (operations cs vs) (from + left % 16) (set gs g v) (g + 1) (left / 16) owed
+      walk-on =
+          w .walk ∙ turn-group t b (operations cs vs) (take count gs) gs g left from n h z
+          ∙ rw (lent-part (left % 16) from cs vs, e, lent-number (left % 16) from cs vs group-fits l)
+
+      pub walk-refused : (m p : ℕ) → ((xs : List Op) (end : ℕ) → onward t b xs end (set gs g v) (g + 1) (left / 16) owed ≡ refused m p) → slots t b (digits 16 8 deltas) [] (operations cs vs) at ≡ refused m p
+      walk-refused m p r = walk-on ∙ r (operations cs vs) (from + left % 16)
+
+      pub walk-group : (hs : List ℕ) (k rest : ℕ) → Placed t b owed (set gs g v) (g + 1) (left / 16) [] hs k rest → Walking t b cs vs at deltas hs k k rest (from + left % 16)
+      walk-group hs k rest p =
+          record {
+            up = omega arith;
+            under = p .under;
+            numbers = p .numbers;
+            room = omega (arith, w .room, total-turn g left h, p .sizes);
+            small = sym (p .small) ∙ small-rest g left h (w .small);
+            walk = walk-on ∙ p .walk (operations cs vs) (from + left % 16);
+          }

@@ -1,0 +1,9 @@
+pub mod Stages
+pub mod Ops
+pub mod Sizes
+pub mod Groups
+pub mod Padding
+pub mod Stores
+pub mod Batches
+pub mod Blocks
+pub mod Kept

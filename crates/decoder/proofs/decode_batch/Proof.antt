@@ -1,0 +1,111 @@
+use mathlib.Core.List.{[]}
+use Rattle.rules.specs.Record.{recordBy}
+use Prim.Native.Nat.{ℕ}
+use Rattle.wire.specs.declared.CountRead.the-variants.{Found}
+use mathlib.Core.Path.{refl, sym, ap, _∙_}
+use native.Mathlib.Omega.{arith}
+use borrow.Author.Tests.{not-true, not-false}
+use denote.Ref.{now}
+use lib.ListN.{length}
+use Rattle.rules.specs.Digits.{digits}
+use Rattle.rules.specs.Operations.{operations}
+use Rattle.rules.specs.Block.{slots}
+use Rattle.rules.proofs.Operations.{length-operations}
+use Rattle.rules.proofs.Runs.{zeros-fitted, fitted-length}
+use Rattle.decoder.proofs.Stages.{got, lost, held}
+use Rattle.decoder.proofs.Ops.{codes-operations}
+use Rattle.decoder.proofs.Batches.{way-7, way-slots, way-10, way-good, made-size, made-stored}
+use borrow.Author.Needs.{needs}
+use Rattle.decoder.proofs.decode_batch.Statement.{statement}
+use Rattle.decoder.proofs.decode_batch.Tie as tie
+
+sub-if1 : tie.Need-sub-if1
+sub-if1 c = search needs
+
+operations-in-requires : tie.Need-operations-in-requires
+operations-in-requires c κs = search needs
+
+returns : tie.Need-returns
+returns c =
+    let a = c .before .before .before .before .before .before .args in
+    let xs = operations (now (a .codes)) (now (a .values)) in
+    let n = length-operations (now (a .codes)) (now (a .values)) (c .before .before .before .before .before .before .pre .0 .1) in
+    rw (way-7 (now (a .table)) xs (a .at) (a .b) (a .deltas) (a .flags) (omega arith)) (refl, tt)
+
+decode-groups-requires : tie.Need-decode-groups-requires
+decode-groups-requires c κs =
+    let a = c .before .before .before .before .before .before .before in
+    ((a .pre .0 .0, a .pre .0 .1, a .pre .0 .2, zeros-fitted 8), (omega arith, a .pre .1 .1))
+
+enum-known-r : tie.Need-enum-known-r
+enum-known-r c = search needs
+
+enum-told : tie.Need-enum-told
+enum-told c = search needs
+
+returns-2 : tie.Need-returns-2
+returns-2 c =
+    let a = c .before .before .before .before .before .before .before .before .before .before .args in
+    let xs = operations (now (a .codes)) (now (a .values)) in
+    let n = length-operations (now (a .codes)) (now (a .values)) (c .before .before .before .before .before .before .before .before .before .before .pre .0 .1) in
+    let u = c .enum-told .given in
+    let d = lost length (slots (now (a .table)) (a .b) (digits 16 8 (a .deltas)) [] xs (a .at)) _ _ (sym (c .before .before .decode-groups .ensures .0) ∙ u .1) in
+    rw (way-slots (now (a .table)) xs (a .at) (a .b) (a .deltas) (a .flags) (omega arith) _ _ d) (u .1, tt)
+
+padding-right-requires : tie.Need-padding-right-requires
+padding-right-requires c κs = search needs
+
+returns-3 : tie.Need-returns-3
+returns-3 c =
+    let a = c .before .before .before .before .before .before .before .before .before .before .before .before .before .args in
+    let xs = operations (now (a .codes)) (now (a .values)) in
+    let n = length-operations (now (a .codes)) (now (a .values)) (c .before .before .before .before .before .before .before .before .before .before .before .before .before .pre .0 .1) in
+    let d = got length (slots (now (a .table)) (a .b) (digits 16 8 (a .deltas)) [] xs (a .at)) _ _ (sym (c .before .before .before .before .before .decode-groups .ensures .0) ∙ c .before .before .before .r .given .1) in
+    let p = sym (c .before .padding-right .ensures xs (codes-operations _ _ (c .before .before .before .before .before .before .before .before .before .before .before .before .before .pre .0 .1))) ∙ not-true _ (c .if2 .taken) in
+    rw (way-10 (now (a .table)) xs (a .at) (a .b) (a .deltas) (a .flags) (omega arith) _ _ (d .is) (rw (← d .number) at p)) (refl, tt)
+
+mul-put-record : tie.Need-mul-put-record
+mul-put-record c = search needs
+
+put-record-requires : tie.Need-put-record-requires
+put-record-requires c κs =
+    let a = c .before .before .before .before .before .before .before .before .before .before .before .before .before .before .before .args in
+    let s = slots (now (a .table)) (a .b) (digits 16 8 (a .deltas)) [] (operations (now (a .codes)) (now (a .values))) (a .at) in
+    let d = got length s _ _ (sym (c .before .before .before .before .before .before .before .decode-groups .ensures .0) ∙ c .before .before .before .before .before .r .given .1) in
+    let l = held _ s _ _ (d .is) (c .before .before .before .before .before .before .before .decode-groups .ensures .1) in
+    (c .before .before .before .before .before .before .before .before .before .before .before .before .before .before .before .pre .1 .2, ap length (l .0) ∙ fitted-length 8 (d .item), omega (arith, d .number, l .1))
+
+same-length : tie.Need-same-length
+same-length c = search needs
+
+returns-4 : tie.Need-returns-4
+unfolding recordBy
+returns-4 c =
+    let a = c .before .before .before .before .before .before .before .before .before .before .before .before .before .before .before .before .before .before .args in
+    let xs = operations (now (a .codes)) (now (a .values)) in
+    let n = length-operations (now (a .codes)) (now (a .values)) (c .before .before .before .before .before .before .before .before .before .before .before .before .before .before .before .before .before .before .pre .0 .1) in
+    let s = slots (now (a .table)) (a .b) (digits 16 8 (a .deltas)) [] xs (a .at) in
+    let u = c .before .before .before .before .before .before .before .before .r .given in
+    let d = got length s _ _ (sym (c .before .before .before .before .before .before .before .before .before .before .decode-groups .ensures .0) ∙ u .1) in
+    let l = held _ s _ _ (d .is) (c .before .before .before .before .before .before .before .before .before .before .decode-groups .ensures .1) in
+    let p = sym (c .before .before .before .before .before .before .padding-right .ensures xs (codes-operations _ _ (c .before .before .before .before .before .before .before .before .before .before .before .before .before .before .before .before .before .before .pre .0 .1))) ∙ not-false _ (c .before .before .before .before .before .if2 .left) in
+    rw (way-good (now (a .table)) xs (a .at) (a .b) (a .deltas) (a .flags) (omega arith) _ _ (d .is) (rw (← d .number) at p))
+    (ap (λ (m : ℕ). Found m (u .0 .1 .0)) (sym (d .number)), (made-stored (a .deltas) (a .flags) (d .item) _ _ _ _ _ (l .0) (d .number) (c .before .before .put-record .ensures), made-size (a .deltas) (a .flags) (d .item), l .2))
+
+pub decode-batch-spec : {M : Type 1} → statement M
+decode-batch-spec =
+    tie.close
+    (tie.spec
+    sub-if1
+    operations-in-requires
+    returns
+    decode-groups-requires
+    enum-known-r
+    enum-told
+    returns-2
+    padding-right-requires
+    returns-3
+    mul-put-record
+    put-record-requires
+    same-length
+    returns-4)

@@ -1,0 +1,577 @@
+// The block decoder (document 01, "Block bytes" and "Decoding a batch").
+ghost use mathlib.Core.Path.{_≡_};
+ghost use mathlib.Core.Bool.{true};
+ghost use mathlib.Core.List.{List, [], _∷_, _++_};
+ghost use Prim.Native.Nat.{ℕ, _+_, _*_, _≤_, _<_};
+ghost use lib.ListN.{length, take};
+ghost use lib.Seq.{sets};
+ghost use Rattle.rules.specs.Lists.{fitted, total};
+ghost use Rattle.rules.specs.Digits.{digits, number, leAt};
+ghost use Rattle.rules.specs.Operations.{Op, operations, goodTable};
+ghost use Rattle.rules.specs.Record.{Record, Block, startsFrom, wordBytes, recordBytes, recordsBytes};
+ghost use Rattle.rules.specs.Bytes.{opsAt, nibblesAt, upTo};
+ghost use Rattle.rules.specs.Block.{Head, immediates, slots, cut, paddingRight, batchAt, batchesAt, blockAt};
+ghost use Rattle.rules.specs.Functions.{arena, roomIn, decoded};
+ghost use Rattle.decoder.specs.Replies.{counted, IfFound, handOp, handCount, decodedOf, Decodes, tailless};
+ghost use Rattle.decoder.specs.Replies.{OpsIn, RecordsIn, Coded, itemsAt, recordsAt, sizesFrom, flagsFrom, Placing, PaddingRight};
+use wire::CountRead;
+use wire::OpRead;
+
+// A block: how many batches and padded operations, and how many bytes it took; or a refusal's number and place.
+pub enum Decoded {
+    Made {
+        batches: usize,
+        operations: usize,
+        used: usize,
+    },
+    Refused {
+        number: u8,
+        place: usize,
+    },
+}
+
+// A refused operation and a refused count, handed on.
+fn not_read(r: OpRead) -> CountRead
+    ensures { λ a. ⌜ a ≡ handOp r ⌝ }
+{
+    match r {
+        OpRead::Refused { number, place } => CountRead::Refused { number, place },
+        OpRead::Found {
+            code: _,
+            value: _,
+            next: _,
+        } => CountRead::Refused {
+            number: 0,
+            place: 0,
+        },
+    }
+}
+
+fn not_counted(r: CountRead) -> Decoded
+    ensures { λ a. ⌜ a ≡ handCount r ⌝ }
+{
+    match r {
+        CountRead::Refused { number, place } => Decoded::Refused { number, place },
+        CountRead::Found { value: _, next: _ } => Decoded::Refused {
+            number: 0,
+            place: 0,
+        },
+    }
+}
+
+// ---- items 2 and 3: operations and batch count
+
+// n operations from `at` on, into the first places of two lent runs. What a refusal leaves in them is not said, here and below.
+fn read_ops(
+    table: &[u8],
+    s: &[u8],
+    at: usize,
+    n: usize,
+    out_codes: &mut [u8],
+    out_values: &mut [u64],
+) -> CountRead
+    requires { ⌜ (length (now table) ≡ 128) × (n ≤ length (now «out_codes»)) × (n ≤ length (now «out_values»)) ⌝ }
+    ensures reply { λ r. ⌜ r ≡ counted length (opsAt (now (table .entry)) (now (s .entry)) n at 0) ⌝ }
+    ensures runs { λ _. ⌜ IfFound (λ (xs : List Op) (next : ℕ). OpsIn (now («out_codes» .exit)) (now («out_values» .exit)) xs) (opsAt (now (table .entry)) (now (s .entry)) n at 0) ⌝ }
+{
+    let mut i: usize = 0;
+    let mut from = at;
+    while i < n {
+        let r = wire::read_op(table, s, from, i);
+        let OpRead::Found { code, value, next } = r else {
+            return not_read(r);
+        };
+        out_codes[i] = code;
+        out_values[i] = value;
+        from = next;
+        i += 1;
+    }
+    CountRead::Found {
+        value: n as u64,
+        next: from,
+    }
+}
+
+// n operations from `at` on, and the batch count after them, where there is room for so many records.
+fn read_items(
+    table: &[u8],
+    s: &[u8],
+    at: usize,
+    n: usize,
+    room: usize,
+    out_codes: &mut [u8],
+    out_values: &mut [u64],
+) -> CountRead
+    requires { ⌜ (length (now table) ≡ 128) × (n ≤ length (now «out_codes»)) × (n ≤ length (now «out_values»)) ⌝ }
+    ensures reply { λ r. ⌜ r ≡ counted (λ (h : Head). h .batches) (itemsAt (now (table .entry)) (now (s .entry)) n at room) ⌝ }
+    ensures runs { λ _. ⌜ IfFound (λ (h : Head) (next : ℕ). OpsIn (now («out_codes» .exit)) (now («out_values» .exit)) (h .ops)) (itemsAt (now (table .entry)) (now (s .entry)) n at room) ⌝ }
+{
+    let r = read_ops(table, s, at, n, out_codes, out_values);
+    let CountRead::Found { value: _, next } = r else {
+        return r;
+    };
+    let c = wire::read_batch_count(s, next);
+    let CountRead::Found { value, next: _ } = c else {
+        return c;
+    };
+    if (room as u64) < value {
+        return CountRead::Refused {
+            number: 13,
+            place: 0,
+        };
+    }
+    c
+}
+
+// ---- item 4: all nibbles. At width 8 no flag byte is refused.
+
+// Whether none of the sizes of k batches, four bytes each from `at` on, is over 9.
+fn nibbles_right(s: &[u8], at: usize, k: usize) -> CountRead
+    requires { ⌜ at + 4 * k ≤ length (now s) ⌝ }
+    ensures { λ r. ⌜ r ≡ counted length (nibblesAt 8 (now (s .entry)) k at 0) ⌝ }
+{
+    let mut b: usize = 0;
+    let mut from = at;
+    while b < k {
+        if !wire::deltas_right(word::le4(s, from)) {
+            return CountRead::Refused {
+                number: 6,
+                place: b,
+            };
+        }
+        from += 4;
+        b += 1;
+    }
+    CountRead::Found {
+        value: k as u64,
+        next: from,
+    }
+}
+
+// ---- a batch: `deltas` has its eight sizes, four bits each, the first lowest
+
+// The number of a group: the sum of opcode times 128^position.
+fn group_number(codes: &[u8]) -> u64
+    requires { ⌜ (length (now codes) ≤ 9) × Coded (now codes) ⌝ }
+    ensures { λ r. ⌜ r ≡ number 128 (now (codes .entry)) ⌝ }
+{
+    let mut v: u64 = 0;
+    let mut i = codes.len();
+    while 0 < i {
+        i = i - 1;
+        v = v * 128 + word::wide(codes[i]);
+    }
+    v
+}
+
+// The immediates of a group's operations, each into the next slot, which must be an empty group under 8; `deltas` has the sizes from the slot on.
+// The answer's value has the sizes from the next slot on.
+fn place_immediates(
+    table: &[u8],
+    codes: &[u8],
+    values: &[u64],
+    b: usize,
+    deltas: u64,
+    slot: usize,
+    groups: &mut [u64; 8],
+) -> CountRead
+    requires { ⌜ (length (now table) ≡ 128) × (length (now codes) ≡ length (now values)) × Coded (now codes) × (slot ≤ 8) ⌝ }
+    requires { ⌜ now groups ≡ fitted 8 (take slot (now groups)) ⌝ }
+    ensures { λ r. ⌜ Placing (now (table .entry)) b (immediates (now (table .entry)) (operations (now (codes .entry)) (now (values .entry)))) (now (groups .entry)) slot deltas (now (groups .exit)) r ⌝ }
+{
+    let mut left = deltas;
+    let mut next = slot;
+    let mut i: usize = 0;
+    while i < codes.len() {
+        if table[codes[i] as usize] != 1 {
+            i += 1;
+            continue;
+        }
+        if 8 <= next {
+            return CountRead::Refused {
+                number: 8,
+                place: b,
+            };
+        }
+        if left % 16 != 0 {
+            return CountRead::Refused {
+                number: 9,
+                place: b,
+            };
+        }
+        groups[next] = values[i];
+        left = left / 16;
+        next += 1;
+        i += 1;
+    }
+    CountRead::Found { value: left, next }
+}
+
+// The group numbers of a batch whose operations start at `at`: each non-empty group's number, and its immediates in the slots right after it.
+// The answer's value is the group count.
+fn decode_groups(
+    table: &[u8],
+    codes: &[u8],
+    values: &[u64],
+    b: usize,
+    at: usize,
+    deltas: u64,
+    groups: &mut [u64; 8],
+) -> CountRead
+    requires { ⌜ (length (now table) ≡ 128) × (length (now codes) ≡ length (now values)) × Coded (now codes) × (now groups ≡ fitted 8 []) ⌝ }
+    requires { ⌜ (at + total (digits 16 8 deltas) ≤ length (now codes)) × (upTo 9 (digits 16 8 deltas) ≡ true) ⌝ }
+    ensures reply { λ r. ⌜ r ≡ counted length (slots (now (table .entry)) b (digits 16 8 deltas) [] (operations (now (codes .entry)) (now (values .entry))) at) ⌝ }
+    ensures left { λ _. ⌜ IfFound (λ (vs : List ℕ) (end : ℕ). (now (groups .exit) ≡ fitted 8 vs) × (length vs ≤ 8) × (end ≤ length (now (codes .entry)))) (slots (now (table .entry)) b (digits 16 8 deltas) [] (operations (now (codes .entry)) (now (values .entry))) at) ⌝ }
+{
+    let mut left = deltas;
+    let mut from = at;
+    let mut count: usize = 0;
+    let mut g: usize = 0;
+    while g < 8 {
+        let n = (left % 16) as usize;
+        left = left / 16;
+        if n == 0 {
+            g += 1;
+            continue;
+        }
+        let end = from + n;
+        groups[g] = group_number(&codes[from..end]);
+        let r = place_immediates(
+            table,
+            &codes[from..end],
+            &values[from..end],
+            b,
+            left,
+            g + 1,
+            groups,
+        );
+        let CountRead::Found { value, next } = r else {
+            return r;
+        };
+        left = value;
+        from = end;
+        count = next;
+        g = next;
+    }
+    CountRead::Found {
+        value: count as u64,
+        next: from,
+    }
+}
+
+// Whether each flagged group is under the count, non-empty, and ends in opcode 0.
+fn padding_right(codes: &[u8], at: usize, deltas: u64, flags: u8, count: usize) -> bool
+    requires { ⌜ at + total (digits 16 8 deltas) ≤ length (now codes) ⌝ }
+    ensures { λ r. ⌜ PaddingRight (now (codes .entry)) at deltas flags count r ⌝ }
+{
+    let mut left = deltas;
+    let mut bits = flags;
+    let mut from = at;
+    let mut g: usize = 0;
+    while g < 8 {
+        let n = (left % 16) as usize;
+        from += n;
+        left = left / 16;
+        if bits % 2 == 0 {
+            bits = bits / 2;
+            g += 1;
+            continue;
+        }
+        if count <= g {
+            return false;
+        }
+        if n == 0 {
+            return false;
+        }
+        if codes[from - 1] != 0 {
+            return false;
+        }
+        bits = bits / 2;
+        g += 1;
+    }
+    true
+}
+
+// Eight numbers as 64 bytes, from `at` on.
+fn put_groups(groups: &[u64; 8], out: &mut [u8], at: usize)
+    requires { ⌜ (at + 64 ≤ length (now out)) × (length (now groups) ≡ 8) ⌝ }
+    ensures { λ _. ⌜ now (out .exit) ≡ sets (now (out .entry)) at (wordBytes (now (groups .entry))) ⌝ }
+{
+    let mut i: usize = 0;
+    while i < 8 {
+        word::put8(out, at + 8 * i, groups[i]);
+        i += 1;
+    }
+}
+
+// How many operations a batch has.
+fn operations_in(deltas: u64) -> usize
+    ensures { λ r. ⌜ r ≡ total (digits 16 8 deltas) ⌝ }
+{
+    let mut left = deltas;
+    let mut sum: usize = 0;
+    let mut i: usize = 0;
+    while i < 8 {
+        sum = sum + (left % 16) as usize;
+        left = left / 16;
+        i += 1;
+    }
+    sum
+}
+
+// A record's 82 bytes, from `at` on: nine starts, eight flags, eight numbers and the count.
+fn put_record(deltas: u64, flags: u8, groups: &[u64; 8], count: u64, out: &mut [u8], at: usize)
+    requires { ⌜ (at + 82 ≤ length (now out)) × (length (now groups) ≡ 8) × (count ≤ 8) ⌝ }
+    ensures { λ _. ⌜ now (out .exit) ≡ sets (now (out .entry)) at (startsFrom 0 (digits 16 8 deltas) ++ (digits 2 8 flags ++ (wordBytes (now (groups .entry)) ++ (count ∷ [])))) ⌝ }
+{
+    wire::unpack_indptr_deltas(deltas, out, at);
+    wire::unpack_padding(flags, out, at + 9);
+    put_groups(groups, out, at + 17);
+    out[at + 81] = count as u8;
+}
+
+// The b-th batch, of these sizes and flags, in the operations from `at` on; its record goes to the b-th place of the records.
+fn decode_batch(
+    table: &[u8],
+    codes: &[u8],
+    values: &[u64],
+    deltas: u64,
+    flags: u8,
+    b: usize,
+    at: usize,
+    records: &mut [u8],
+) -> CountRead
+    requires { ⌜ (length (now table) ≡ 128) × (length (now codes) ≡ length (now values)) × Coded (now codes) ⌝ }
+    requires { ⌜ (at ≤ length (now codes)) × (upTo 9 (digits 16 8 deltas) ≡ true) × (82 * b + 82 ≤ length (now records)) ⌝ }
+    ensures reply { λ r. ⌜ r ≡ counted (λ (r : Record). r .count) (batchAt 8 (now (table .entry)) (operations (now (codes .entry)) (now (values .entry))) at b (digits 16 8 deltas) (digits 2 8 flags)) ⌝ }
+    ensures runs { λ _. ⌜ IfFound (λ (r : Record) (end : ℕ). (now (records .exit) ≡ sets (now (records .entry)) (82 * b) (recordBytes r)) × (length (recordBytes r) ≡ 82) × (end ≤ length (now (codes .entry)))) (batchAt 8 (now (table .entry)) (operations (now (codes .entry)) (now (values .entry))) at b (digits 16 8 deltas) (digits 2 8 flags)) ⌝ }
+{
+    if codes.len() - at < operations_in(deltas) {
+        return CountRead::Refused {
+            number: 7,
+            place: b,
+        };
+    }
+    let mut groups: [u64; 8] = [0; 8];
+    let r = decode_groups(table, codes, values, b, at, deltas, &mut groups);
+    let CountRead::Found { value, next: _ } = r else {
+        return r;
+    };
+    if !padding_right(codes, at, deltas, flags, value as usize) {
+        return CountRead::Refused {
+            number: 10,
+            place: b,
+        };
+    }
+    put_record(deltas, flags, &groups, value, records, 82 * b);
+    r
+}
+
+// The batches in these operations, one after the other: k batches, their sizes from `sizes` on and their flags from `flags` on.
+fn decode_each(
+    table: &[u8],
+    codes: &[u8],
+    values: &[u64],
+    s: &[u8],
+    sizes: usize,
+    flags: usize,
+    k: usize,
+    records: &mut [u8],
+) -> CountRead
+    requires { ⌜ (length (now table) ≡ 128) × (length (now codes) ≡ length (now values)) × Coded (now codes) ⌝ }
+    requires { ⌜ (sizes + 4 * k ≤ length (now s)) × (flags + k ≤ length (now s)) × (82 * k ≤ length (now records)) ⌝ }
+    requires { ⌜ ((b : ℕ) → b < k → upTo 9 (digits 16 8 (leAt 4 (now s) (sizes + 4 * b))) ≡ true) ⌝ }
+    ensures reply { λ r. ⌜ r ≡ counted length (batchesAt 8 (now (table .entry)) (operations (now (codes .entry)) (now (values .entry))) 0 0 (sizesFrom k (now (s .entry)) sizes) (flagsFrom k (now (s .entry)) flags)) ⌝ }
+    ensures runs { λ _. ⌜ IfFound (λ (rs : List Record) (end : ℕ). RecordsIn (now (records .exit)) rs) (batchesAt 8 (now (table .entry)) (operations (now (codes .entry)) (now (values .entry))) 0 0 (sizesFrom k (now (s .entry)) sizes) (flagsFrom k (now (s .entry)) flags)) ⌝ }
+{
+    let mut b: usize = 0;
+    let mut from: usize = 0;
+    while b < k {
+        let r = decode_batch(
+            table,
+            codes,
+            values,
+            word::le4(s, sizes + 4 * b),
+            s[flags + b],
+            b,
+            from,
+            records,
+        );
+        let CountRead::Found { value: _, next } = r else {
+            return r;
+        };
+        from = next;
+        b += 1;
+    }
+    CountRead::Found {
+        value: k as u64,
+        next: from,
+    }
+}
+
+// Items 4 and 5 from `at` on, all nibbles first, and the batches that they say, which take all operations.
+fn decode_batches(
+    table: &[u8],
+    codes: &[u8],
+    values: &[u64],
+    s: &[u8],
+    at: usize,
+    k: usize,
+    records: &mut [u8],
+) -> CountRead
+    requires { ⌜ (length (now table) ≡ 128) × (length (now codes) ≡ length (now values)) × Coded (now codes) ⌝ }
+    requires { ⌜ (at + 5 * k ≤ length (now s)) × (82 * k ≤ length (now records)) ⌝ }
+    ensures reply { λ r. ⌜ r ≡ counted length (recordsAt (now (table .entry)) (now (s .entry)) (operations (now (codes .entry)) (now (values .entry))) k at) ⌝ }
+    ensures runs { λ _. ⌜ IfFound (λ (rs : List Record) (end : ℕ). RecordsIn (now (records .exit)) rs × (at ≤ end)) (recordsAt (now (table .entry)) (now (s .entry)) (operations (now (codes .entry)) (now (values .entry))) k at) ⌝ }
+{
+    let n = nibbles_right(s, at, k);
+    let CountRead::Found { value: _, next } = n else {
+        return n;
+    };
+    let r = decode_each(table, codes, values, s, at, next, k, records);
+    let CountRead::Found { value, next: end } = r else {
+        return r;
+    };
+    if end < codes.len() {
+        return CountRead::Refused {
+            number: 11,
+            place: 0,
+        };
+    }
+    CountRead::Found {
+        value,
+        next: next + k,
+    }
+}
+
+// ---- the block
+
+fn decode_block(
+    table: &[u8],
+    s: &[u8],
+    at: usize,
+    out_codes: &mut [u8],
+    out_values: &mut [u64],
+    records: &mut [u8],
+) -> Decoded
+    requires { ⌜ length (now table) ≡ 128 ⌝ }
+    ensures reply { λ r. ⌜ r ≡ decodedOf at (blockAt 8 (now (table .entry)) (now (s .entry)) at (roomIn (arena (now («out_codes» .entry)) (now («out_values» .entry)) (now (records .entry))))) ⌝ }
+    ensures runs { λ _. ⌜ IfFound (λ (b : Block) (end : ℕ). OpsIn (now («out_codes» .exit)) (now («out_values» .exit)) (b .ops) × RecordsIn (now (records .exit)) (b .records)) (blockAt 8 (now (table .entry)) (now (s .entry)) at (roomIn (arena (now («out_codes» .entry)) (now («out_values» .entry)) (now (records .entry))))) ⌝ }
+{
+    let c = wire::read_count(s, at);
+    let CountRead::Found { value, next } = c else {
+        return not_counted(c);
+    };
+    let n = value as usize;
+    if out_codes.len() < n {
+        return Decoded::Refused {
+            number: 13,
+            place: 0,
+        };
+    }
+    if out_values.len() < n {
+        return Decoded::Refused {
+            number: 13,
+            place: 0,
+        };
+    }
+    let room = records.len() / 82;
+    let i = read_items(table, s, next, n, room, out_codes, out_values);
+    let CountRead::Found {
+        value: batches,
+        next: sizes,
+    } = i
+    else {
+        return not_counted(i);
+    };
+    let k = batches as usize;
+    let r = decode_batches(
+        table,
+        &out_codes[..n],
+        &out_values[..n],
+        s,
+        sizes,
+        k,
+        records,
+    );
+    let CountRead::Found {
+        value: made,
+        next: end,
+    } = r
+    else {
+        return not_counted(r);
+    };
+    let used = end - at;
+    Decoded::Made {
+        batches: made as usize,
+        operations: n,
+        used,
+    }
+}
+
+// What is looked at first: 3, 14 and 1.
+fn decode_checked(
+    table: &[u8],
+    s: &[u8],
+    at: usize,
+    out_codes: &mut [u8],
+    out_values: &mut [u64],
+    records: &mut [u8],
+) -> Decoded
+    ensures reply { λ r. ⌜ r ≡ decodedOf at (decoded 8 (now (table .entry)) (now (s .entry)) at (roomIn (arena (now («out_codes» .entry)) (now («out_values» .entry)) (now (records .entry))))) ⌝ }
+    ensures runs { λ _. ⌜ IfFound (λ (b : Block) (end : ℕ). OpsIn (now («out_codes» .exit)) (now («out_values» .exit)) (b .ops) × RecordsIn (now (records .exit)) (b .records)) (decoded 8 (now (table .entry)) (now (s .entry)) at (roomIn (arena (now («out_codes» .entry)) (now («out_values» .entry)) (now (records .entry))))) ⌝ }
+{
+    if 1048576 < s.len() {
+        return Decoded::Refused {
+            number: 3,
+            place: 0,
+        };
+    }
+    if !operation::good_table(table) {
+        return Decoded::Refused {
+            number: 14,
+            place: 0,
+        };
+    }
+    if s.len() < at {
+        return Decoded::Refused {
+            number: 1,
+            place: 0,
+        };
+    }
+    decode_block(table, s, at, out_codes, out_values, records)
+}
+
+// Zeros after the first n operations and the first m bytes of records.
+fn clear_after(out_codes: &mut [u8], out_values: &mut [u64], records: &mut [u8], n: usize, m: usize)
+    ensures { λ _. ⌜ arena (now («out_codes» .exit)) (now («out_values» .exit)) (now (records .exit)) ≡ tailless n m (arena (now («out_codes» .entry)) (now («out_values» .entry)) (now (records .entry))) ⌝ }
+{
+    word::zero_bytes(out_codes, n);
+    word::zero_words(out_values, n);
+    word::zero_bytes(records, m);
+}
+
+// The block in `s` from `at` on, into lent runs for opcodes, values and records: content, then zeros; zeros alone where it is refused.
+pub fn decode(
+    table: &[u8],
+    s: &[u8],
+    at: usize,
+    out_codes: &mut [u8],
+    out_values: &mut [u64],
+    records: &mut [u8],
+) -> Decoded
+    ensures { λ r. ⌜ Decodes (now (table .entry)) (now (s .entry)) at (arena (now («out_codes» .entry)) (now («out_values» .entry)) (now (records .entry))) (arena (now («out_codes» .exit)) (now («out_values» .exit)) (now (records .exit))) r ⌝ }
+{
+    let r = decode_checked(table, s, at, out_codes, out_values, records);
+    let Decoded::Made {
+        batches,
+        operations,
+        used: _,
+    } = r
+    else {
+        clear_after(out_codes, out_values, records, 0, 0);
+        return r;
+    };
+    clear_after(out_codes, out_values, records, operations, 82 * batches);
+    r
+}
