@@ -1,0 +1,142 @@
+// show FILE [OFFSET]: prints the batches of the block that starts at a byte of a file, under the virtual machine's own table; or says in one line
+// what is wrong.
+ghost use mathlib.Core.Path.{_≡_};
+ghost use lib.ListN.{length};
+use decoder::Decoded;
+
+const MOST_BYTES: usize = 1048576;
+
+const MOST_BATCHES: usize = 16384;
+
+// Room for a file, and for the largest block. The `ensures` gives the length, which lending an array asks for.
+fn file_room() -> [u8; 1048577]
+    ensures { λ r. ⌜ 1048577 ≡ length r ⌝ }
+{
+    [0; 1048577]
+}
+
+fn codes_room() -> [u8; 65535]
+    ensures { λ r. ⌜ 65535 ≡ length r ⌝ }
+{
+    [0; 65535]
+}
+
+fn values_room() -> [u64; 65535]
+    ensures { λ r. ⌜ 65535 ≡ length r ⌝ }
+{
+    [0; 65535]
+}
+
+fn records_room() -> [u8; 1343488]
+    ensures { λ r. ⌜ 1343488 ≡ length r ⌝ }
+{
+    [0; 1343488]
+}
+
+// A decimal number, or something else.
+enum Number {
+    Is(usize),
+    Not,
+}
+
+fn decimal(text: &[u8]) -> Number {
+    if text.len() == 0 {
+        return Number::Not;
+    }
+    let mut n: usize = 0;
+    let mut i: usize = 0;
+    while i < text.len() {
+        let b = text[i];
+        if b < b'0' {
+            return Number::Not;
+        }
+        if b'9' < b {
+            return Number::Not;
+        }
+        if 100000000 < n {
+            return Number::Not;
+        }
+        n = n * 10 + word::wide(b - b'0') as usize;
+        i += 1;
+    }
+    Number::Is(n)
+}
+
+fn print_block(
+    table: &[u8],
+    codes: &[u8],
+    values: &[u64],
+    records: &[u8],
+    at: usize,
+    batches: usize,
+    operations: usize,
+    used: usize,
+) {
+    listing::say(b"block at byte ");
+    listing::number(at);
+    listing::say(b": ");
+    if MOST_BATCHES < batches {
+        return;
+    }
+    listing::counted(batches, b" batch, ", b" batches, ");
+    listing::counted(operations, b" operation, ", b" operations, ");
+    listing::counted(listing::paddings(records, batches), b" padding, ", b" paddings, ");
+    listing::counted(used, b" byte\n", b" bytes\n");
+    listing::print_batches(table, codes, values, records, batches);
+}
+
+fn show(bytes: &[u8], at: usize) {
+    let table = vm::table();
+    let mut codes = codes_room();
+    let mut values = values_room();
+    let mut records = records_room();
+    let r = decoder::decode(&table, bytes, at, &mut codes, &mut values, &mut records);
+    match r {
+        Decoded::Made {
+            batches,
+            operations,
+            used,
+        } => print_block(&table, &codes, &values, &records, at, batches, operations, used),
+        Decoded::Refused { number, place } => listing::print_refusal(number, place),
+    }
+}
+
+fn show_file(path: &[u8], at: usize) {
+    let fd = os::open_read(path);
+    if fd < 0 {
+        os::fail(path);
+        return;
+    }
+    let mut bytes = file_room();
+    let n = io::read_full(fd, &mut bytes);
+    libc::close(fd);
+    if MOST_BYTES < n {
+        listing::say(b"show: the file is larger than 1048576 bytes\n");
+        return;
+    }
+    show(&bytes[..n], at);
+}
+
+// The offset that the second argument names; 0 where there is none.
+fn offset() -> Number {
+    let mut text = io::buffer();
+    let n = os::arg(2, &mut text);
+    if n == 0 {
+        return Number::Is(0);
+    }
+    decimal(&text[..n])
+}
+
+fn main() {
+    let mut path = io::buffer();
+    let n = os::arg(1, &mut path);
+    if os::errno() != 0 {
+        listing::say(b"usage: show FILE [OFFSET]\n");
+        return;
+    }
+    let at = offset();
+    match at {
+        Number::Is(from) => show_file(&path[..n], from),
+        Number::Not => listing::say(b"show: the offset is not a number of bytes\n"),
+    }
+}
