@@ -1,9 +1,9 @@
-use native.Mathlib.Omega.{arith}
-use denote.Ref.{now}
 use mathlib.Core.Path.{sym, _∙_}
+use native.Mathlib.Omega.{arith}
+use borrow.Author.Needs.{needs}
+use denote.Ref.{now}
 use Rattle.rules.specs.Functions.{arena, roomIn, decoded}
 use Rattle.decoder.proofs.Kept.{Even, refused-kept, made-kept, made-fits}
-use borrow.Author.Needs.{needs}
 use Rattle.decoder.proofs.decode.Statement.{statement}
 use Rattle.decoder.proofs.decode.Tie as tie
 

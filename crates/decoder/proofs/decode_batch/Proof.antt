@@ -1,21 +1,21 @@
 use mathlib.Core.List.{[]}
-use Rattle.rules.specs.Record.{recordBy}
-use Prim.Native.Nat.{ℕ}
-use Rattle.wire.specs.declared.CountRead.the-variants.{Found}
 use mathlib.Core.Path.{refl, sym, ap, _∙_}
+use Prim.Native.Nat.{ℕ}
 use native.Mathlib.Omega.{arith}
 use borrow.Author.Tests.{not-true, not-false}
+use borrow.Author.Needs.{needs}
 use denote.Ref.{now}
 use lib.ListN.{length}
+use Rattle.rules.specs.Record.{recordBy}
 use Rattle.rules.specs.Digits.{digits}
 use Rattle.rules.specs.Operations.{operations}
 use Rattle.rules.specs.Block.{slots}
 use Rattle.rules.proofs.Operations.{length-operations}
 use Rattle.rules.proofs.Runs.{zeros-fitted, fitted-length}
+use Rattle.wire.specs.declared.CountRead.the-variants.{Found}
 use Rattle.decoder.proofs.Stages.{got, lost, held}
 use Rattle.decoder.proofs.Ops.{codes-operations}
 use Rattle.decoder.proofs.Batches.{way-7, way-slots, way-10, way-good, made-size, made-stored}
-use borrow.Author.Needs.{needs}
 use Rattle.decoder.proofs.decode_batch.Statement.{statement}
 use Rattle.decoder.proofs.decode_batch.Tie as tie
 

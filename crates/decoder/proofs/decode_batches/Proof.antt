@@ -1,15 +1,15 @@
-use Prim.Native.Nat.{ℕ, _+_}
-use Rattle.wire.specs.declared.CountRead.the-variants.{Found}
 use mathlib.Core.Path.{refl, sym, ap, _∙_}
+use Prim.Native.Nat.{ℕ, _+_}
 use native.Mathlib.Omega.{arith}
+use borrow.Author.Needs.{needs}
 use denote.Ref.{now}
 use lib.ListN.{length}
 use Rattle.rules.specs.Operations.{operations}
 use Rattle.rules.specs.Bytes.{nibblesAt}
 use Rattle.rules.proofs.Operations.{length-operations}
+use Rattle.wire.specs.declared.CountRead.the-variants.{Found}
 use Rattle.decoder.proofs.Stages.{got, lost, held}
 use Rattle.decoder.proofs.Blocks as B
-use borrow.Author.Needs.{needs}
 use Rattle.decoder.proofs.decode_batches.Statement.{statement}
 use Rattle.decoder.proofs.decode_batches.Tie as tie
 

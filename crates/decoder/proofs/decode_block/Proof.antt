@@ -1,18 +1,18 @@
-use Prim.Native.Nat.{ℕ, _-_}
-use Rattle.decoder.specs.declared.Decoded.the-variants.{Made}
-use Rattle.rules.specs.Block.{Head}
-use Rattle.decoder.specs.Replies.{handCount, itemsAt, recordsAt}
 use mathlib.Core.Path.{refl, sym, ap, ap₂, _∙_}
+use Prim.Native.Nat.{ℕ, _-_}
 use native.Mathlib.Omega.{arith}
+use borrow.Author.Needs.{needs}
 use denote.Ref.{now}
 use lib.ListN.{length}
 use lib.Seq.{length-take-le}
+use Rattle.rules.specs.Block.{Head}
 use Rattle.rules.specs.Bytes.{countAt}
 use Rattle.rules.specs.Functions.{arena, roomIn}
+use Rattle.decoder.specs.declared.Decoded.the-variants.{Made}
+use Rattle.decoder.specs.Replies.{handCount, itemsAt, recordsAt}
 use Rattle.decoder.proofs.Stages.{got, lost, held, count-found, count-lost}
 use Rattle.decoder.proofs.Ops.{items-in, count-on}
 use Rattle.decoder.proofs.Blocks as B
-use borrow.Author.Needs.{needs}
 use Rattle.decoder.proofs.decode_block.Statement.{statement}
 use Rattle.decoder.proofs.decode_block.Tie as tie
 

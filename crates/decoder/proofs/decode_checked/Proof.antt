@@ -1,10 +1,10 @@
 use mathlib.Core.Path.{refl, sym, _∙_}
 use native.Mathlib.Omega.{arith}
 use borrow.Author.Tests.{not-true, not-false}
+use borrow.Author.Needs.{needs}
 use denote.Ref.{now}
 use Rattle.rules.proofs.Operations.{table-128}
 use Rattle.decoder.proofs.Blocks as B
-use borrow.Author.Needs.{needs}
 use Rattle.decoder.proofs.decode_checked.Statement.{statement}
 use Rattle.decoder.proofs.decode_checked.Tie as tie
 

@@ -1,12 +1,12 @@
 use mathlib.Core.Path.{sym, ap, _∙_}
-use native.Mathlib.Omega.{arith}
-use denote.Ref.{now}
 use Prim.Native.Nat.{_-_, _%_}
+use native.Mathlib.Omega.{arith}
+use borrow.Author.Needs.{needs}
+use denote.Ref.{now}
 use lib.ListN.{take}
 use lib.Seq.{length-take-le}
 use Rattle.wire.specs.declared.CountRead.the-variants.{Found}
 use Rattle.decoder.proofs.Groups as G
-use borrow.Author.Needs.{needs}
 use Rattle.decoder.proofs.decode_groups.Statement.{statement}
 use Rattle.decoder.proofs.decode_groups.Tie as tie
 

@@ -1,8 +1,8 @@
 use mathlib.Core.Path.{_≡_, sym}
+use Prim.Native.Nat.{_-_, _^_, _≤_, _<_}
 use native.Mathlib.Omega.{arith}
 use borrow.Author.Needs.{needs}
 use denote.Ref.{now}
-use Prim.Native.Nat.{_-_, _^_, _≤_, _<_}
 use lib.ListN.{length, drop}
 use Rattle.rules.specs.Digits.{number}
 use Rattle.decoder.proofs.Groups.{number-turn, number-end, power-turn, power-most}

@@ -1,15 +1,15 @@
-use Rattle.wire.specs.declared.CountRead.the-variants.{Found}
 use mathlib.Core.Path.{_≡_, sym, ap, _∙_}
 use mathlib.Core.List.{List}
+use Prim.Native.Nat.{ℕ, _+_, _*_, _≤_, _-_}
 use native.Mathlib.Nat.{sub-zero, zero-add}
 use native.Mathlib.Omega.{arith}
 use borrow.Author.Needs.{needs}
 use borrow.Author.Tests.{not-true, not-false}
 use denote.Ref.{now}
-use Prim.Native.Nat.{ℕ, _+_, _*_, _≤_, _-_}
 use lib.ListN.{length}
 use Rattle.rules.specs.Digits.{digits}
 use Rattle.rules.specs.Bytes.{nibblesAt, upTo}
+use Rattle.wire.specs.declared.CountRead.the-variants.{Found}
 use Rattle.decoder.specs.Replies.{counted}
 use Rattle.decoder.proofs.Sizes.{turn, stop, done}
 use Rattle.decoder.proofs.nibbles_right.Statement.{statement}

@@ -1,8 +1,8 @@
 use mathlib.Core.Path.{_≡_}
+use Prim.Native.Nat.{_+_, _-_, _*_, _≤_}
 use native.Mathlib.Nat.{zero-add}
 use native.Mathlib.Omega.{arith}
 use borrow.Author.Needs.{needs}
-use Prim.Native.Nat.{_+_, _-_, _*_, _≤_}
 use Rattle.rules.specs.Lists.{total}
 use Rattle.rules.specs.Digits.{digits}
 use Rattle.decoder.proofs.Groups.{total-turn, total-end}

@@ -1,12 +1,12 @@
-use lib.ListN.{length, take}
-use Rattle.rules.specs.Block.{cut, paddingRight}
 use mathlib.Core.Path.{_≡_, sym, _∙_}
 use mathlib.Core.List.{List}
+use Prim.Native.Nat.{_+_, _-_, _≤_}
 use native.Mathlib.Omega.{arith}
 use native.Mathlib.Nat.{sub-zero}
 use borrow.Author.Needs.{needs}
 use borrow.Author.Tests.{eq-eqb, ne-eqb}
-use Prim.Native.Nat.{_+_, _-_, _≤_}
+use lib.ListN.{length, take}
+use Rattle.rules.specs.Block.{cut, paddingRight}
 use Rattle.rules.specs.Lists.{total}
 use Rattle.rules.specs.Digits.{digits}
 use Rattle.rules.specs.Operations.{Op}

@@ -1,8 +1,8 @@
 use native.Mathlib.Omega.{arith}
+use borrow.Author.Needs.{needs}
 use denote.Ref.{now}
 use lib.ListN.{length-set}
 use Rattle.decoder.proofs.Stores.{record-stored}
-use borrow.Author.Needs.{needs}
 use Rattle.decoder.proofs.put_record.Statement.{statement}
 use Rattle.decoder.proofs.put_record.Tie as tie
 

@@ -1,10 +1,10 @@
 use mathlib.Core.Path.{refl, sym, _∙_}
+use borrow.Author.Needs.{needs}
 use denote.Ref.{now}
 use lib.ListN.{length}
 use Rattle.rules.specs.Bytes.{opsAt, batchCountAt}
 use Rattle.decoder.proofs.Stages.{got, lost, held, count-found, count-lost}
 use Rattle.decoder.proofs.Ops.{items-lost, items-uncounted, items-13, items-good}
-use borrow.Author.Needs.{needs}
 use Rattle.decoder.proofs.read_items.Statement.{statement}
 use Rattle.decoder.proofs.read_items.Tie as tie
 

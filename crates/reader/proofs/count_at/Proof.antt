@@ -1,9 +1,9 @@
 use native.Mathlib.Omega.{arith}
 use borrow.Author.Tests.{lt-ltb, le-ltb}
+use borrow.Author.Needs.{needs}
 use denote.Ref.{now}
 use lib.ListN.{length}
 use Rattle.reader.specs.Here.{countHere}
-use borrow.Author.Needs.{needs}
 use Rattle.reader.proofs.count_at.Statement.{statement}
 use Rattle.reader.proofs.count_at.Tie as tie
 

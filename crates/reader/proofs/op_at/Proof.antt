@@ -1,11 +1,11 @@
 use mathlib.Core.Path.{sym, _∙_}
 use native.Mathlib.Omega.{arith}
 use borrow.Author.Tests.{lt-ltb, le-ltb, not-true, not-false}
+use borrow.Author.Needs.{needs}
 use denote.Ref.{now}
 use lib.ListN.{length}
 use Rattle.rules.proofs.Operations.{table-128}
 use Rattle.reader.specs.Here.{opHere}
-use borrow.Author.Needs.{needs}
 use Rattle.reader.proofs.op_at.Statement.{statement}
 use Rattle.reader.proofs.op_at.Tie as tie
 
