@@ -1,0 +1,205 @@
+-- The items of a block, written one after the other, and their lengths. Assumes nothing.
+use mathlib.Core.Path.{_≡_, refl, sym, ap, _∙_}
+use mathlib.Core.Bool.{Bool, true, false, cond, _&&_}
+use mathlib.Core.List.{List, [], _∷_, _++_}
+use Prim.Native.Nat.{ℕ, zero, suc, _+_, _-_, _*_, _/_, _^_, _≤_, _<_}
+use native.Mathlib.Numerals.{add-one}
+use native.Mathlib.Nat.{sub-zero}
+use native.Mathlib.Omega.{arith}
+use borrow.Author.Tests.{ne-eqb}
+use lib.ListN.{length, getD, drop, set, length-append, drop-of-length-le}
+use lib.Seq.{sets, drop-cons}
+use lib.Dec.{leb, eqb}
+use Rattle.rules.specs.Lists.{every}
+use Rattle.rules.specs.Digits.{number, leBytes}
+use Rattle.rules.specs.Operations.{Op, operations, valued}
+use Rattle.rules.specs.Record.{Record, differences, bytesAt, recordAt, recordsFrom, recordsIn}
+use Rattle.rules.specs.Bytes.{more, countBytes, opBytes, opsBytes, nibbleBytes, flagBytes}
+use Rattle.rules.specs.Block.{blockBytes}
+use Rattle.rules.specs.Checks.{ninth, startsRight, recordRight}
+use Rattle.rules.specs.Functions.{arena, blockIn}
+use Rattle.rules.proofs.Digits.{split, length-leBytes, sets-append}
+use Rattle.rules.proofs.Operations.{op, kind-at, length-operations, operations-turn, operations-end, true-left, true-right}
+use Rattle.wire.proofs.Laws.{more-0, more-1, more-2}
+use Rattle.checks.proofs.Walk.{records-turn, records-end}
+use Rattle.encoder.specs.Replies.{opsSize}
+
+-- one list stored after another
+next : (l : List ℕ) (at : ℕ) (xs : List ℕ) (k : ℕ) (ys : List ℕ) → k ≡ at + length xs → sets (sets l at xs) k ys ≡ sets l at (xs ++ ys)
+next l at xs k ys h = rw h (sym (sets-append l at xs ys))
+
+-- ---- operations
+
+module _ (t cs : List ℕ) (i : ℕ) where
+  module _ (h : i < length cs) (k : getD cs i 0 < length t) where
+    pub size-plain : getD t (getD cs i 0) 0 ≡ 0 → opsSize t (drop i cs) ≡ 1 + opsSize t (drop (i + 1) cs)
+    unfolding opsSize valued
+    size-plain e = rw (add-one i, drop-cons cs i 0 h, kind-at t (getD cs i 0) k, e)
+
+    pub size-valued : (getD t (getD cs i 0) 0 ≡ 0 → ⊥) → opsSize t (drop i cs) ≡ 9 + opsSize t (drop (i + 1) cs)
+    unfolding opsSize valued
+    size-valued e = rw (add-one i, drop-cons cs i 0 h, kind-at t (getD cs i 0) k, ne-eqb (getD t (getD cs i 0) 0) 0 e)
+
+  pub size-end : length cs ≤ i → opsSize t (drop i cs) ≡ 0
+  unfolding opsSize
+  size-end h = rw (drop-of-length-le cs {i = i} h)
+
+op-size : (t : List ℕ) (x : Op) → length (opBytes t x) ≡ cond (valued t (x .code)) 9 1
+unfolding opBytes
+op-size t x = go (valued t (x .code))
+  where
+    go : (b : Bool) → suc (length (cond b (leBytes 8 (x .value)) [])) ≡ cond b 9 1
+    go true = ap suc (length-leBytes 8 (x .value))
+    go false = refl
+
+ops-size : (t cs vs : List ℕ) → length cs ≡ length vs → length (opsBytes t (operations cs vs)) ≡ opsSize t cs
+unfolding operations opsBytes opsSize
+ops-size t [] vs h = refl
+ops-size t (c ∷ cs) [] h = absurd (omega arith)
+ops-size t (c ∷ cs) (v ∷ vs) h =
+    length-append (opBytes t (op c v)) (opsBytes t (operations cs vs)) ∙ omega (arith, op-size t (op c v), ops-size t cs vs (omega arith))
+
+module _ (t cs vs : List ℕ) (i : ℕ) where
+  abbrev pub left : List ℕ
+  left = opsBytes t (operations (drop i cs) (drop i vs))
+
+  pub ops-turn : i < length cs → i < length vs → left ≡ opBytes t (op (getD cs i 0) (getD vs i 0)) ++ opsBytes t (operations (drop (i + 1) cs) (drop (i + 1) vs))
+  unfolding opsBytes
+  ops-turn h k = rw (operations-turn cs vs i h k)
+
+  pub ops-end : length cs ≤ i → left ≡ []
+  unfolding opsBytes
+  ops-end h = rw (operations-end cs vs i h)
+
+-- ---- the sizes and flags of each record
+
+module _ (rs : List ℕ) (n b : ℕ) where
+  pub deltas-turn : (l : List ℕ) (at : ℕ) → b < n
+      → sets (sets l (at + 4 * b) (leBytes 4 (number 16 (differences (bytesAt 9 rs (82 * b)))))) (at + 4 * (b + 1)) (nibbleBytes (recordsFrom (n - (b + 1)) rs (b + 1)))
+      ≡ sets l (at + 4 * b) (nibbleBytes (recordsFrom (n - b) rs b))
+  unfolding nibbleBytes recordAt
+  deltas-turn l at h =
+      let v = number 16 (differences (bytesAt 9 rs (82 * b))) in
+      rw (records-turn n rs b h) (next l (at + 4 * b) (leBytes 4 v) (at + 4 * (b + 1)) (nibbleBytes (recordsFrom (n - (b + 1)) rs (b + 1))) (omega (arith, length-leBytes 4 v)))
+
+  pub flags-turn : (l : List ℕ) (at : ℕ) → b < n
+      → sets (set l (at + b) (number 2 (bytesAt 8 rs (82 * b + 9)))) (at + (b + 1)) (flagBytes (recordsFrom (n - (b + 1)) rs (b + 1))) ≡ sets l (at + b) (flagBytes (recordsFrom (n - b) rs b))
+  unfolding flagBytes recordAt
+  flags-turn l at h = let e : at + (b + 1) ≡ suc (at + b) = omega arith in rw (records-turn n rs b h, e)
+
+  pub deltas-end : (l : List ℕ) (at : ℕ) → n ≤ b → sets l at (nibbleBytes (recordsFrom (n - b) rs b)) ≡ l
+  unfolding nibbleBytes
+  deltas-end l at h = rw (records-end n rs b h)
+
+  pub flags-end : (l : List ℕ) (at : ℕ) → n ≤ b → sets l at (flagBytes (recordsFrom (n - b) rs b)) ≡ l
+  unfolding flagBytes
+  flags-end l at h = rw (records-end n rs b h)
+
+pub all-records : (rs : List ℕ) → recordsFrom (length rs / 82 - 0) rs 0 ≡ recordsIn rs
+unfolding recordsIn
+all-records rs = rw sub-zero
+
+-- what the structure test says of them
+module _ (rs : List ℕ) (b : ℕ) (h : recordRight 8 (recordAt rs b) ≡ true) where
+  abbrev r : Record
+  r = recordAt rs b
+
+  abbrev flags : Bool
+  flags = every (λ (f : ℕ). leb f 1) (r .flags)
+
+  abbrev first : Bool
+  first = eqb (getD (r .starts) 0 0) 0
+
+  abbrev last : Bool
+  last = eqb (getD (r .starts) (r .count) 0) (ninth r)
+
+  rest : (flags && (first && (startsRight (r .starts) && last))) ≡ true
+  unfolding recordRight
+  rest = true-right (leb (r .count) 8) (flags && (first && (startsRight (r .starts) && last))) h
+
+  pub right-flags : every (λ (f : ℕ). leb f 1) (bytesAt 8 rs (82 * b + 9)) ≡ true
+  unfolding recordAt
+  right-flags = true-left flags (first && (startsRight (r .starts) && last)) rest
+
+  pub right-starts : startsRight (bytesAt 9 rs (82 * b)) ≡ true
+  unfolding recordAt
+  right-starts = true-left (startsRight (r .starts)) last (true-right first (startsRight (r .starts) && last) (true-right flags (first && (startsRight (r .starts) && last)) rest))
+
+-- ---- lengths
+
+pub more-most : (v : ℕ) → more v ≤ 2
+more-most v = split v 128 (λ h. omega (arith, more-0 v h)) (λ h. split v 16384 (λ k. omega (arith, more-1 v h k)) (λ k. omega (arith, more-2 v k)))
+
+length-count : (v : ℕ) → length (countBytes v) ≡ more v + 1
+unfolding countBytes
+length-count v = length-leBytes (more v + 1) ((2 * v + 1) * 2 ^ more v)
+
+length-nibbles : (rs : List Record) → length (nibbleBytes rs) ≡ 4 * length rs
+unfolding nibbleBytes
+length-nibbles [] = refl
+length-nibbles (r ∷ rs) =
+    let v = number 16 (differences (r .starts)) in
+    length-append (leBytes 4 v) (nibbleBytes rs) ∙ omega (arith, length-leBytes 4 v, length-nibbles rs)
+
+length-flags : (rs : List Record) → length (flagBytes rs) ≡ length rs
+unfolding flagBytes
+length-flags [] = refl
+length-flags (r ∷ rs) = ap suc (length-flags rs)
+
+length-from : (k : ℕ) (s : List ℕ) (b : ℕ) → length (recordsFrom k s b) ≡ k
+unfolding recordsFrom
+length-from zero s b = refl
+length-from (suc k) s b = ap suc (length-from k s (b + 1))
+
+length-records : (rs : List ℕ) → length (recordsIn rs) ≡ length rs / 82
+unfolding recordsIn
+length-records rs = length-from (length rs / 82) rs 0
+
+-- ---- the block
+
+module _ (t cs vs rs : List ℕ) (e : length cs ≡ length vs) where
+  abbrev bytes : List ℕ
+  bytes = blockBytes t (blockIn (arena cs vs rs))
+
+  abbrev items : List ℕ
+  items = countBytes (length cs) ++ (opsBytes t (operations cs vs) ++ (leBytes 4 (length rs / 82) ++ (nibbleBytes (recordsIn rs) ++ flagBytes (recordsIn rs))))
+
+  block-items : bytes ≡ items
+  unfolding blockBytes blockIn
+  block-items = rw (length-operations cs vs e, length-records rs)
+
+  -- how long each item is, and all together
+  pub record Long : Type 0 where
+    pub count : length (countBytes (length cs)) ≡ more (length cs) + 1
+    pub ops : length (opsBytes t (operations cs vs)) ≡ opsSize t cs
+    pub all : length bytes ≡ 5 * (length rs / 82) + 4 + (more (length cs) + 1) + opsSize t cs
+
+  pub long : Long
+  long =
+      let c = length-count (length cs) in
+      let o = ops-size t cs vs e in
+      let k = length-leBytes 4 (length rs / 82) in
+      let n = length-nibbles (recordsIn rs) in
+      let f = length-flags (recordsIn rs) in
+      let m = length-records rs in
+      record {
+        count = c;
+        ops = o;
+        all = ap length block-items ∙ simp length-append (omega arith);
+      }
+
+  -- its items, stored one after the other
+  pub block-stored : (l : List ℕ) (at p q : ℕ) → p ≡ at + more (length cs) + 1 → q ≡ p + length (opsBytes t (operations cs vs))
+      → sets (sets (sets (sets (sets l at (countBytes (length cs))) p (opsBytes t (operations cs vs))) q (leBytes 4 (length rs / 82))) (q + 4) (nibbleBytes (recordsIn rs))) (q + 4 + 4 * (length rs / 82)) (flagBytes (recordsIn rs))
+      ≡ sets l at bytes
+  block-stored l at p q h k =
+      let c = countBytes (length cs) in
+      let o = opsBytes t (operations cs vs) in
+      let b = leBytes 4 (length rs / 82) in
+      let n = nibbleBytes (recordsIn rs) in
+      let f = flagBytes (recordsIn rs) in
+      next (sets (sets (sets l at c) p o) q b) (q + 4) n (q + 4 + 4 * (length rs / 82)) f (omega (arith, length-nibbles (recordsIn rs), length-records rs))
+      ∙ next (sets (sets l at c) p o) q b (q + 4) (n ++ f) (omega (arith, length-leBytes 4 (length rs / 82)))
+      ∙ next (sets l at c) p o q (b ++ (n ++ f)) k
+      ∙ next l at c p (o ++ (b ++ (n ++ f))) (omega (arith, length-count (length cs)))
+      ∙ ap (sets l at) (sym block-items)
