@@ -3,19 +3,29 @@ use mathlib.Core.Path.{_≡_, refl}
 use mathlib.Core.List.{List}
 use mathlib.Core.Option.{Option, none, some}
 use Prim.Native.Nat.{ℕ}
-use Rattle.rules.specs.Answer.{Answer, good, refused}
+use Rattle.rules.specs.Answer.{Answer, good, refused, Read}
 use Rattle.rules.specs.Record.{Block}
 use Rattle.rules.specs.Lookups.{Place}
 use Rattle.operation.specs.Verdict.{verdictOf}
 use Rattle.build.specs.Outcome.{builtOf}
+use Rattle.encoder.specs.Replies.{encodedOf}
+use Rattle.decoder.specs.Replies.{decodedOf}
 use Rattle.prefix.specs.Tables.{tabledOf, paddedFound, rawFound}
 use Rattle.op_batch.specs.OpBatch.{lookupOf, nextOf}
-use Rattle.exports.specs.Replies.{buildReply, checkReply, tableReply, indexReply, groupReply, nextReply}
-use Rattle.exports.specs.Flat.{flatBuilt, flatVerdict, flatTabled, flatPadded, flatRaw, flatGroup, flatNext}
+use Rattle.exports.specs.Replies.{buildReply, encodeReply, decodeReply, checkReply, tableReply, indexReply, groupReply, nextReply}
+use Rattle.exports.specs.Flat.{flatBuilt, flatEncoded, flatDecoded, flatVerdict, flatTabled, flatPadded, flatRaw, flatGroup, flatNext}
 
 pub cross-built : (d : Answer Block) → flatBuilt (builtOf d) ≡ buildReply d
 cross-built (good b) = refl
 cross-built (refused n p) = refl
+
+pub cross-encoded : (d : Answer (List ℕ)) → flatEncoded (encodedOf d) ≡ encodeReply d
+cross-encoded (good bytes) = refl
+cross-encoded (refused n p) = refl
+
+pub cross-decoded : (at : ℕ) (d : Read Block) → flatDecoded (decodedOf at d) ≡ decodeReply at d
+cross-decoded at (good i) = refl
+cross-decoded at (refused n p) = refl
 
 pub cross-verdict : (d : Answer Unit) → flatVerdict (verdictOf d) ≡ checkReply d
 cross-verdict (good u) = refl

@@ -4,6 +4,10 @@ use Rattle.operation.specs.declared.Verdict.{Verdict}
 use Rattle.operation.specs.declared.Verdict.the-variants as verdict
 use Rattle.build.specs.declared.Built.{Built}
 use Rattle.build.specs.declared.Built.the-variants as built
+use Rattle.encoder.specs.declared.Encoded.{Encoded}
+use Rattle.encoder.specs.declared.Encoded.the-variants as encoded
+use Rattle.decoder.specs.declared.Decoded.{Decoded}
+use Rattle.decoder.specs.declared.Decoded.the-variants as decoded
 use Rattle.prefix.specs.declared.Tabled.{Tabled}
 use Rattle.prefix.specs.declared.Tabled.the-variants as tabled
 use Rattle.prefix.specs.declared.PaddedFound.{PaddedFound}
@@ -15,6 +19,8 @@ use Rattle.op_batch.specs.declared.Lookup.the-variants as lookup
 use Rattle.op_batch.specs.declared.NextGroup.{NextGroup}
 use Rattle.op_batch.specs.declared.NextGroup.the-variants as next
 use Rattle.exports.specs.declared.BuildReply.{BuildReply}
+use Rattle.exports.specs.declared.EncodeReply.{EncodeReply}
+use Rattle.exports.specs.declared.DecodeReply.{DecodeReply}
 use Rattle.exports.specs.declared.CheckReply.{CheckReply}
 use Rattle.exports.specs.declared.TableReply.{TableReply}
 use Rattle.exports.specs.declared.IndexReply.{IndexReply}
@@ -24,6 +30,14 @@ use Rattle.exports.specs.declared.NextReply.{NextReply}
 abbrev pub flatBuilt : Built → BuildReply
 flatBuilt (built.Made b o) = record { number = 0; place = 0; batches = b; operations = o }
 flatBuilt (built.Refused n p) = record { number = n; place = p; batches = 0; operations = 0 }
+
+abbrev pub flatEncoded : Encoded → EncodeReply
+flatEncoded (encoded.Written n) = record { number = 0; place = 0; length = n }
+flatEncoded (encoded.Refused n p) = record { number = n; place = p; length = 0 }
+
+abbrev pub flatDecoded : Decoded → DecodeReply
+flatDecoded (decoded.Made b o u) = record { number = 0; place = 0; batches = b; operations = o; used = u }
+flatDecoded (decoded.Refused n p) = record { number = n; place = p; batches = 0; operations = 0; used = 0 }
 
 abbrev pub flatVerdict : Verdict → CheckReply
 flatVerdict verdict.Passed = record { number = 0; place = 0 }

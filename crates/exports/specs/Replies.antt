@@ -3,15 +3,17 @@ use mathlib.Core.Path.{_≡_}
 use mathlib.Core.Bool.{not}
 use mathlib.Core.List.{List}
 use mathlib.Core.Option.{Option, none, some}
-use Prim.Native.Nat.{ℕ}
+use Prim.Native.Nat.{ℕ, _-_}
 use lib.ListN.{length}
 use lib.Dec.{eqb}
-use Rattle.rules.specs.Answer.{Answer, good, refused, refuse}
+use Rattle.rules.specs.Answer.{Answer, good, refused, refuse, Read}
 use Rattle.rules.specs.Record.{Block, recordSize, recordAt}
 use Rattle.rules.specs.Block.{Room}
 use Rattle.rules.specs.Lookups.{Place}
-use Rattle.rules.specs.Functions.{Arena, roomIn, filled, blockLeft, tableLeft, groupLookup, nextLookup}
+use Rattle.rules.specs.Functions.{Arena, roomIn, filled, blockLeft, written, readLeft, tableLeft, groupLookup, nextLookup}
 use Rattle.exports.specs.declared.BuildReply.{BuildReply}
+use Rattle.exports.specs.declared.EncodeReply.{EncodeReply}
+use Rattle.exports.specs.declared.DecodeReply.{DecodeReply}
 use Rattle.exports.specs.declared.CheckReply.{CheckReply}
 use Rattle.exports.specs.declared.TableReply.{TableReply}
 use Rattle.exports.specs.declared.IndexReply.{IndexReply}
@@ -26,6 +28,24 @@ buildReply (refused n p) = record { number = n; place = p; batches = 0; operatio
 pub record Builds (answer : Room → Answer Block) (r : BuildReply) (before after : Arena) : Type 0 where
   pub reply : r ≡ buildReply (answer (roomIn before))
   pub runs : after ≡ filled before (blockLeft (answer (roomIn before)))
+
+abbrev pub encodeReply : Answer (List ℕ) → EncodeReply
+encodeReply (good bytes) = record { number = 0; place = 0; length = length bytes }
+encodeReply (refused n p) = record { number = n; place = p; length = 0 }
+
+-- encode's reply and what it leaves in the lent buffer
+pub record Writes (answer : Answer (List ℕ)) (at : ℕ) (r : EncodeReply) (before after : List ℕ) : Type 0 where
+  pub reply : r ≡ encodeReply answer
+  pub bytes : after ≡ written before at answer
+
+abbrev pub decodeReply : ℕ → Read Block → DecodeReply
+decodeReply at (good i) = record { number = 0; place = 0; batches = length (i .item .records); operations = length (i .item .ops); used = i .next - at }
+decodeReply at (refused n p) = record { number = n; place = p; batches = 0; operations = 0; used = 0 }
+
+-- decode's reply and what it leaves in the lent runs; `answer` is what the rules answer for a room
+pub record Reads (answer : Room → Read Block) (at : ℕ) (r : DecodeReply) (before after : Arena) : Type 0 where
+  pub reply : r ≡ decodeReply at (answer (roomIn before))
+  pub runs : after ≡ filled before (readLeft (answer (roomIn before)))
 
 abbrev pub checkReply : Answer Unit → CheckReply
 checkReply (good u) = record { number = 0; place = 0 }

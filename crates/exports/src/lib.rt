@@ -4,10 +4,12 @@ ghost use mathlib.Core.Path.{_≡_};
 ghost use lib.ListN.{length};
 ghost use Rattle.rules.specs.Record.{recordAt};
 ghost use Rattle.rules.specs.Lookups.{paddedIndex, rawIndex};
-ghost use Rattle.rules.specs.Functions.{arena, built, structureChecked, paddingChecked, commitmentChecked, rawTabled, paddedTabled, groupLookup, nextLookup};
-ghost use Rattle.exports.specs.Replies.{Builds, checkReply, Tables, indexReply, oneRecord, groupReply, nextReply};
-ghost use Rattle.exports.specs.Flat.{flatBuilt, flatVerdict, flatTabled, flatPadded, flatRaw, flatGroup, flatNext};
+ghost use Rattle.rules.specs.Functions.{arena, built, encoded, decoded, structureChecked, paddingChecked, commitmentChecked, rawTabled, paddedTabled, groupLookup, nextLookup};
+ghost use Rattle.exports.specs.Replies.{Builds, Writes, Reads, checkReply, Tables, indexReply, oneRecord, groupReply, nextReply};
+ghost use Rattle.exports.specs.Flat.{flatBuilt, flatEncoded, flatDecoded, flatVerdict, flatTabled, flatPadded, flatRaw, flatGroup, flatNext};
 use build::Built;
+use decoder::Decoded;
+use encoder::Encoded;
 use op_batch::Lookup;
 use op_batch::NextGroup;
 use operation::Verdict;
@@ -23,6 +25,22 @@ pub struct BuildReply {
     pub place: usize,
     pub batches: usize,
     pub operations: usize,
+}
+
+#[repr(C)]
+pub struct EncodeReply {
+    pub number: u8,
+    pub place: usize,
+    pub length: usize,
+}
+
+#[repr(C)]
+pub struct DecodeReply {
+    pub number: u8,
+    pub place: usize,
+    pub batches: usize,
+    pub operations: usize,
+    pub used: usize,
 }
 
 #[repr(C)]
@@ -98,6 +116,80 @@ pub extern "C" fn oli_build(
 {
     let r = build::build(table, codes, values, out_codes, out_values, records);
     flat_built(r)
+}
+
+// ---- a block's bytes
+
+fn flat_encoded(r: Encoded) -> EncodeReply
+    ensures { λ a. ⌜ a ≡ flatEncoded r ⌝ }
+{
+    match r {
+        Encoded::Written { length } => EncodeReply {
+            number: 0,
+            place: 0,
+            length,
+        },
+        Encoded::Refused { number, place } => EncodeReply {
+            number,
+            place,
+            length: 0,
+        },
+    }
+}
+
+#[no_mangle]
+pub extern "C" fn oli_encode(
+    table: &[u8],
+    codes: &[u8],
+    values: &[u64],
+    records: &[u8],
+    out: &mut [u8],
+    at: usize,
+) -> EncodeReply
+    ensures { λ r. ⌜ Writes (encoded 8 (now (table .entry)) (arena (now (codes .entry)) (now (values .entry)) (now (records .entry))) (length (now (out .entry))) at) at r (now (out .entry)) (now (out .exit)) ⌝ }
+{
+    let r = encoder::encode(table, codes, values, records, out, at);
+    flat_encoded(r)
+}
+
+fn flat_decoded(r: Decoded) -> DecodeReply
+    ensures { λ a. ⌜ a ≡ flatDecoded r ⌝ }
+{
+    match r {
+        Decoded::Made {
+            batches,
+            operations,
+            used,
+        } => DecodeReply {
+            number: 0,
+            place: 0,
+            batches,
+            operations,
+            used,
+        },
+        Decoded::Refused { number, place } => DecodeReply {
+            number,
+            place,
+            batches: 0,
+            operations: 0,
+            used: 0,
+        },
+    }
+}
+
+#[no_mangle]
+pub extern "C" fn oli_decode(
+    table: &[u8],
+    bytes: &[u8],
+    at: usize,
+    out_codes: &mut [u8],
+    out_values: &mut [u64],
+    records: &mut [u8],
+) -> DecodeReply
+    ensures { λ r. ⌜ Reads (decoded 8 (now (table .entry)) (now (bytes .entry)) at) at r (arena (now («out_codes» .entry)) (now («out_values» .entry)) (now (records .entry))) (arena (now («out_codes» .exit)) (now («out_values» .exit)) (now (records .exit))) ⌝ }
+{
+    let r = decoder::decode(table, bytes, at, out_codes, out_values, records);
+    flat_decoded(r)
 }
 
 // ---- checks

@@ -80,7 +80,11 @@ fn print_block(
     }
     listing::counted(batches, b" batch, ", b" batches, ");
     listing::counted(operations, b" operation, ", b" operations, ");
-    listing::counted(listing::paddings(records, batches), b" padding, ", b" paddings, ");
+    listing::counted(
+        listing::paddings(records, batches),
+        b" padding, ",
+        b" paddings, ",
+    );
     listing::counted(used, b" byte\n", b" bytes\n");
     listing::print_batches(table, codes, values, records, batches);
 }
@@ -96,7 +100,16 @@ fn show(bytes: &[u8], at: usize) {
             batches,
             operations,
             used,
-        } => print_block(&table, &codes, &values, &records, at, batches, operations, used),
+        } => print_block(
+            &table,
+            &codes,
+            &values,
+            &records,
+            at,
+            batches,
+            operations,
+            used,
+        ),
         Decoded::Refused { number, place } => listing::print_refusal(number, place),
     }
 }
