@@ -1,0 +1,96 @@
+//! Times the original on lists of operations, and with the feature `port` the port beside it.
+//!
+//! `cargo run --release -p bench [-- SIZES [ROUNDS]]`, for example `-- 100,1000,16384 1000`.
+//!
+//! All contenders for one function on one list take turns in the same run. A turn is one sample:
+//! as many calls as make about 16,384 operations, under one reading of the clock; what the calls
+//! give back is freed after the clock has stopped. The table has the best and the median of the
+//! samples, in nanoseconds per operation of the list.
+
+mod floor;
+mod lists;
+mod original;
+#[cfg(feature = "port")]
+mod port;
+mod timing;
+
+use std::{env, process::exit};
+
+use lists::{List, Mix};
+use timing::{Task, compare};
+
+/// One who is timed: a name, and what it does on a list, prepared and ready to be called.
+struct Contender {
+    name: &'static str,
+    tasks: fn(&List) -> Vec<Task>,
+}
+
+/// The first is the one the others are held against.
+const CONTENDERS: &[Contender] = &[
+    Contender {
+        name: "original",
+        tasks: original::tasks,
+    },
+    #[cfg(feature = "port")]
+    Contender {
+        name: "port",
+        tasks: port::tasks,
+    },
+    Contender {
+        name: "copy",
+        tasks: floor::tasks,
+    },
+];
+
+const FUNCTIONS: [&str; 8] = [
+    "build",
+    "encode",
+    "decode",
+    "structure",
+    "padding",
+    "commitment",
+    "raw table",
+    "padded table",
+];
+
+fn main() {
+    let mut args = env::args().skip(1);
+    let sizes = args.next().unwrap_or_else(|| "100,1000,16384".into());
+    let Some(sizes) = sizes
+        .split(',')
+        .map(|n| n.parse().ok().filter(|n| (1..=16_384).contains(n)))
+        .collect::<Option<Vec<usize>>>()
+    else {
+        stop("SIZES are numbers from 1 to 16384 with commas between");
+    };
+    let rounds = args.next().unwrap_or_else(|| "1000".into());
+    let Some(rounds) = rounds.parse().ok().filter(|n| (1..=100_000).contains(n)) else {
+        stop("ROUNDS is a number from 1 to 100000");
+    };
+
+    println!("ns per operation: best, median (best held against the original's best)");
+    for size in sizes {
+        for mix in Mix::ALL {
+            let list = List::new(mix, size);
+            println!("\n{size} operations, {}", mix.name());
+            let mut all: Vec<(&str, Vec<Task>)> = CONTENDERS
+                .iter()
+                .map(|c| (c.name, (c.tasks)(&list)))
+                .collect();
+            for function in FUNCTIONS {
+                let mut taking_part: Vec<(&str, &mut Task)> = all
+                    .iter_mut()
+                    .filter_map(|(name, tasks)| {
+                        Some((*name, tasks.iter_mut().find(|t| t.function == function)?))
+                    })
+                    .collect();
+                compare(function, size, rounds, &mut taking_part);
+            }
+        }
+    }
+}
+
+fn stop(line: &str) -> ! {
+    eprintln!("bench: {line}");
+    exit(2)
+}

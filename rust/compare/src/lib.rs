@@ -1,0 +1,13 @@
+//! The comparison: calls, who answers them, and what is counted.
+
+pub mod inputs;
+pub mod known;
+#[cfg(feature = "port")]
+pub mod port;
+pub mod run;
+pub mod sections;
+pub mod seed;
+pub mod theirs;
+
+pub use run::{Run, Stopped};
+pub use seed::Seed;

@@ -1,0 +1,219 @@
+//! The port's answers. Outputs are lent full of other bytes, so that what is not zeroed shows.
+
+use model::{Answer, Call, RECORD, Room};
+use oliastrofu::{Refusal, boundary};
+
+fn dirty(room: Room) -> Answer {
+    Answer {
+        codes: vec![0xa5; room.codes],
+        values: vec![0xa5a5_a5a5_a5a5_a5a5; room.values],
+        records: vec![0xa5; room.records],
+        ..Answer::default()
+    }
+}
+
+fn found(found: u8, first: usize, second: usize) -> Answer {
+    Answer {
+        rest: [usize::from(found), first, second],
+        ..Answer::default()
+    }
+}
+
+/// The port's whole answer, as it crosses the boundary.
+pub fn answer(call: Call<'_>) -> Answer {
+    match call {
+        Call::Build {
+            table,
+            codes,
+            values,
+            room,
+        } => {
+            let mut answer = dirty(room);
+            let reply = boundary::build(
+                table,
+                codes,
+                values,
+                &mut answer.codes,
+                &mut answer.values,
+                &mut answer.records,
+            );
+            answer.number = reply.number;
+            answer.place = reply.place;
+            answer.rest = [reply.batches, reply.operations, 0];
+            answer
+        }
+        Call::Encode {
+            table,
+            arena,
+            buffer,
+            at,
+        } => {
+            let mut buffer = buffer.to_vec();
+            let reply = boundary::encode(
+                table,
+                arena.codes,
+                arena.values,
+                arena.records,
+                &mut buffer,
+                at,
+            );
+            Answer {
+                number: reply.number,
+                place: reply.place,
+                rest: [reply.length, 0, 0],
+                buffer,
+                ..Answer::default()
+            }
+        }
+        Call::Decode {
+            table,
+            bytes,
+            at,
+            room,
+        } => {
+            let mut answer = dirty(room);
+            let reply = boundary::decode(
+                table,
+                bytes,
+                at,
+                &mut answer.codes,
+                &mut answer.values,
+                &mut answer.records,
+            );
+            answer.number = reply.number;
+            answer.place = reply.place;
+            answer.rest = [reply.batches, reply.operations, reply.used];
+            answer
+        }
+        Call::Structure { arena } => {
+            let reply = boundary::structure(arena.codes, arena.values, arena.records);
+            check(reply)
+        }
+        Call::Padding { arena } => {
+            let reply = boundary::padding(arena.codes, arena.values, arena.records);
+            check(reply)
+        }
+        Call::Commitment { table, arena } => {
+            let reply = boundary::commitment(table, arena.codes, arena.values, arena.records);
+            check(reply)
+        }
+        Call::RawTable { arena, room } => {
+            let mut entries = vec![0xa5a5; room];
+            let reply = boundary::raw_table(arena.codes, arena.values, arena.records, &mut entries);
+            table(reply, entries)
+        }
+        Call::PaddedTable { arena, room } => {
+            let mut entries = vec![0xa5a5; room];
+            let reply =
+                boundary::padded_table(arena.codes, arena.values, arena.records, &mut entries);
+            table(reply, entries)
+        }
+        Call::PaddedIndex { table, raw } => {
+            let reply = boundary::padded_index(table, raw);
+            found(reply.found, reply.index, 0)
+        }
+        Call::RawIndex { table, padded } => {
+            let reply = boundary::raw_index(table, padded);
+            found(reply.found, reply.index, 0)
+        }
+        Call::Group { record, index } => {
+            let reply = boundary::group(record, index);
+            Answer {
+                number: reply.number,
+                place: reply.place,
+                ..found(reply.found, reply.group, reply.position)
+            }
+        }
+        Call::NextGroup { record, group } => {
+            let reply = boundary::next_group(record, group);
+            Answer {
+                number: reply.number,
+                place: reply.place,
+                ..found(reply.found, reply.group, 0)
+            }
+        }
+    }
+}
+
+fn check(reply: boundary::CheckReply) -> Answer {
+    Answer {
+        number: reply.number,
+        place: reply.place,
+        ..Answer::default()
+    }
+}
+
+fn table(reply: boundary::TableReply, entries: Vec<u64>) -> Answer {
+    Answer {
+        number: reply.number,
+        place: reply.place,
+        rest: [reply.entries, 0, 0],
+        entries,
+        ..Answer::default()
+    }
+}
+
+fn refusal(answer: &Answer) -> (u8, usize) {
+    (answer.number, answer.place)
+}
+
+fn refused(refusal: Refusal) -> (u8, usize) {
+    (refusal.number(), refusal.place)
+}
+
+/// Do the functions with room of their own say what the model's answer says? The answer is for
+/// enough room.
+pub fn owned_agrees(call: Call<'_>, answer: &Answer) -> bool {
+    match call {
+        Call::Build {
+            table,
+            codes,
+            values,
+            ..
+        } => match oliastrofu::build(table, codes, values) {
+            Ok(block) => {
+                answer.number == 0
+                    && block.codes == answer.codes[..answer.rest[1]]
+                    && block.values == answer.values[..answer.rest[1]]
+                    && block.records == answer.records[..answer.rest[0] * RECORD]
+                    && block.batches().map(|b| b.operations()).sum::<usize>() == answer.rest[1]
+            }
+            Err(error) => refused(error) == refusal(answer),
+        },
+        Call::Decode {
+            table, bytes, at, ..
+        } => match oliastrofu::decode(table, bytes, at) {
+            Ok((block, used)) => {
+                answer.number == 0
+                    && used == answer.rest[2]
+                    && block.codes == answer.codes[..answer.rest[1]]
+                    && block.values == answer.values[..answer.rest[1]]
+                    && block.records == answer.records[..answer.rest[0] * RECORD]
+            }
+            Err(error) => refused(error) == refusal(answer),
+        },
+        Call::Encode {
+            table, arena, at, ..
+        } => match oliastrofu::encode(table, &block(arena)) {
+            Ok(bytes) => answer.number == 0 && bytes == answer.buffer[at..at + answer.rest[0]],
+            Err(error) => refused(error) == refusal(answer),
+        },
+        Call::RawTable { arena, .. } => match oliastrofu::raw_table(&block(arena)) {
+            Ok(table) => answer.number == 0 && table.0 == answer.entries[..answer.rest[0]],
+            Err(error) => refused(error) == refusal(answer),
+        },
+        Call::PaddedTable { arena, .. } => match oliastrofu::padded_table(&block(arena)) {
+            Ok(table) => answer.number == 0 && table.0 == answer.entries[..answer.rest[0]],
+            Err(error) => refused(error) == refusal(answer),
+        },
+        _ => true,
+    }
+}
+
+fn block(arena: model::Arena<'_>) -> oliastrofu::Block {
+    oliastrofu::Block {
+        codes: arena.codes.to_vec(),
+        values: arena.values.to_vec(),
+        records: arena.records.to_vec(),
+    }
+}

@@ -1,0 +1,737 @@
+//! Who answers, how two answers are held together, and what is counted.
+
+use std::{collections::BTreeMap, fmt::Write as _};
+
+use model::{
+    Answer, Arena, Batch, Call, FIELD, Function, MOST_BATCHES, MOST_BYTES, MOST_LISTED,
+    MOST_PADDED, RECORD, batches_of,
+};
+use original::Refused;
+
+use crate::{
+    known::{self, Fault},
+    theirs::{self, Did, did},
+};
+
+/// An unexplained difference: the input and both answers, in words.
+#[derive(Debug)]
+pub struct Stopped(pub String);
+
+/// What was compared and what came of it.
+#[derive(Default)]
+pub struct Tally {
+    /// The port against the model, by function.
+    pub model: [u64; 12],
+    /// The port (or the model in its place) against the original, by function.
+    pub original: [u64; 12],
+    /// The numbers of all answers that were compared, by function; 0 is no refusal.
+    pub numbers: [[u64; 17]; 12],
+    /// The differences that are known.
+    pub known: BTreeMap<(Function, Fault, u8, Did), u64>,
+    /// Answers that are the same but for a place that the original names otherwise or not at all.
+    pub places: u64,
+    /// Calls that the original could not be given.
+    pub not_asked: BTreeMap<&'static str, u64>,
+}
+
+impl Tally {
+    pub fn total(&self) -> u64 {
+        self.model.iter().sum::<u64>() + self.original.iter().sum::<u64>()
+    }
+}
+
+pub struct Run {
+    ours: fn(Call<'_>) -> Answer,
+    /// Those who answer are the port, and are held against the model too.
+    pub port: bool,
+    /// The original's own table.
+    pub table: [u8; 128],
+    pub tally: Tally,
+}
+
+type Checked<T> = Result<T, Stopped>;
+
+impl Run {
+    pub fn new(ours: fn(Call<'_>) -> Answer, port: bool) -> Self {
+        Self {
+            ours,
+            port,
+            table: original::table(),
+            tally: Tally::default(),
+        }
+    }
+
+    /// Asks all who can answer.
+    pub fn check(&mut self, call: Call<'_>) -> Checked<Answer> {
+        let ours = (self.ours)(call);
+        if self.port {
+            let model = model::answer(call);
+            self.tally.model[call.function() as usize] += 1;
+            if ours != model {
+                return Err(stopped("port and model differ", call, &ours, &show(&model)));
+            }
+            self.count(call.function(), ours.number);
+        }
+        self.beside(call, &ours)?;
+        Ok(ours)
+    }
+
+    fn count(&mut self, function: Function, number: u8) {
+        self.tally.numbers[function as usize][usize::from(number.min(16))] += 1;
+    }
+
+    fn skip(&mut self, why: &'static str) -> Checked<()> {
+        *self.tally.not_asked.entry(why).or_default() += 1;
+        Ok(())
+    }
+
+    /// Counts a comparison with the original; a difference must be known.
+    fn settle<T: core::fmt::Debug>(
+        &mut self,
+        call: Call<'_>,
+        ours: &Answer,
+        theirs: &Result<T, Refused>,
+        agree: bool,
+        fault: impl FnOnce() -> Option<Fault>,
+    ) -> Checked<()> {
+        let function = call.function();
+        self.tally.original[function as usize] += 1;
+        if !self.port {
+            self.count(function, ours.number);
+        }
+        if agree {
+            return Ok(());
+        }
+        let did = did(theirs);
+        match fault() {
+            Some(fault) if known::known(function, fault, ours.number, did) => {
+                *self
+                    .tally
+                    .known
+                    .entry((function, fault, ours.number, did))
+                    .or_default() += 1;
+                Ok(())
+            }
+            fault => Err(stopped(
+                &format!("not in the known differences (fault: {fault:?}, original: {did:?})"),
+                call,
+                ours,
+                theirs,
+            )),
+        }
+    }
+
+    fn beside(&mut self, call: Call<'_>, ours: &Answer) -> Checked<()> {
+        let other_table = |table: &[u8]| table != self.table;
+        match call {
+            Call::Build { table, .. } | Call::Encode { table, .. } | Call::Decode { table, .. }
+                if other_table(table) =>
+            {
+                self.skip("another table than the original's")
+            }
+            Call::Commitment { table, .. } if other_table(table) => {
+                self.skip("another table than the original's")
+            }
+            _ if [13, 14].contains(&ours.number) => self.skip("refused with 13 or 14"),
+            Call::Build { codes, values, .. } => self.beside_build(call, ours, codes, values),
+            Call::Encode {
+                arena, buffer, at, ..
+            } => self.beside_encode(call, ours, arena, buffer, at),
+            Call::Decode {
+                table, bytes, at, ..
+            } => self.beside_decode(call, ours, table, bytes, at),
+            Call::Structure { arena } => self.beside_structure(call, ours, arena),
+            Call::Padding { arena } => self.beside_padding(call, ours, arena),
+            Call::Commitment { arena, .. } => self.beside_commitment(call, ours, arena),
+            Call::RawTable { arena, .. } => {
+                self.beside_table(call, ours, arena, original::raw_table)
+            }
+            Call::PaddedTable { arena, .. } => {
+                self.beside_table(call, ours, arena, original::padded_table)
+            }
+            // With a block, by `indices`.
+            Call::PaddedIndex { .. } | Call::RawIndex { .. } => Ok(()),
+            Call::Group { record, index } => self.beside_group(call, ours, record, index),
+            Call::NextGroup { record, group } => self.beside_next(call, ours, record, group),
+        }
+    }
+
+    fn beside_build(
+        &mut self,
+        call: Call<'_>,
+        ours: &Answer,
+        codes: &[u8],
+        values: &[u64],
+    ) -> Checked<()> {
+        if codes.len() != values.len() {
+            return self.skip("lists of unequal length");
+        }
+        let list: Vec<(u8, u64)> = codes.iter().copied().zip(values.iter().copied()).collect();
+        let over = list.len() > MOST_LISTED;
+        if over
+            && list
+                .iter()
+                .any(|op| original::operation(op.0, op.1).is_none())
+        {
+            return self.skip("an operation that the original does not have");
+        }
+        let theirs = original::batch(&list);
+        let agree = match &theirs {
+            Ok(batches) => same_block(ours, &theirs::flat(batches)),
+            Err(refused) => same_refusal(ours, refused),
+        };
+        self.settle(call, ours, &theirs, agree, || {
+            over.then_some(Fault::ListOverLimit)
+        })
+    }
+
+    fn beside_encode(
+        &mut self,
+        call: Call<'_>,
+        ours: &Answer,
+        arena: Arena<'_>,
+        buffer: &[u8],
+        at: usize,
+    ) -> Checked<()> {
+        if ours.number == 1 || buffer.len() > MOST_BYTES {
+            return self.skip("a buffer or a position in it, which the original does not have");
+        }
+        let Some(batches) = theirs::batches(arena) else {
+            return self.skip("records or operations that the original can't have");
+        };
+        let theirs = original::encode(&batches);
+        let agree = match &theirs {
+            Ok(bytes) => {
+                ours.number == 0
+                    && ours.buffer[at..at + ours.rest[0]] == bytes[..]
+                    && original::length(&batches).as_ref() == Ok(&bytes.len())
+            }
+            Err(refused) => same_refusal(ours, refused),
+        };
+        self.settle(call, ours, &theirs, agree, || {
+            over_limit(arena).or_else(|| known::of_structure(arena))
+        })
+    }
+
+    fn beside_decode(
+        &mut self,
+        call: Call<'_>,
+        ours: &Answer,
+        table: &[u8],
+        bytes: &[u8],
+        at: usize,
+    ) -> Checked<()> {
+        let Ok(offset) = u32::try_from(at) else {
+            return self.skip("an offset over 32 bits");
+        };
+        let theirs = original::decode(bytes, offset);
+        let agree = match &theirs {
+            Ok((batches, used)) => {
+                ours.rest[2] == *used && same_block(ours, &theirs::flat(batches))
+            }
+            Err(refused) => same_refusal(ours, refused),
+        };
+        self.settle(call, ours, &theirs, agree, || match ours.number {
+            3 => decode_limit(table, bytes, at),
+            10 => (flag_explains(table, bytes, at, &theirs) == Some(ours.place))
+                .then_some(Fault::FlagPastCount),
+            _ => None,
+        })
+    }
+
+    fn beside_structure(&mut self, call: Call<'_>, ours: &Answer, arena: Arena<'_>) -> Checked<()> {
+        let Some(batches) = theirs::batches(arena) else {
+            return self.skip("records or operations that the original can't have");
+        };
+        let theirs = original::structure(&batches);
+        let records = batches_of(arena.records);
+        let sum: usize = records.iter().map(Batch::total).sum();
+        if sum != arena.codes.len() && ours.number == 15 {
+            // In the original each batch has its own operations: it refuses at the batch that has
+            // too many or too few, and can't say that only the sum is wrong.
+            self.tally.places += 1;
+            let agree = did(&theirs) == Did::Refuses(15);
+            return self.settle(call, ours, &theirs, agree, || None);
+        }
+        let first_seen = records.iter().position(known::seen);
+        let as_foreseen = named(&theirs) == first_seen.map(|batch| (15, Some(batch)));
+        let agree = match &theirs {
+            Ok(()) => ours.number == 0,
+            Err(refused) => same_refusal(ours, refused),
+        };
+        self.settle(call, ours, &theirs, agree && as_foreseen, || {
+            let fault = over_limit(arena).or_else(|| known::of_structure(arena));
+            fault.filter(|_| as_foreseen)
+        })
+    }
+
+    fn beside_padding(&mut self, call: Call<'_>, ours: &Answer, arena: Arena<'_>) -> Checked<()> {
+        let Some(batches) = theirs::batches(arena) else {
+            return self.skip("records or operations that the original can't have");
+        };
+        let theirs = original::padding(&batches);
+        let agree = match &theirs {
+            Ok(()) => ours.number == 0,
+            Err(refused) => same_refusal(ours, refused),
+        };
+        self.settle(call, ours, &theirs, agree, || match ours.number {
+            10 => {
+                let (fault, first_seen) = known::of_padding(arena);
+                let foreseen = first_seen.map(|batch| (10, Some(batch)));
+                fault.filter(|_| named(&theirs) == foreseen)
+            }
+            _ => over_limit(arena).or_else(|| known::of_structure(arena)),
+        })
+    }
+
+    fn beside_commitment(
+        &mut self,
+        call: Call<'_>,
+        ours: &Answer,
+        arena: Arena<'_>,
+    ) -> Checked<()> {
+        let Some(batches) = theirs::batches(arena) else {
+            return self.skip("records or operations that the original can't have");
+        };
+        if batches
+            .iter()
+            .any(|batch| batch.numbers.iter().any(|&number| number >= FIELD))
+        {
+            return self.skip("a group number that is not in the field");
+        }
+        let theirs = original::commitment(&batches);
+        let agree = match &theirs {
+            Ok(()) => ours.number == 0,
+            Err(refused) => same_refusal(ours, refused),
+        };
+        self.settle(call, ours, &theirs, agree, || {
+            over_limit(arena).or_else(|| known::of_structure(arena))
+        })
+    }
+
+    fn beside_table(
+        &mut self,
+        call: Call<'_>,
+        ours: &Answer,
+        arena: Arena<'_>,
+        ask: fn(&[original::Batch]) -> Result<Vec<usize>, Refused>,
+    ) -> Checked<()> {
+        let Some(batches) = theirs::batches(arena) else {
+            return self.skip("records or operations that the original can't have");
+        };
+        let theirs = ask(&batches);
+        let agree = match &theirs {
+            Ok(entries) => {
+                ours.number == 0
+                    && ours.rest[0] == entries.len()
+                    && ours
+                        .entries
+                        .iter()
+                        .zip(entries)
+                        .all(|(&ours, &theirs)| ours == theirs as u64)
+            }
+            Err(refused) => same_refusal(ours, refused),
+        };
+        self.settle(call, ours, &theirs, agree, || match ours.number {
+            10 => known::of_padding(arena).0,
+            _ => over_limit(arena).or_else(|| known::of_structure(arena)),
+        })
+    }
+
+    /// A batch of one record, with as many plain operations as it says.
+    fn beside_one(record: &[u8]) -> (Option<original::Batch>, Option<Fault>) {
+        if record.len() != RECORD {
+            return (None, None);
+        }
+        let batch = Batch::of_record(record);
+        let ops = vec![(2, 0); batch.total()];
+        let codes = vec![2; batch.total()];
+        let fault = known::of_structure(Arena {
+            codes: &codes,
+            values: &[],
+            records: record,
+        });
+        (theirs::batch(&batch, ops), fault)
+    }
+
+    fn beside_group(
+        &mut self,
+        call: Call<'_>,
+        ours: &Answer,
+        record: &[u8],
+        index: usize,
+    ) -> Checked<()> {
+        let (Some(batch), fault) = Self::beside_one(record) else {
+            return self.skip("records or operations that the original can't have");
+        };
+        let theirs = original::op_idx_in_batch_to_group(&batch, index);
+        let agree = match theirs {
+            Ok(Some((group, position))) => ours.number == 0 && ours.rest == [1, group, position],
+            Ok(None) => ours.number == 0 && ours.rest == [0; 3],
+            Err(_) => false,
+        };
+        self.settle(call, ours, &theirs, agree, || fault)
+    }
+
+    fn beside_next(
+        &mut self,
+        call: Call<'_>,
+        ours: &Answer,
+        record: &[u8],
+        group: usize,
+    ) -> Checked<()> {
+        let (Some(batch), fault) = Self::beside_one(record) else {
+            return self.skip("records or operations that the original can't have");
+        };
+        let theirs = original::next_op_group_index(&batch, group);
+        let agree = match theirs {
+            Ok(Some(next)) => ours.number == 0 && ours.rest == [1, next, 0],
+            Ok(None) => ours.number == 0 && ours.rest == [0; 3],
+            Err(_) => false,
+        };
+        self.settle(call, ours, &theirs, agree, || {
+            fault.or((group == usize::MAX).then_some(Fault::LargestGroup))
+        })
+    }
+
+    /// Every index of a block that has its tables, both ways; and one past the end if asked.
+    pub fn indices(
+        &mut self,
+        arena: Arena<'_>,
+        raw_entries: &[u64],
+        padded_entries: &[u64],
+        past: bool,
+    ) -> Checked<()> {
+        let Some(batches) = theirs::batches(arena) else {
+            return self.skip("records or operations that the original can't have");
+        };
+        type Ask = fn(&[original::Batch], &[usize]) -> Result<Vec<usize>, Refused>;
+        let both: [(&[u64], Ask, bool); 2] = [
+            (raw_entries, original::raw_to_padded, true),
+            (padded_entries, original::padded_to_raw, false),
+        ];
+        for (entries, ask, raw) in both {
+            let call = |index| {
+                if raw {
+                    Call::PaddedIndex {
+                        table: entries,
+                        raw: index,
+                    }
+                } else {
+                    Call::RawIndex {
+                        table: entries,
+                        padded: index,
+                    }
+                }
+            };
+            let all: Vec<usize> = (0..entries.len()).collect();
+            let theirs = ask(&batches, &all);
+            for index in all {
+                let ours = self.check(call(index))?;
+                let agree = match &theirs {
+                    Ok(answers) => ours.rest == [1, answers[index], 0],
+                    Err(_) => false,
+                };
+                self.settle(call(index), &ours, &theirs, agree, || None)?;
+            }
+            if past {
+                let index = entries.len();
+                let ours = self.check(call(index))?;
+                let theirs = ask(&batches, &[index]);
+                let agree = theirs.is_ok();
+                self.settle(call(index), &ours, &theirs, agree, || {
+                    (ours.rest == [0; 3]).then_some(Fault::IndexPastEnd)
+                })?;
+            }
+        }
+        Ok(())
+    }
+
+    /// The functions with room of their own; the answer is for enough room.
+    #[cfg(feature = "port")]
+    pub fn owned(&mut self, call: Call<'_>, answer: &Answer) -> Checked<()> {
+        self.tally.model[call.function() as usize] += 1;
+        if crate::port::owned_agrees(call, answer) {
+            return Ok(());
+        }
+        Err(stopped(
+            "the form with room of its own differs",
+            call,
+            answer,
+            &"another answer",
+        ))
+    }
+
+    #[cfg(not(feature = "port"))]
+    pub fn owned(&mut self, _: Call<'_>, _: &Answer) -> Checked<()> {
+        Ok(())
+    }
+}
+
+fn same_refusal(ours: &Answer, theirs: &Refused) -> bool {
+    !theirs.panicked
+        && theirs.number != 0
+        && theirs.number == ours.number
+        && theirs.place.is_none_or(|place| place == ours.place)
+}
+
+/// The refusal's number and place; none for an answer.
+fn named<T>(theirs: &Result<T, Refused>) -> Option<(u8, Option<usize>)> {
+    theirs
+        .as_ref()
+        .err()
+        .map(|refused| (refused.number, refused.place))
+}
+
+fn same_block(ours: &Answer, theirs: &theirs::Flat) -> bool {
+    let [batches, operations, _] = ours.rest;
+    ours.number == 0
+        && ours.codes[..operations] == theirs.codes[..]
+        && ours.values[..operations] == theirs.values[..]
+        && ours.records[..batches * RECORD] == theirs.records[..]
+}
+
+fn over_limit(arena: Arena<'_>) -> Option<Fault> {
+    if arena.codes.len() > MOST_PADDED {
+        Some(Fault::OperationsOverLimit)
+    } else if arena.records.len() / RECORD > MOST_BATCHES {
+        Some(Fault::BatchesOverLimit)
+    } else {
+        None
+    }
+}
+
+/// Where the parts of a block lie that can be read, by another way than the model's.
+struct Layout {
+    codes: Vec<u8>,
+    batches: usize,
+    nibbles: usize,
+    flags: usize,
+}
+
+/// The count of a block in its three forms, limit or not, and where it ends.
+fn wide_count(bytes: &[u8], at: usize) -> Option<(usize, usize)> {
+    let first = *bytes.get(at)?;
+    let length = first.trailing_zeros() as usize + 1;
+    if length > 3 {
+        return None;
+    }
+    let form = bytes.get(at..at + length)?;
+    let word = form
+        .iter()
+        .rev()
+        .fold(0usize, |word, &byte| (word << 8) | usize::from(byte));
+    Some((word >> length, at + length))
+}
+
+fn layout(table: &[u8], bytes: &[u8], at: usize) -> Option<Layout> {
+    let (count, mut here) = wide_count(bytes, at)?;
+    let mut codes = Vec::new();
+    for _ in 0..count {
+        let code = *bytes.get(here)?;
+        codes.push(code);
+        here += match table.get(usize::from(code))? {
+            0 => 1,
+            1 | 2 => 9,
+            _ => return None,
+        };
+    }
+    let total = bytes.get(here..here + 4)?;
+    let batches = u32::from_le_bytes(total.try_into().ok()?) as usize;
+    let nibbles = here + 4;
+    let flags = nibbles + 4 * batches;
+    (flags + batches <= bytes.len()).then_some(Layout {
+        codes,
+        batches,
+        nibbles,
+        flags,
+    })
+}
+
+fn decode_limit(table: &[u8], bytes: &[u8], at: usize) -> Option<Fault> {
+    if bytes.len() > MOST_BYTES {
+        return Some(Fault::BytesOverLimit);
+    }
+    if wide_count(bytes, at)?.0 > MOST_PADDED {
+        return Some(Fault::OperationsOverLimit);
+    }
+    (layout(table, bytes, at)?.batches > MOST_BATCHES).then_some(Fault::BatchesOverLimit)
+}
+
+/// The lengths of a batch's groups and its count, as they are read; none if it runs past the
+/// operations. The operations are those from the batch on.
+fn lengths(table: &[u8], bytes: &[u8], codes: &[u8]) -> Option<([usize; 8], usize)> {
+    let lengths: [usize; 8] =
+        core::array::from_fn(|group| usize::from(bytes[group / 2] >> (4 * (group % 2)) & 15));
+    let total: usize = lengths.iter().sum();
+    let codes = codes.get(..total)?;
+    let count = match lengths.iter().rposition(|&length| length > 0) {
+        None => 0,
+        Some(last) => {
+            let immediates = codes[total - lengths[last]..]
+                .iter()
+                .filter(|&&code| table[usize::from(code)] == 1)
+                .count();
+            last + 1 + immediates
+        }
+    };
+    Some((lengths, count))
+}
+
+/// If the original's answer is what the model says of the same bytes without the flags at or above
+/// the counts: the first batch that has one.
+fn flag_explains(
+    table: &[u8],
+    bytes: &[u8],
+    at: usize,
+    theirs: &Result<(Vec<original::Batch>, usize), Refused>,
+) -> Option<usize> {
+    let layout = layout(table, bytes, at)?;
+    let mut repaired = bytes.to_vec();
+    let mut first = None;
+    let mut from = 0;
+    for batch in 0..layout.batches {
+        let nibbles = &bytes[layout.nibbles + 4 * batch..][..4];
+        let Some((lengths, count)) = lengths(table, nibbles, &layout.codes[from..]) else {
+            break;
+        };
+        let flags = &mut repaired[layout.flags + batch];
+        let kept = if count < 8 {
+            *flags & ((1 << count) - 1)
+        } else {
+            *flags
+        };
+        if kept != *flags {
+            first = first.or(Some(batch));
+            *flags = kept;
+        }
+        from += lengths.iter().sum::<usize>();
+    }
+    let room = model::Room {
+        codes: layout.codes.len(),
+        values: layout.codes.len(),
+        records: layout.batches * RECORD,
+    };
+    let without = model::decode(table, &repaired, at, room);
+    let explained = match theirs {
+        Err(refused) => same_refusal(&without, refused),
+        Ok((batches, used)) => {
+            let mut batches = batches.clone();
+            for batch in &mut batches {
+                for group in batch.count..8 {
+                    batch.flags[group] = false;
+                }
+            }
+            without.rest[2] == *used && same_block(&without, &theirs::flat(&batches))
+        }
+    };
+    first.filter(|_| explained)
+}
+
+/// A run of numbers in hex, cut where it is long.
+fn hex<T: core::fmt::LowerHex>(run: &[T]) -> String {
+    let mut text = format!("[{}]", run.len());
+    for number in run.iter().take(600) {
+        let _ = write!(text, " {number:x}");
+    }
+    if run.len() > 600 {
+        text.push_str(" ..");
+    }
+    text
+}
+
+/// The input of a call, for a person.
+pub fn describe(call: Call<'_>) -> String {
+    let block = |arena: Arena<'_>| {
+        format!(
+            "codes {}\nvalues {}\nrecords {}",
+            hex(arena.codes),
+            hex(arena.values),
+            hex(arena.records)
+        )
+    };
+    let name = call.function().name();
+    match call {
+        Call::Build {
+            table,
+            codes,
+            values,
+            room,
+        } => format!(
+            "{name}\ntable {}\ncodes {}\nvalues {}\n{room:?}",
+            hex(table),
+            hex(codes),
+            hex(values)
+        ),
+        Call::Encode {
+            table,
+            arena,
+            buffer,
+            at,
+        } => format!(
+            "{name}\ntable {}\n{}\nbuffer of {}, at {at}",
+            hex(table),
+            block(arena),
+            buffer.len()
+        ),
+        Call::Decode {
+            table,
+            bytes,
+            at,
+            room,
+        } => format!(
+            "{name}\ntable {}\nbytes {}\nat {at}, {room:?}",
+            hex(table),
+            hex(bytes)
+        ),
+        Call::Structure { arena } | Call::Padding { arena } => format!("{name}\n{}", block(arena)),
+        Call::Commitment { table, arena } => {
+            format!("{name}\ntable {}\n{}", hex(table), block(arena))
+        }
+        Call::RawTable { arena, room } | Call::PaddedTable { arena, room } => {
+            format!("{name}\n{}\nroom {room}", block(arena))
+        }
+        Call::PaddedIndex { table, raw: index }
+        | Call::RawIndex {
+            table,
+            padded: index,
+        } => format!("{name}\nentries {}\nindex {index}", hex(table)),
+        Call::Group { record, index } => format!("{name}\nrecord {}\nindex {index}", hex(record)),
+        Call::NextGroup { record, group } => {
+            format!("{name}\nrecord {}\ngroup {group}", hex(record))
+        }
+    }
+}
+
+/// An answer for a person: outputs without the zeros at their end.
+fn show(answer: &Answer) -> String {
+    fn cut<T: core::fmt::LowerHex + PartialEq + Default>(run: &[T]) -> String {
+        let end = run.iter().rposition(|item| *item != T::default());
+        format!(
+            "[{}] {}",
+            run.len(),
+            hex(&run[..end.map_or(0, |at| at + 1)])
+        )
+    }
+    format!(
+        "number {}, place {}, rest {:?}\n  codes {}\n  values {}\n  records {}\n  buffer {}\n  entries {}",
+        answer.number,
+        answer.place,
+        answer.rest,
+        cut(&answer.codes),
+        cut(&answer.values),
+        cut(&answer.records),
+        cut(&answer.buffer),
+        cut(&answer.entries)
+    )
+}
+
+fn stopped(why: &str, call: Call<'_>, ours: &Answer, theirs: &impl core::fmt::Debug) -> Stopped {
+    let mut others = format!("{theirs:?}");
+    others.truncate(4_000);
+    Stopped(format!(
+        "{why}\n{}\nours: {}\ntheirs: {others}",
+        describe(call),
+        show(ours)
+    ))
+}

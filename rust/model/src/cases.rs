@@ -1,0 +1,1009 @@
+//! Inputs for every refusal of every function, and for pairs of faults.
+//!
+//! For each function there is a good input and a list of faults, in document 01's order. Each
+//! fault alone must give its number and place; any two together must give those of the earlier
+//! one. Faults that can't be had together are left out (two of them want the same bytes to be
+//! different things); where such a pair matters, there is a case of its own for it.
+
+use crate::{Arena, Batch, Call, FIELD, Operation, RECORD, Room, count_bytes};
+
+/// A case: what it shows, the call, and the number and place that document 01 gives.
+pub struct Case<'a> {
+    pub name: String,
+    /// The numbers of the two faults, if the input has two.
+    pub pair: Option<(u8, u8)>,
+    pub call: Call<'a>,
+    pub number: u8,
+    pub place: usize,
+}
+
+type Visit<'v> = dyn FnMut(Case<'_>) + 'v;
+
+/// One way to spoil a good input.
+struct Fault<I> {
+    number: u8,
+    place: usize,
+    name: &'static str,
+    spoil: fn(&mut I),
+    /// Faults with a letter in common can't be had together.
+    excludes: &'static str,
+}
+
+fn fault<I>(
+    number: u8,
+    place: usize,
+    name: &'static str,
+    excludes: &'static str,
+    spoil: fn(&mut I),
+) -> Fault<I> {
+    Fault {
+        number,
+        place,
+        name,
+        spoil,
+        excludes,
+    }
+}
+
+/// The good input, each fault alone, and every two that can be had together.
+fn combine<I: Clone>(
+    function: &str,
+    good: &I,
+    faults: &[Fault<I>],
+    visit: &mut Visit<'_>,
+    call: impl Fn(&I, &mut dyn FnMut(Call<'_>)),
+) {
+    call(good, &mut |call| {
+        visit(Case {
+            name: format!("{function}: good"),
+            pair: None,
+            call,
+            number: 0,
+            place: 0,
+        })
+    });
+    for (i, first) in faults.iter().enumerate() {
+        let mut input = good.clone();
+        (first.spoil)(&mut input);
+        call(&input, &mut |call| {
+            visit(Case {
+                name: format!("{function}: {} ({})", first.name, first.number),
+                pair: None,
+                call,
+                number: first.number,
+                place: first.place,
+            })
+        });
+        for second in &faults[i + 1..] {
+            if first.excludes.chars().any(|c| second.excludes.contains(c)) {
+                continue;
+            }
+            let mut input = good.clone();
+            (second.spoil)(&mut input);
+            (first.spoil)(&mut input);
+            call(&input, &mut |call| {
+                visit(Case {
+                    name: format!(
+                        "{function}: {} ({}) before {} ({})",
+                        first.name, first.number, second.name, second.number
+                    ),
+                    pair: Some((first.number, second.number)),
+                    call,
+                    number: first.number,
+                    place: first.place,
+                })
+            });
+        }
+    }
+}
+
+// INPUTS
+// ================================================================================================
+
+/// Table T: opcodes 0 and 2 have no value, 1 an immediate, 3 a value that is only carried.
+pub fn table_t() -> Vec<u8> {
+    let mut table = vec![3; 128];
+    table[..4].copy_from_slice(&[0, 1, 0, 2]);
+    table
+}
+
+fn op(code: u8, value: u64) -> Operation {
+    Operation { code, value }
+}
+
+#[derive(Clone)]
+struct Block {
+    table: Vec<u8>,
+    codes: Vec<u8>,
+    values: Vec<u64>,
+    records: Vec<u8>,
+    /// Bytes of records that make the run no whole number of them.
+    crumbs: usize,
+    lent: usize,
+    at: usize,
+    room: usize,
+}
+
+impl Block {
+    fn new(list: &[Operation], batches: &[Batch]) -> Self {
+        Self {
+            table: table_t(),
+            codes: list.iter().map(|op| op.code).collect(),
+            values: list.iter().map(|op| op.value).collect(),
+            records: batches.iter().flat_map(Batch::record).collect(),
+            crumbs: 0,
+            lent: 0,
+            at: 0,
+            room: 0,
+        }
+    }
+
+    fn arena<'a>(&'a self, records: &'a [u8]) -> Arena<'a> {
+        Arena {
+            codes: &self.codes,
+            values: &self.values,
+            records,
+        }
+    }
+
+    /// The records with the crumbs.
+    fn run(&self) -> Vec<u8> {
+        let mut run = self.records.clone();
+        run.extend(vec![0; self.crumbs]);
+        run
+    }
+}
+
+const START: usize = 0;
+const FLAG: usize = 9;
+const NUMBER: usize = 17;
+const COUNT: usize = 81;
+
+/// Two batches. The first: seven immediates and two plain operations in group 0, the other groups
+/// hold the immediates. The second: an immediate and a flagged Noop.
+fn two_batches() -> Block {
+    let mut list: Vec<Operation> = (1..8).map(|value| op(1, value)).collect();
+    list.extend([op(2, 0), op(2, 0), op(1, 9), op(0, 0)]);
+    // Seven times opcode 1, twice opcode 2.
+    let group: u64 = (0..7).map(|i| 1u64 << (7 * i)).sum::<u64>() + (2 << 49) + (2 << 56);
+    let first = Batch {
+        starts: [0, 9, 9, 9, 9, 9, 9, 9, 9],
+        flags: [0; 8],
+        numbers: [group, 1, 2, 3, 4, 5, 6, 7],
+        count: 8,
+    };
+    let second = Batch {
+        starts: [0, 2, 2, 2, 2, 2, 2, 2, 2],
+        flags: [1, 0, 0, 0, 0, 0, 0, 0],
+        numbers: [1, 9, 0, 0, 0, 0, 0, 0],
+        count: 2,
+    };
+    Block::new(&list, &[first, second])
+}
+
+// BUILD
+// ================================================================================================
+
+#[derive(Clone)]
+struct List {
+    table: Vec<u8>,
+    codes: Vec<u8>,
+    values: Vec<u64>,
+    room: Room,
+}
+
+fn build(visit: &mut Visit<'_>) {
+    // One batch of four groups: the list in group 0, two immediates, and a flagged Noop in each of
+    // groups 0 and 3.
+    let good = List {
+        table: table_t(),
+        codes: vec![1, 3, 2, 1],
+        values: vec![5, 6, 0, 7],
+        room: Room {
+            codes: 6,
+            values: 6,
+            records: RECORD,
+        },
+    };
+    let faults = [
+        fault(3, 0, "a value too many", "e", |i: &mut List| {
+            i.values.push(0)
+        }),
+        fault(3, 0, "an opcode too many", "e", |i| i.codes.push(2)),
+        fault(3, 0, "over 16,384 operations", "e", |i| {
+            i.codes.resize(16_385, 2);
+            i.values.resize(16_385, 0);
+        }),
+        fault(14, 0, "a table of 127 bytes", "t", |i| {
+            i.table.pop();
+        }),
+        fault(14, 0, "a table of 129 bytes", "t", |i| i.table.push(3)),
+        fault(14, 0, "no table", "t", |i| i.table.clear()),
+        fault(14, 0, "kind 4", "t", |i| i.table[127] = 4),
+        fault(14, 0, "Noop with a value", "t", |i| i.table[0] = 2),
+        fault(12, 0, "an empty list", "el", |i| {
+            i.codes.clear();
+            i.values.clear();
+        }),
+        fault(4, 0, "an immediate at the field's order", "l", |i| {
+            i.values[0] = FIELD
+        }),
+        fault(4, 1, "a carried value at the field's order", "l", |i| {
+            i.values[1] = FIELD
+        }),
+        fault(4, 2, "a value without need", "l", |i| i.values[2] = 1),
+        fault(4, 2, "opcode 128", "l", |i| i.codes[2] = 128),
+        fault(4, 3, "an unassigned opcode", "l", |i| i.codes[3] = 4),
+        fault(13, 0, "an opcode too few lent", "l", |i| i.room.codes = 5),
+        fault(13, 0, "a value too few lent", "l", |i| i.room.values = 5),
+        fault(13, 0, "a record's byte too few lent", "l", |i| {
+            i.room.records = RECORD - 1
+        }),
+    ];
+    // An inadmissible operation and an empty list exclude each other; so do an empty list and too
+    // little room. 4 and 13 do not, nor do two 4s: those pairs follow by hand.
+    combine("build", &good, &faults, visit, |i, take| {
+        take(Call::Build {
+            table: &i.table,
+            codes: &i.codes,
+            values: &i.values,
+            room: i.room,
+        })
+    });
+    let mut both = good.clone();
+    both.codes[3] = 4;
+    both.room.records = 0;
+    let mut two = both.clone();
+    two.values[2] = 1;
+    for (input, place, pair) in [(&both, 3, (4, 13)), (&two, 2, (4, 4))] {
+        visit(Case {
+            name: format!("build: {} before {}", pair.0, pair.1),
+            pair: Some(pair),
+            call: Call::Build {
+                table: &input.table,
+                codes: &input.codes,
+                values: &input.values,
+                room: input.room,
+            },
+            number: 4,
+            place,
+        });
+    }
+}
+
+// ENCODE
+// ================================================================================================
+
+fn encode(visit: &mut Visit<'_>) {
+    let mut good = two_batches();
+    // 1 for the count, 8 immediates, 3 plain, 4, and 5 for each batch.
+    good.lent = 2 + 90 + 3;
+    good.at = 2;
+    let faults = [
+        fault(3, 0, "a value too many", "e", |i: &mut Block| {
+            i.values.push(0)
+        }),
+        fault(3, 0, "a byte over two records", "r", |i| i.crumbs = 1),
+        fault(3, 0, "over 65,535 operations", "e", |i| {
+            i.codes.resize(65_536, 2);
+            i.values.resize(65_536, 0);
+        }),
+        fault(3, 0, "over 16,384 records", "r", |i| {
+            i.records.resize(16_385 * RECORD, 0)
+        }),
+        fault(3, 0, "a buffer over 1,048,576 bytes", "b", |i| {
+            i.lent = 1_048_577
+        }),
+        fault(14, 0, "a table of 127 bytes", "t", |i| {
+            i.table.pop();
+        }),
+        fault(14, 0, "kind 255", "t", |i| i.table[60] = 255),
+        fault(1, 0, "a position past the end", "b", |i| i.at = i.lent + 1),
+        fault(15, 0, "a flag of 2", "", |i| i.records[FLAG + 7] = 2),
+        fault(15, 1, "a count of 9", "", |i| i.records[RECORD + COUNT] = 9),
+        fault(15, 2, "an operation that no batch covers", "e", |i| {
+            i.codes.push(2);
+            i.values.push(0);
+        }),
+        fault(4, 6, "an immediate at the field's order", "", |i| {
+            i.values[6] = FIELD
+        }),
+        fault(4, 10, "opcode 255", "", |i| i.codes[10] = 255),
+        fault(13, 0, "a byte too few lent", "b", |i| i.lent = 91),
+        fault(13, 0, "nothing lent after the position", "b", |i| {
+            i.lent = 2
+        }),
+    ];
+    combine("encode", &good, &faults, visit, |i, take| {
+        let run = i.run();
+        let buffer: Vec<u8> = (0..i.lent)
+            .map(|at| if at < 96 { 0xa0 } else { 0 })
+            .collect();
+        take(Call::Encode {
+            table: &i.table,
+            arena: i.arena(&run),
+            buffer: &buffer,
+            at: i.at,
+        })
+    });
+}
+
+// DECODE
+// ================================================================================================
+
+/// The parts of a block's bytes.
+#[derive(Clone)]
+struct Bytes {
+    table: Vec<u8>,
+    count: Vec<u8>,
+    ops: Vec<Vec<u8>>,
+    batch_count: Vec<u8>,
+    nibbles: Vec<[u8; 4]>,
+    flags: Vec<u8>,
+    /// Where the buffer ends, if not after the block and four bytes more.
+    end: Option<End>,
+    past_end: bool,
+    room: Room,
+    longer: usize,
+}
+
+#[derive(Clone, Copy, PartialEq)]
+enum End {
+    BeforeCount,
+    InCount,
+    InOp(usize),
+    InBatchCount,
+    AfterBatchCount(usize),
+}
+
+/// The block begins here in its buffer.
+const AT: usize = 2;
+
+impl Bytes {
+    fn buffer(&self) -> (Vec<u8>, usize) {
+        let mut bytes = vec![0xee; AT];
+        bytes.extend(&self.count);
+        let mut end = None;
+        if self.end == Some(End::BeforeCount) {
+            end = Some(AT);
+        }
+        if self.end == Some(End::InCount) {
+            end = Some(AT + 1);
+        }
+        for (i, op) in self.ops.iter().enumerate() {
+            if self.end == Some(End::InOp(i)) {
+                end = Some(bytes.len() + op.len() - 1);
+            }
+            bytes.extend(op);
+        }
+        if self.end == Some(End::InBatchCount) {
+            end = Some(bytes.len() + 3);
+        }
+        bytes.extend(&self.batch_count);
+        if let Some(End::AfterBatchCount(more)) = self.end {
+            end = Some(bytes.len() + more);
+        }
+        for nibbles in &self.nibbles {
+            bytes.extend(nibbles);
+        }
+        bytes.extend(&self.flags);
+        bytes.extend([0xee; 4]);
+        bytes.resize(bytes.len() + self.longer, 0);
+        if let Some(end) = end {
+            bytes.resize(end, 0);
+        }
+        let at = if self.past_end { bytes.len() + 1 } else { AT };
+        (bytes, at)
+    }
+}
+
+fn immediate(value: u64) -> Vec<u8> {
+    let mut bytes = vec![1];
+    bytes.extend(value.to_le_bytes());
+    bytes
+}
+
+/// Two batches: an immediate and a flagged Noop; a plain operation.
+fn good_bytes() -> Bytes {
+    Bytes {
+        table: table_t(),
+        count: count_bytes(3),
+        ops: vec![immediate(5), vec![0], vec![2]],
+        batch_count: vec![2, 0, 0, 0],
+        nibbles: vec![[2, 0, 0, 0], [1, 0, 0, 0]],
+        flags: vec![1, 0],
+        end: None,
+        past_end: false,
+        room: Room {
+            codes: 4,
+            values: 4,
+            records: 2 * RECORD + 1,
+        },
+        longer: 0,
+    }
+}
+
+fn decode(visit: &mut Visit<'_>) {
+    let good = good_bytes();
+    // Letters: e the end of the buffer, a the offset, t the table, c the count's bytes, o the last
+    // operation, x where the operations end, y how many there are, b the batch count, 0 and 1 what those batches
+    // are.
+    let faults = [
+        fault(
+            3,
+            0,
+            "a buffer over 1,048,576 bytes",
+            "e",
+            |i: &mut Bytes| i.longer = 1_048_576,
+        ),
+        fault(14, 0, "a table of 129 bytes", "t", |i| i.table.push(0)),
+        fault(14, 0, "kind 4", "t", |i| i.table[4] = 4),
+        fault(14, 0, "Noop unassigned", "t", |i| i.table[0] = 3),
+        fault(1, 0, "an offset past the end", "a", |i| i.past_end = true),
+        fault(2, 2, "an offset at the end", "ae", |i| {
+            i.end = Some(End::BeforeCount)
+        }),
+        fault(3, 0, "a count of four bytes", "c", |i| i.count = vec![8]),
+        fault(3, 0, "a count that begins with 0", "c", |i| {
+            i.count = vec![0]
+        }),
+        fault(2, 2, "bytes end inside the count", "ce", |i| {
+            i.count = vec![4];
+            i.end = Some(End::InCount);
+        }),
+        fault(3, 0, "a count of two bytes for one", "c", |i| {
+            i.count = vec![3 * 4 + 2, 0]
+        }),
+        fault(3, 0, "a count of three bytes for two", "c", |i| {
+            i.count = vec![4, 2, 0]
+        }),
+        fault(3, 0, "a count of 65,536", "c", |i| i.count = vec![4, 0, 8]),
+        fault(13, 0, "an opcode too few lent", "", |i| i.room.codes = 2),
+        fault(13, 0, "a value too few lent", "", |i| i.room.values = 2),
+        fault(4, 0, "a value at the field's order", "0", |i| {
+            i.ops[0] = immediate(FIELD)
+        }),
+        fault(4, 1, "an unassigned opcode", "0", |i| i.ops[1] = vec![4]),
+        fault(4, 2, "opcode 128", "o", |i| i.ops[2] = vec![128]),
+        fault(2, 13, "bytes end inside an operation", "eo", |i| {
+            i.ops[2] = immediate(6);
+            i.end = Some(End::InOp(2));
+        }),
+        fault(2, 13, "bytes end before an operation", "eo", |i| {
+            i.end = Some(End::InOp(2));
+        }),
+        fault(2, 14, "bytes end inside the batch count", "ex", |i| {
+            i.end = Some(End::InBatchCount);
+        }),
+        fault(5, 0, "a batch and four bytes", "eb", |i| {
+            i.batch_count = vec![1, 0, 0, 0];
+            i.end = Some(End::AfterBatchCount(4));
+        }),
+        fault(5, 0, "more batches than bytes", "b", |i| {
+            i.batch_count = vec![1, 0x40, 0, 1]
+        }),
+        fault(3, 0, "16,385 batches", "eb", |i| {
+            i.batch_count = vec![1, 0x40, 0, 0];
+            i.longer = 5 * 16_385;
+        }),
+        fault(13, 0, "a record's byte too few lent", "", |i| {
+            i.room.records = 2 * RECORD - 1
+        }),
+        fault(6, 0, "a low nibble of 10", "0", |i| i.nibbles[0][0] = 10),
+        fault(6, 1, "a high nibble of 15", "", |i| i.nibbles[1][3] = 0xf0),
+        fault(7, 0, "a batch that runs past the operations", "0y", |i| {
+            i.nibbles[0] = [2, 2, 0, 0]
+        }),
+        fault(
+            8,
+            0,
+            "an immediate of the eighth group",
+            "0",
+            |i: &mut Bytes| {
+                i.nibbles[0] = [0, 0, 0, 0x20];
+                i.flags[0] |= 0x80;
+                i.flags[0] &= 0xfe;
+            },
+        ),
+        fault(
+            9,
+            0,
+            "a slot that holds operations",
+            "0",
+            |i: &mut Bytes| {
+                i.nibbles[0] = [0x11, 0, 0, 0];
+                i.flags[0] &= 0xfe;
+            },
+        ),
+        fault(10, 0, "a flag from the count on", "", |i| i.flags[0] |= 4),
+        fault(10, 0, "an immediate's slot flagged", "", |i| {
+            i.flags[0] |= 2
+        }),
+        fault(7, 1, "a later batch that runs past", "1", |i| {
+            i.nibbles[1] = [0, 9, 0, 0]
+        }),
+        fault(10, 1, "a flagged group without Noop", "1", |i| {
+            i.flags[1] |= 1
+        }),
+        fault(11, 0, "operations left over", "1oxy", |i| {
+            i.ops.push(vec![2]);
+            i.count = count_bytes(4);
+        }),
+    ];
+    let take_bytes = |i: &Bytes, take: &mut dyn FnMut(Call<'_>)| {
+        let (bytes, at) = i.buffer();
+        take(Call::Decode {
+            table: &i.table,
+            bytes: &bytes,
+            at,
+            room: i.room,
+        })
+    };
+    combine("decode", &good, &faults, visit, take_bytes);
+
+    // Pairs that want the same bytes, by hand.
+    let mut by_hand = |name: &str, pair, number, place, spoil: &dyn Fn(&mut Bytes)| {
+        let mut input = good.clone();
+        spoil(&mut input);
+        take_bytes(&input, &mut |call| {
+            visit(Case {
+                name: format!("decode: {name}"),
+                pair: Some(pair),
+                call,
+                number,
+                place,
+            })
+        });
+    };
+    by_hand("form of the count before its end", (3, 2), 3, 0, &|i| {
+        i.count = vec![8];
+        i.end = Some(End::InCount);
+    });
+    by_hand("end of the count before its form", (2, 3), 2, 2, &|i| {
+        i.count = vec![4, 0];
+        i.ops.clear();
+        i.end = Some(End::InCount);
+    });
+    by_hand("a long count before the room", (3, 13), 3, 0, &|i| {
+        i.count = vec![4, 0, 8];
+        i.room.codes = 0;
+    });
+    by_hand("unassigned before missing bytes", (4, 2), 4, 2, &|i| {
+        i.ops[2] = vec![4, 0];
+        i.end = Some(End::InOp(2));
+    });
+    by_hand("the first of two operations", (2, 4), 2, 2 + 1 + 10, &|i| {
+        i.ops[2] = immediate(FIELD);
+        i.end = Some(End::InOp(2));
+    });
+    by_hand("5 before 3 of the batch count", (5, 3), 5, 0, &|i| {
+        i.batch_count = vec![1, 0x40, 0, 0];
+        i.end = Some(End::AfterBatchCount(9));
+    });
+    by_hand(
+        "3 of the batch count before the room",
+        (3, 13),
+        3,
+        0,
+        &|i| {
+            i.batch_count = vec![1, 0x40, 0, 0];
+            i.longer = 5 * 16_385;
+            i.room.records = 0;
+        },
+    );
+    by_hand(
+        "a later nibble before an earlier batch",
+        (6, 7),
+        6,
+        1,
+        &|i| {
+            i.nibbles[0] = [0x99, 0, 0, 0];
+            i.nibbles[1][0] = 10;
+        },
+    );
+    by_hand("past the operations before a slot", (7, 8), 7, 0, &|i| {
+        i.nibbles[0] = [0, 0, 0, 0x90];
+    });
+    by_hand("past the operations before padding", (7, 10), 7, 0, &|i| {
+        i.nibbles[0] = [9, 0, 0, 0];
+        i.flags[0] = 4;
+    });
+    by_hand("slots in order: taken before past 7", (9, 8), 9, 0, &|i| {
+        // Group 6 has three immediates, group 7 a plain operation.
+        i.ops = vec![immediate(5), immediate(6), immediate(7), vec![2]];
+        i.count = count_bytes(4);
+        i.nibbles = vec![[0, 0, 0, 0x13], [0; 4]];
+        i.flags = vec![0, 0];
+    });
+    by_hand(
+        "slots in order: past 7 in an earlier group",
+        (8, 9),
+        9,
+        0,
+        &|i| {
+            // Group 0 has two immediates, and group 2 holds operations; group 7 has an immediate.
+            i.ops = vec![immediate(5), immediate(6), vec![2], immediate(7)];
+            i.count = count_bytes(4);
+            i.nibbles = vec![[2, 1, 0, 0x10], [0; 4]];
+            i.flags = vec![0, 0];
+        },
+    );
+    by_hand("a slot before padding", (9, 10), 9, 0, &|i| {
+        i.nibbles[0] = [0x11, 0, 0, 0];
+        i.flags[0] = 1;
+    });
+    by_hand(
+        "padding before operations left over",
+        (10, 11),
+        10,
+        1,
+        &|i| {
+            i.ops.push(vec![2]);
+            i.count = count_bytes(4);
+            i.flags[1] = 2;
+        },
+    );
+    by_hand(
+        "a batch's padding before the next's end",
+        (10, 7),
+        10,
+        0,
+        &|i| {
+            i.flags[0] = 2;
+            i.nibbles[1] = [9, 0, 0, 0];
+        },
+    );
+}
+
+// CHECKS
+// ================================================================================================
+
+type Spoil = Fault<Block>;
+
+/// 3, for all functions on a block.
+fn limits() -> Vec<Spoil> {
+    vec![
+        fault(3, 0, "a value too many", "e", |i: &mut Block| {
+            i.values.push(0)
+        }),
+        fault(3, 0, "a byte over two records", "r", |i| i.crumbs = 1),
+        fault(3, 0, "81 bytes over two records", "r", |i| i.crumbs = 81),
+        fault(3, 0, "over 65,535 operations", "e", |i| {
+            i.codes.resize(65_536, 2);
+            i.values.resize(65_536, 0);
+        }),
+        fault(3, 0, "over 16,384 records", "r", |i| {
+            i.records.resize(16_385 * RECORD, 0)
+        }),
+    ]
+}
+
+/// 15, all clauses.
+fn structures() -> Vec<Spoil> {
+    vec![
+        fault(15, 0, "a count of 9", "", |i| i.records[COUNT] = 9),
+        fault(15, 0, "a flag of 2", "", |i| i.records[FLAG + 3] = 2),
+        fault(15, 0, "starts from 1", "", |i| i.records[START] = 1),
+        fault(15, 0, "falling starts", "", |i| i.records[START + 8] = 8),
+        fault(15, 1, "a group of ten", "er", |i| {
+            for start in 1..9 {
+                i.records[RECORD + START + start] = 10;
+            }
+            i.codes.resize(19, 0);
+            i.values.resize(19, 0);
+        }),
+        fault(15, 1, "operations past the count", "", |i| {
+            i.records[RECORD + COUNT] = 0
+        }),
+        fault(15, 2, "an operation that no batch covers", "e", |i| {
+            i.codes.push(2);
+            i.values.push(0);
+        }),
+        fault(15, 2, "a batch that covers too many", "r", |i| {
+            let more = Batch {
+                starts: [0, 1, 1, 1, 1, 1, 1, 1, 1],
+                count: 1,
+                ..Batch::default()
+            };
+            i.records.truncate(RECORD);
+            i.records.extend(more.record());
+        }),
+    ]
+}
+
+/// 10.
+fn paddings() -> Vec<Spoil> {
+    vec![
+        fault(10, 0, "a flagged group that ends in another", "", |i| {
+            i.records[FLAG] = 1
+        }),
+        fault(10, 0, "an empty group flagged", "", |i| {
+            i.records[FLAG + 7] = 1
+        }),
+        fault(10, 1, "a flag from the count on", "r", |i| {
+            i.records[RECORD + FLAG + 2] = 1
+        }),
+        fault(10, 1, "a flagged group without Noop", "", |i| {
+            i.codes[10] = 200
+        }),
+    ]
+}
+
+fn checks(visit: &mut Visit<'_>) {
+    let good = two_batches();
+    let mut faults = limits();
+    faults.extend(structures());
+    combine("structure", &good, &faults, visit, |i, take| {
+        let run = i.run();
+        take(Call::Structure {
+            arena: i.arena(&run),
+        })
+    });
+    faults.extend(paddings());
+    combine("padding", &good, &faults, visit, |i, take| {
+        let run = i.run();
+        take(Call::Padding {
+            arena: i.arena(&run),
+        })
+    });
+
+    let mut faults = limits();
+    faults.push(fault(14, 0, "a table of 127 bytes", "t", |i| {
+        i.table.pop();
+    }));
+    faults.push(fault(14, 0, "Noop with an immediate", "t", |i| {
+        i.table[0] = 1
+    }));
+    faults.extend(structures());
+    faults.extend([
+        fault(
+            4,
+            3,
+            "an immediate at the field's order",
+            "",
+            |i: &mut Block| i.values[3] = FIELD,
+        ),
+        fault(4, 10, "an unassigned opcode", "", |i| i.codes[10] = 4),
+        fault(16, 0, "a wrong group number", "", |i| {
+            i.records[NUMBER] ^= 1
+        }),
+        fault(8, 0, "a slot that is not under the count", "", |i| {
+            i.records[COUNT] = 7
+        }),
+        fault(16, 0, "a wrong immediate", "", |i| {
+            i.records[NUMBER + 8] ^= 1
+        }),
+        fault(9, 1, "a slot that holds operations", "r1", |i| {
+            i.records[RECORD + START + 1] = 1
+        }),
+        fault(16, 1, "a wrong immediate in a later batch", "r1", |i| {
+            i.records[RECORD + NUMBER + 15] = 1
+        }),
+        fault(16, 1, "an empty group that is not 0", "r", |i| {
+            i.records[RECORD + COUNT] = 3;
+            i.records[RECORD + NUMBER + 16] = 1;
+        }),
+    ]);
+    combine("commitment", &good, &faults, visit, |i, take| {
+        let run = i.run();
+        take(Call::Commitment {
+            table: &i.table,
+            arena: i.arena(&run),
+        })
+    });
+
+    // The order inside a group, by hand: two immediates in group 0 of three groups.
+    let list = [op(1, 5), op(1, 6), op(2, 0)];
+    let batch = Batch {
+        starts: [0, 2, 2, 3, 3, 3, 3, 3, 3],
+        flags: [0; 8],
+        numbers: [129, 5, 2, 0, 0, 0, 0, 0],
+        count: 3,
+    };
+    let mut by_hand = |name: &str, pair, number, spoil: &dyn Fn(&mut Batch)| {
+        let mut batch = batch.clone();
+        spoil(&mut batch);
+        let block = Block::new(&list, &[batch]);
+        visit(Case {
+            name: format!("commitment: {name}"),
+            pair: Some(pair),
+            call: Call::Commitment {
+                table: &block.table,
+                arena: block.arena(&block.records),
+            },
+            number,
+            place: 0,
+        });
+    };
+    by_hand("a slot before an earlier value", (9, 16), 9, &|b| {
+        b.numbers[1] = 6
+    });
+    by_hand("a slot past the count before a value", (8, 16), 8, &|b| {
+        b.starts = [0, 3, 3, 3, 3, 3, 3, 3, 3];
+        b.numbers[0] = 129 + (2 << 14);
+        b.numbers[1] = 6;
+        b.count = 2;
+    });
+    by_hand("a number before its slots", (16, 9), 16, &|b| {
+        b.numbers[0] = 128
+    });
+    by_hand("a group's slot before a later number", (9, 16), 9, &|b| {
+        b.numbers[2] = 3
+    });
+    by_hand("a slot at 8 before nothing is under it", (8, 8), 8, &|b| {
+        b.starts = [0, 0, 0, 0, 0, 0, 0, 0, 3];
+        b.numbers = [0, 0, 0, 0, 0, 0, 0, 129 + (2 << 14)];
+        b.count = 8;
+    });
+    by_hand("a value before an empty group", (16, 16), 16, &|b| {
+        b.starts = [0, 3, 3, 3, 3, 3, 3, 3, 3];
+        b.numbers = [129 + (2 << 14), 5, 7, 1, 0, 0, 0, 0];
+        b.count = 4;
+    });
+}
+
+// TABLES AND LOOKUPS
+// ================================================================================================
+
+fn tables(visit: &mut Visit<'_>) {
+    for (raw, need) in [(true, 11), (false, 12)] {
+        let mut good = two_batches();
+        good.room = need;
+        let mut faults = limits();
+        faults.extend(structures());
+        faults.extend(paddings());
+        faults.push(fault(13, 0, "an entry too few lent", "m", |i| i.room -= 1));
+        faults.push(fault(13, 0, "nothing lent", "m", |i| i.room = 0));
+        let name = if raw { "raw table" } else { "padded table" };
+        combine(name, &good, &faults, visit, |i, take| {
+            let run = i.run();
+            let arena = i.arena(&run);
+            take(if raw {
+                Call::RawTable {
+                    arena,
+                    room: i.room,
+                }
+            } else {
+                Call::PaddedTable {
+                    arena,
+                    room: i.room,
+                }
+            })
+        });
+    }
+    // No operations and no batches: one entry, and room for none.
+    let empty = Arena {
+        codes: &[],
+        values: &[],
+        records: &[],
+    };
+    for (room, number) in [(0, 13), (1, 0)] {
+        for call in [
+            Call::RawTable { arena: empty, room },
+            Call::PaddedTable { arena: empty, room },
+        ] {
+            visit(Case {
+                name: format!("{}: an empty block, {room} lent", call.function().name()),
+                pair: None,
+                call,
+                number,
+                place: 0,
+            });
+        }
+    }
+}
+
+fn lookups(visit: &mut Visit<'_>) {
+    // Only the clauses of one record.
+    let faults = &structures()[..6];
+    for batch in 0..2 {
+        let mut good = two_batches();
+        if batch == 1 {
+            good.records.rotate_left(RECORD);
+        }
+        for asked in [0, 1, 2, 8, 9, usize::MAX] {
+            for group in [true, false] {
+                let name = if group { "group" } else { "next group" };
+                let call = |i: &Block, take: &mut dyn FnMut(Call<'_>)| {
+                    let record = &i.records[..RECORD];
+                    take(if group {
+                        Call::Group {
+                            record,
+                            index: asked,
+                        }
+                    } else {
+                        Call::NextGroup {
+                            record,
+                            group: asked,
+                        }
+                    });
+                };
+                let mut one = |name: String, number, input: &Block| {
+                    call(input, &mut |call| {
+                        visit(Case {
+                            name: name.clone(),
+                            pair: None,
+                            call,
+                            number,
+                            place: 0,
+                        })
+                    })
+                };
+                one(format!("{name}: {asked} of a good record"), 0, &good);
+                if asked > 0 || batch > 0 {
+                    continue;
+                }
+                for fault in faults {
+                    let mut input = good.clone();
+                    (fault.spoil)(&mut input);
+                    if fault.place == 1 {
+                        input.records.rotate_left(RECORD);
+                    }
+                    one(format!("{name}: {} (15)", fault.name), 15, &input);
+                }
+            }
+        }
+    }
+    // A run that is not one record is not looked into (docs/DECISIONS.md, "Records").
+    for length in [0, RECORD - 1, RECORD + 1, 2 * RECORD] {
+        let run = vec![9; length];
+        for call in [
+            Call::Group {
+                record: &run,
+                index: 0,
+            },
+            Call::NextGroup {
+                record: &run,
+                group: 0,
+            },
+        ] {
+            visit(Case {
+                name: format!("{}: {length} bytes (3)", call.function().name()),
+                pair: None,
+                call,
+                number: 3,
+                place: 0,
+            });
+        }
+    }
+    // Index lookups never refuse.
+    let entries = [0, 1, 1, 4, u64::MAX - 4, u64::MAX - 4];
+    for at in [0, 1, 2, 3, 4, 5, 6, usize::MAX] {
+        for call in [
+            Call::PaddedIndex {
+                table: &entries,
+                raw: at,
+            },
+            Call::RawIndex {
+                table: &entries,
+                padded: at,
+            },
+            Call::PaddedIndex {
+                table: &[],
+                raw: at,
+            },
+            Call::RawIndex {
+                table: &[],
+                padded: at,
+            },
+        ] {
+            visit(Case {
+                name: format!("{}: {at}", call.function().name()),
+                pair: None,
+                call,
+                number: 0,
+                place: 0,
+            });
+        }
+    }
+}
+
+/// All cases, function by function.
+pub fn all(visit: &mut Visit<'_>) {
+    build(visit);
+    encode(visit);
+    decode(visit);
+    checks(visit);
+    tables(visit);
+    lookups(visit);
+}

@@ -1,0 +1,315 @@
+//! Document 01's "Numbers to check", and the offset cases.
+
+use model::{
+    Arena, Batch, FIELD, RECORD, Room, batches_of, build, cases::table_t, commitment, count_bytes,
+    decode, encode, group, next_group, padded_index, padded_table, padding, raw_index, raw_table,
+    read_count, structure,
+};
+
+/// Room for anything in these tests.
+const WIDE: Room = Room {
+    codes: 70_000,
+    values: 70_000,
+    records: 3_000 * RECORD,
+};
+
+/// What build makes of a list, cut at its totals.
+struct Block {
+    codes: Vec<u8>,
+    values: Vec<u64>,
+    records: Vec<u8>,
+    batches: Vec<Batch>,
+}
+
+impl Block {
+    fn arena(&self) -> Arena<'_> {
+        Arena {
+            codes: &self.codes,
+            values: &self.values,
+            records: &self.records,
+        }
+    }
+
+    fn bytes(&self) -> Vec<u8> {
+        let answer = encode(&table_t(), self.arena(), &[0; 700_000], 0);
+        assert_eq!(answer.number, 0);
+        answer.buffer[..answer.rest[0]].to_vec()
+    }
+}
+
+fn block(list: &[(u8, u64)]) -> Block {
+    let codes: Vec<u8> = list.iter().map(|op| op.0).collect();
+    let values: Vec<u64> = list.iter().map(|op| op.1).collect();
+    let answer = build(&table_t(), &codes, &values, WIDE);
+    assert_eq!(answer.number, 0);
+    let [batches, operations, _] = answer.rest;
+    let records = answer.records[..batches * RECORD].to_vec();
+    Block {
+        codes: answer.codes[..operations].to_vec(),
+        values: answer.values[..operations].to_vec(),
+        batches: batches_of(&records),
+        records,
+    }
+}
+
+fn plain(n: usize) -> Vec<(u8, u64)> {
+    vec![(2, 0); n]
+}
+
+fn push(n: usize) -> Vec<(u8, u64)> {
+    vec![(1, 5); n]
+}
+
+#[test]
+fn p1_to_p3() {
+    let p1 = block(&[(1, 5)]);
+    assert_eq!(p1.codes, [1, 0]);
+    assert_eq!(p1.values, [5, 0]);
+    assert_eq!(
+        p1.batches,
+        [Batch {
+            starts: [0, 2, 2, 2, 2, 2, 2, 2, 2],
+            flags: [1, 0, 0, 0, 0, 0, 0, 0],
+            numbers: [1, 5, 0, 0, 0, 0, 0, 0],
+            count: 2,
+        }]
+    );
+    let bytes = [5, 1, 5, 0, 0, 0, 0, 0, 0, 0, 0, 1, 0, 0, 0, 2, 0, 0, 0, 1];
+    assert_eq!(p1.bytes(), bytes);
+    let read = decode(&table_t(), &bytes, 0, WIDE);
+    assert_eq!((read.number, read.rest), (0, [1, 2, 20]));
+    assert_eq!(read.records[..RECORD], p1.records);
+    let raw = raw_table(p1.arena(), 4);
+    assert_eq!(
+        (raw.number, raw.rest[0], raw.entries),
+        (0, 2, vec![0, 1, 0, 0])
+    );
+    let padded = padded_table(p1.arena(), 3);
+    assert_eq!(
+        (padded.number, padded.rest[0], padded.entries),
+        (0, 3, vec![0, 0, 1])
+    );
+}
+
+#[test]
+fn p4_to_p7() {
+    let p4 = block(&plain(9));
+    assert_eq!(p4.batches.len(), 1);
+    assert_eq!(p4.batches[0].count, 1);
+    assert_eq!(p4.batches[0].numbers[0], 145_249_953_336_295_682);
+    assert_eq!(p4.batches[0].flags, [0; 8]);
+
+    let p5 = block(&plain(19));
+    assert_eq!(p5.batches.len(), 1);
+    assert_eq!(p5.batches[0].starts, [0, 9, 18, 19, 20, 20, 20, 20, 20]);
+    assert_eq!(p5.batches[0].flags, [0, 0, 0, 1, 0, 0, 0, 0]);
+    assert_eq!(p5.batches[0].numbers[3], 0);
+    assert_eq!(p5.batches[0].count, 4);
+
+    let p6 = block(&[plain(8), push(1)].concat());
+    assert_eq!(p6.batches.len(), 1);
+    assert_eq!(p6.batches[0].starts, [0, 8, 10, 10, 11, 11, 11, 11, 11]);
+    assert_eq!(p6.batches[0].flags, [0, 1, 0, 1, 0, 0, 0, 0]);
+    assert_eq!(
+        p6.batches[0].numbers,
+        [1_134_765_260_439_810, 1, 5, 0, 0, 0, 0, 0]
+    );
+
+    let p7 = block(&push(7));
+    assert_eq!(p7.batches.len(), 1);
+    assert_eq!(p7.batches[0].count, 8);
+    assert_eq!(p7.codes.len(), 8);
+    assert_eq!(p7.batches[0].numbers[0], 4_432_676_798_593);
+    assert_eq!(block(&push(8)).batches.len(), 2);
+}
+
+#[test]
+fn p8() {
+    for (count, form) in [
+        (127, vec![0xff]),
+        (128, vec![2, 2]),
+        (16_383, vec![0xfe, 0xff]),
+        (16_384, vec![4, 0, 2]),
+    ] {
+        assert_eq!(count_bytes(count), form);
+        assert_eq!(read_count(&form, 0), Ok((count, form.len())));
+    }
+    for count in 0..=65_535 {
+        let form = count_bytes(count);
+        assert_eq!(read_count(&form, 0), Ok((count, form.len())));
+    }
+    assert_eq!(read_count(&[4, 0, 8], 0).unwrap_err().number, 3);
+}
+
+/// A block of plain operations with one batch of these nibbles.
+fn with_nibbles(ops: usize, nibbles: [u8; 4]) -> Vec<u8> {
+    let mut bytes = count_bytes(ops);
+    bytes.extend(vec![2; ops]);
+    bytes.extend([1, 0, 0, 0]);
+    bytes.extend(nibbles);
+    bytes.push(0);
+    bytes
+}
+
+#[test]
+fn p9_p10_and_offsets() {
+    let table = table_t();
+    let number = |bytes: &[u8], at| {
+        let answer = decode(&table, bytes, at, WIDE);
+        (answer.number, answer.place)
+    };
+    assert_eq!(number(&with_nibbles(9, [9, 0, 0, 0]), 0), (0, 0));
+    assert_eq!(number(&with_nibbles(10, [10, 0, 0, 0]), 0), (6, 0));
+
+    let empty = decode(&table, &with_nibbles(0, [0; 4]), 0, WIDE);
+    assert_eq!((empty.number, empty.rest), (0, [1, 0, 10]));
+    assert_eq!(empty.records[RECORD - 1], 0);
+    assert_eq!(number(&with_nibbles(1, [0; 4]), 0), (11, 0));
+
+    let bytes = with_nibbles(9, [9, 0, 0, 0]);
+    assert_eq!(number(&bytes, bytes.len()), (2, bytes.len()));
+    assert_eq!(number(&bytes, bytes.len() + 1), (1, 0));
+    assert_eq!(number(&[1, 1, 0, 0, 0, 0, 0, 0, 0], 0), (5, 0));
+    assert_eq!(number(&[1, 0, 0, 0, 0], 0), (0, 0));
+}
+
+/// What the numbers above leave open (the list of readings, C-12).
+#[test]
+fn the_greedy_fit() {
+    let full = block(&plain(72));
+    assert_eq!(full.batches.len(), 1);
+    assert_eq!(full.batches[0].starts, [0, 9, 18, 27, 36, 45, 54, 63, 72]);
+    assert_eq!(full.batches[0].flags, [0; 8]);
+    assert_eq!(block(&plain(73)).batches.len(), 2);
+    assert_eq!(block(&[push(7), plain(2)].concat()).batches.len(), 1);
+    assert_eq!(block(&[push(7), plain(3)].concat()).batches.len(), 2);
+    // Two batches: all nibbles, then all flags.
+    let bytes = block(&[push(7), plain(2), push(1)].concat()).bytes();
+    assert_eq!(
+        bytes[bytes.len() - 14..],
+        [2, 0, 0, 0, 9, 0, 0, 0, 2, 0, 0, 0, 0, 1]
+    );
+}
+
+/// "Errors the rules must catch".
+#[test]
+fn errors_to_catch() {
+    // A kind 2 value is not placed.
+    let carried = block(&[(3, 9)]);
+    assert_eq!(carried.batches[0].count, 1);
+    assert_eq!(carried.batches[0].numbers, [3, 0, 0, 0, 0, 0, 0, 0]);
+    assert_eq!(carried.bytes()[..10], [3, 3, 9, 0, 0, 0, 0, 0, 0, 0]);
+    // An immediate is not the ninth of a group.
+    assert_eq!(block(&[plain(8), push(1)].concat()).batches[0].starts[1], 8);
+    // A caller's own last Noop carries no flag and stays.
+    let own = block(&[(2, 0), (0, 0)]);
+    assert_eq!(own.batches[0].flags, [0; 8]);
+    assert_eq!(raw_table(own.arena(), 3).rest[0], 3);
+    // An empty batch in the middle of a block.
+    let mut bytes = vec![5, 2, 2, 3, 0, 0, 0];
+    bytes.extend([1, 0, 0, 0, 0, 0, 0, 0, 1, 0, 0, 0, 0, 0, 0]);
+    assert_eq!(decode(&table_t(), &bytes, 0, WIDE).rest, [3, 2, 22]);
+}
+
+#[test]
+fn lookups() {
+    let p6 = block(&[plain(8), push(1)].concat());
+    // Starts 0 8 10 10 11: group 2 is the immediate, group 3 is padding.
+    let found = |index| group(&p6.records, index).rest;
+    assert_eq!(found(0), [1, 0, 0]);
+    assert_eq!(found(7), [1, 0, 7]);
+    assert_eq!(found(8), [1, 1, 0]);
+    assert_eq!(found(10), [1, 3, 0]);
+    assert_eq!(found(11), [0; 3]);
+    assert_eq!(found(usize::MAX), [0; 3]);
+    let next = |group| next_group(&p6.records, group).rest;
+    assert_eq!(next(0), [1, 1, 0]);
+    assert_eq!(next(1), [1, 3, 0]);
+    assert_eq!(next(3), [0; 3]);
+    assert_eq!(next(usize::MAX), [0; 3]);
+    assert_eq!(group(&p6.records[1..], 0).number, 3);
+
+    let table = [0, 1, u64::MAX];
+    assert_eq!(padded_index(&table, 1).rest, [1, 2, 0]);
+    assert_eq!(padded_index(&table, 2).rest, [0; 3]);
+    assert_eq!(padded_index(&[0, u64::MAX - 1], 1).rest, [1, usize::MAX, 0]);
+    assert_eq!(padded_index(&table, 3).rest, [0; 3]);
+    assert_eq!(raw_index(&table, 1).rest, [1, 0, 0]);
+    assert_eq!(raw_index(&table, 2).rest, [0; 3]);
+    assert_eq!(raw_index(&[], 0).rest, [0; 3]);
+}
+
+/// A small generator, for lists that are the same each time.
+struct Seed(u64);
+
+impl Seed {
+    fn under(&mut self, bound: u64) -> u64 {
+        self.0 ^= self.0 << 13;
+        self.0 ^= self.0 >> 7;
+        self.0 ^= self.0 << 17;
+        self.0 % bound
+    }
+}
+
+/// Demand 3 on lists of all kinds.
+#[test]
+fn lists_there_and_back() {
+    let table = table_t();
+    let mut seed = Seed(0x9e37_79b9_7f4a_7c15);
+    for turn in 0..400 {
+        let n = 1 + seed.under(if turn % 20 == 0 { 1_000 } else { 60 }) as usize;
+        let immediates = seed.under(11);
+        let list: Vec<(u8, u64)> = (0..n)
+            .map(|_| match seed.under(10) {
+                k if k < immediates => (1, seed.under(FIELD)),
+                9 => (3, seed.under(FIELD)),
+                8 => (0, 0),
+                _ => (2, 0),
+            })
+            .collect();
+        let block = block(&list);
+        let arena = block.arena();
+        assert_eq!(structure(arena).number, 0);
+        assert_eq!(padding(arena).number, 0);
+        assert_eq!(commitment(&table, arena).number, 0);
+
+        let last = block.batches.len() - 1;
+        let mut at = 0;
+        let mut kept = Vec::new();
+        for (i, batch) in block.batches.iter().enumerate() {
+            assert!([1, 2, 4, 8].contains(&batch.count));
+            assert!(i == last || batch.count == 8);
+            for group in 0..8 {
+                let (from, to) = (batch.starts[group], batch.starts[group + 1]);
+                assert!(to - from <= 9);
+                for op in from..to {
+                    let op = at + op as usize;
+                    let ends = op + 1 == at + to as usize;
+                    assert!(!(ends && block.codes[op] == 1));
+                    if !(ends && batch.flags[group] == 1) {
+                        kept.push((block.codes[op], block.values[op]));
+                    }
+                }
+            }
+            at += batch.total();
+        }
+        assert_eq!(kept, list);
+
+        let bytes = block.bytes();
+        let read = decode(&table, &bytes, 0, WIDE);
+        assert_eq!(read.rest, [last + 1, block.codes.len(), bytes.len()]);
+        assert_eq!(read.records[..block.records.len()], block.records);
+        assert_eq!(read.codes[..block.codes.len()], block.codes);
+        assert_eq!(read.values[..block.values.len()], block.values);
+        assert_ne!(decode(&table, &bytes[..bytes.len() - 1], 0, WIDE).number, 0);
+
+        let raw = raw_table(arena, n + 1);
+        let padded = padded_table(arena, block.codes.len() + 1);
+        assert_eq!((raw.number, padded.number), (0, 0));
+        for index in 0..=n {
+            let [found, there, _] = padded_index(&raw.entries, index).rest;
+            assert_eq!(found, 1);
+            assert_eq!(raw_index(&padded.entries, there).rest, [1, index, 0]);
+        }
+    }
+}

@@ -1,0 +1,118 @@
+//! Every refusal of every function, alone and with every later one that can be had beside it.
+
+use std::collections::BTreeSet;
+
+use model::{Call, Function, answer, cases};
+
+/// What document 01 promises of every refusal: totals 0, outputs zero, encode's buffer as it was.
+fn nothing_left(call: Call<'_>, answer: &model::Answer) {
+    assert_eq!(answer.rest, [0; 3]);
+    assert!(answer.codes.iter().all(|&b| b == 0));
+    assert!(answer.values.iter().all(|&b| b == 0));
+    assert!(answer.records.iter().all(|&b| b == 0));
+    assert!(answer.entries.iter().all(|&b| b == 0));
+    if let Call::Encode { buffer, .. } = call {
+        assert_eq!(answer.buffer, buffer);
+    }
+}
+
+#[test]
+fn each_number_and_place() {
+    let mut total = 0;
+    cases::all(&mut |case| {
+        let answer = answer(case.call);
+        assert_eq!(
+            (answer.number, answer.place),
+            (case.number, case.place),
+            "{}",
+            case.name
+        );
+        if answer.number != 0 {
+            nothing_left(case.call, &answer);
+        }
+        total += 1;
+    });
+    assert!(total > 1_000, "{total}");
+}
+
+/// The orders of refusal in document 01.
+const ORDERS: [(Function, &[u8]); 8] = [
+    (Function::Build, &[3, 14, 12, 4, 13]),
+    (Function::Encode, &[3, 14, 1, 15, 4, 13]),
+    (
+        Function::Decode,
+        &[3, 14, 1, 2, 3, 13, 4, 2, 5, 3, 13, 6, 7, 8, 9, 10, 11],
+    ),
+    (Function::Structure, &[3, 15]),
+    (Function::Padding, &[3, 15, 10]),
+    (Function::Commitment, &[3, 14, 15, 4, 16, 8, 16, 9, 16]),
+    (Function::RawTable, &[3, 15, 10, 13]),
+    (Function::PaddedTable, &[3, 15, 10, 13]),
+];
+
+/// Neighbours that no input can have at once.
+const APART: [(Function, u8, u8); 3] = [
+    // An empty list has no operation.
+    (Function::Build, 12, 4),
+    // An offset past the end is 1; only up to the end do bytes end inside anything.
+    (Function::Decode, 1, 2),
+    // The batch count is not there, so it can't be too large.
+    (Function::Decode, 2, 5),
+];
+
+#[test]
+fn no_number_and_no_pair_is_left_out() {
+    let mut alone = BTreeSet::new();
+    let mut pairs = BTreeSet::new();
+    cases::all(&mut |case| {
+        let function = case.call.function();
+        match case.pair {
+            None => {
+                alone.insert((function, case.number));
+            }
+            Some((first, second)) => {
+                pairs.insert((function, first, second));
+            }
+        }
+    });
+    for (function, order) in ORDERS {
+        assert!(alone.contains(&(function, 0)), "{function:?}");
+        for &number in order {
+            assert!(alone.contains(&(function, number)), "{function:?} {number}");
+        }
+        for two in order.windows(2) {
+            let pair = (function, two[0], two[1]);
+            assert!(pairs.contains(&pair) || APART.contains(&pair), "{pair:?}");
+        }
+    }
+    for function in [Function::Group, Function::NextGroup] {
+        for number in [0, 3, 15] {
+            assert!(alone.contains(&(function, number)), "{function:?} {number}");
+        }
+    }
+    // Decode's finer orders.
+    for (first, second) in [
+        (3, 2),
+        (2, 3),
+        (3, 13),
+        (13, 2),
+        (4, 2),
+        (2, 4),
+        (4, 5),
+        (5, 13),
+        (13, 7),
+        (6, 8),
+        (7, 10),
+        (8, 10),
+        (9, 10),
+        (9, 8),
+        (10, 7),
+        (8, 11),
+        (9, 11),
+    ] {
+        assert!(
+            pairs.contains(&(Function::Decode, first, second)),
+            "{first} {second}"
+        );
+    }
+}

@@ -1,0 +1,231 @@
+//! Every function over lent slices: nothing is allocated.
+//!
+//! Outputs longer than the result are filled with zeros after it. A refused build, decode or table
+//! leaves its outputs all zero; a refused encode changes no byte.
+
+use crate::{Arena, PaddedIndex, RECORD, RawIndex, Refusal, boundary};
+
+/// The runs that build and decode fill: opcodes, values, and records of 82 bytes.
+#[derive(Debug)]
+pub struct Outputs<'a> {
+    pub codes: &'a mut [u8],
+    pub values: &'a mut [u64],
+    pub records: &'a mut [u8],
+}
+
+/// What build made.
+#[derive(Clone, Copy, Debug, PartialEq, Eq)]
+pub struct Built {
+    pub batches: usize,
+    /// Padded operations.
+    pub operations: usize,
+}
+
+/// What decode read.
+#[derive(Clone, Copy, Debug, PartialEq, Eq)]
+pub struct Decoded {
+    pub batches: usize,
+    /// Padded operations.
+    pub operations: usize,
+    /// The bytes of the block.
+    pub used: usize,
+}
+
+/// Batches a list of operations under a table of kinds.
+///
+/// ```
+/// use oliastrofu::lent::{self, Built, Outputs};
+/// let mut table = [3; 128];
+/// table[..4].copy_from_slice(&[0, 1, 0, 2]);
+/// let (mut codes, mut values, mut records) = ([9; 3], [9; 3], [9; 82]);
+/// let out = Outputs { codes: &mut codes, values: &mut values, records: &mut records };
+/// let built = lent::build(&table, &[1], &[5], out)?;
+/// assert_eq!(built, Built { batches: 1, operations: 2 });
+/// assert_eq!((codes, values), ([1, 0, 0], [5, 0, 0]));
+/// # Ok::<(), oliastrofu::Refusal>(())
+/// ```
+pub fn build(
+    table: &[u8],
+    codes: &[u8],
+    values: &[u64],
+    out: Outputs<'_>,
+) -> Result<Built, Refusal> {
+    let reply = boundary::build(table, codes, values, out.codes, out.values, out.records);
+    Refusal::check(reply.number, reply.place)?;
+    Ok(Built {
+        batches: reply.batches,
+        operations: reply.operations,
+    })
+}
+
+/// Writes a block's bytes into a buffer from a position on; how many they are.
+///
+/// ```
+/// use oliastrofu::{Arena, lent};
+/// let mut table = [3; 128];
+/// table[..4].copy_from_slice(&[0, 1, 0, 2]);
+/// let nothing = Arena { codes: &[], values: &[], records: &[] };
+/// let mut buffer = [7; 8];
+/// assert_eq!(lent::encode(&table, nothing, &mut buffer, 2)?, 5);
+/// assert_eq!(buffer, [7, 7, 1, 0, 0, 0, 0, 7]);
+/// # Ok::<(), oliastrofu::Refusal>(())
+/// ```
+pub fn encode(
+    table: &[u8],
+    block: Arena<'_>,
+    buffer: &mut [u8],
+    at: usize,
+) -> Result<usize, Refusal> {
+    let reply = boundary::encode(table, block.codes, block.values, block.records, buffer, at);
+    Refusal::check(reply.number, reply.place)?;
+    Ok(reply.length)
+}
+
+/// Reads a block from a place in the bytes on.
+///
+/// ```
+/// use oliastrofu::lent::{self, Decoded, Outputs};
+/// let mut table = [3; 128];
+/// table[..4].copy_from_slice(&[0, 1, 0, 2]);
+/// let bytes = [3, 2, 1, 0, 0, 0, 1, 0, 0, 0, 0];
+/// let (mut codes, mut values, mut records) = ([9; 1], [9; 1], [9; 82]);
+/// let out = Outputs { codes: &mut codes, values: &mut values, records: &mut records };
+/// let read = lent::decode(&table, &bytes, 0, out)?;
+/// assert_eq!(read, Decoded { batches: 1, operations: 1, used: 11 });
+/// # Ok::<(), oliastrofu::Refusal>(())
+/// ```
+pub fn decode(table: &[u8], bytes: &[u8], at: usize, out: Outputs<'_>) -> Result<Decoded, Refusal> {
+    let reply = boundary::decode(table, bytes, at, out.codes, out.values, out.records);
+    Refusal::check(reply.number, reply.place)?;
+    Ok(Decoded {
+        batches: reply.batches,
+        operations: reply.operations,
+        used: reply.used,
+    })
+}
+
+/// The structure check.
+///
+/// ```
+/// use oliastrofu::{Arena, Cause, lent};
+/// let block = Arena { codes: &[2], values: &[0], records: &[0; 82] };
+/// let refusal = lent::structure(block).unwrap_err();
+/// // The one batch covers no operation: only the sum is wrong.
+/// assert_eq!((refusal.cause, refusal.place), (Cause::Structure, 1));
+/// ```
+pub fn structure(block: Arena<'_>) -> Result<(), Refusal> {
+    let reply = boundary::structure(block.codes, block.values, block.records);
+    Refusal::check(reply.number, reply.place)
+}
+
+/// The padding check (and before it the structure check).
+///
+/// ```
+/// use oliastrofu::{Arena, Cause, lent};
+/// let mut records = [0; 82];
+/// records[9] = 1;
+/// let block = Arena { codes: &[], values: &[], records: &records };
+/// assert_eq!(lent::padding(block).unwrap_err().cause, Cause::Padding);
+/// ```
+pub fn padding(block: Arena<'_>) -> Result<(), Refusal> {
+    let reply = boundary::padding(block.codes, block.values, block.records);
+    Refusal::check(reply.number, reply.place)
+}
+
+/// The commitment check (and before it structure and the operations).
+///
+/// ```
+/// use oliastrofu::{Arena, lent};
+/// let mut table = [3; 128];
+/// table[..4].copy_from_slice(&[0, 1, 0, 2]);
+/// let block = Arena { codes: &[], values: &[], records: &[0; 82] };
+/// assert_eq!(lent::commitment(&table, block), Ok(()));
+/// ```
+pub fn commitment(table: &[u8], block: Arena<'_>) -> Result<(), Refusal> {
+    let reply = boundary::commitment(table, block.codes, block.values, block.records);
+    Refusal::check(reply.number, reply.place)
+}
+
+/// Fills the table for raw indices; how many entries it has.
+///
+/// ```
+/// use oliastrofu::{Arena, lent};
+/// let mut entries = [9; 2];
+/// let nothing = Arena { codes: &[], values: &[], records: &[] };
+/// assert_eq!(lent::raw_table(nothing, &mut entries)?, 1);
+/// assert_eq!(entries, [0, 0]);
+/// # Ok::<(), oliastrofu::Refusal>(())
+/// ```
+pub fn raw_table(block: Arena<'_>, entries: &mut [u64]) -> Result<usize, Refusal> {
+    let reply = boundary::raw_table(block.codes, block.values, block.records, entries);
+    Refusal::check(reply.number, reply.place)?;
+    Ok(reply.entries)
+}
+
+/// Fills the table for padded indices; how many entries it has.
+///
+/// ```
+/// use oliastrofu::{Arena, Cause, lent};
+/// let nothing = Arena { codes: &[], values: &[], records: &[] };
+/// let refusal = lent::padded_table(nothing, &mut []).unwrap_err();
+/// assert_eq!(refusal.cause, Cause::Room);
+/// ```
+pub fn padded_table(block: Arena<'_>, entries: &mut [u64]) -> Result<usize, Refusal> {
+    let reply = boundary::padded_table(block.codes, block.values, block.records, entries);
+    Refusal::check(reply.number, reply.place)?;
+    Ok(reply.entries)
+}
+
+/// The padded index of a raw index; the run is exactly the raw table's entries.
+///
+/// ```
+/// use oliastrofu::{PaddedIndex, RawIndex, lent};
+/// assert_eq!(lent::padded_index(&[0, 1], RawIndex(1)), Some(PaddedIndex(2)));
+/// assert_eq!(lent::padded_index(&[0, 1], RawIndex(2)), None);
+/// ```
+pub fn padded_index(raw_table: &[u64], raw: RawIndex) -> Option<PaddedIndex> {
+    let reply = boundary::padded_index(raw_table, raw.0);
+    (reply.found != 0).then_some(PaddedIndex(reply.index))
+}
+
+/// The raw index of a padded index; the run is exactly the padded table's entries.
+///
+/// ```
+/// use oliastrofu::{PaddedIndex, RawIndex, lent};
+/// assert_eq!(lent::raw_index(&[0, 0, 1], PaddedIndex(2)), Some(RawIndex(1)));
+/// assert_eq!(lent::raw_index(&[1], PaddedIndex(0)), None);
+/// ```
+pub fn raw_index(padded_table: &[u64], padded: PaddedIndex) -> Option<RawIndex> {
+    let reply = boundary::raw_index(padded_table, padded.0);
+    (reply.found != 0).then_some(RawIndex(reply.index))
+}
+
+/// The group of an operation of a batch, and its place in the group; none past the end.
+///
+/// ```
+/// use oliastrofu::{Batch, lent};
+/// let record = Batch { starts: [0, 1, 3, 3, 3, 3, 3, 3, 3], count: 2, ..Batch::default() }.record();
+/// assert_eq!(lent::group_of(&record, 2)?, Some((1, 1)));
+/// assert_eq!(lent::group_of(&record, 3)?, None);
+/// # Ok::<(), oliastrofu::Refusal>(())
+/// ```
+pub fn group_of(record: &[u8; RECORD], index: usize) -> Result<Option<(usize, usize)>, Refusal> {
+    let reply = boundary::group(record, index);
+    Refusal::check(reply.number, reply.place)?;
+    Ok((reply.found != 0).then_some((reply.group, reply.position)))
+}
+
+/// The first group with operations after a group; none if there is none.
+///
+/// ```
+/// use oliastrofu::{Batch, lent};
+/// let record = Batch { starts: [0, 1, 1, 2, 2, 2, 2, 2, 2], count: 3, ..Batch::default() }.record();
+/// assert_eq!(lent::next_group(&record, 0)?, Some(2));
+/// assert_eq!(lent::next_group(&record, usize::MAX)?, None);
+/// # Ok::<(), oliastrofu::Refusal>(())
+/// ```
+pub fn next_group(record: &[u8; RECORD], group: usize) -> Result<Option<usize>, Refusal> {
+    let reply = boundary::next_group(record, group);
+    Refusal::check(reply.number, reply.place)?;
+    Ok((reply.found != 0).then_some(reply.group))
+}

@@ -1,0 +1,48 @@
+//! Basic blocks: batches, checks, index tables, bytes written and read, by a proved library.
+//!
+//! Every function answers on every input: with a result, or with a [`Refusal`] that has document
+//! 01's number and place. Nothing here panics. The functions of the root make room of their own;
+//! those of [`lent`] work on the caller's slices and allocate nothing.
+//!
+//! An operation is an opcode and a value. What an opcode's value is, a table of 128 kinds says: 0
+//! none; 1 an immediate, placed in a group; 2 a value that is carried but never placed; 3 the
+//! opcode is unassigned. Opcode 0 is Noop, of kind 0. Values are below 2^64 - 2^32 + 1.
+//!
+//! ```
+//! // Opcodes 0 and 2 have no value, 1 an immediate, 3 a value that is only carried.
+//! let mut table = [3; 128];
+//! table[..4].copy_from_slice(&[0, 1, 0, 2]);
+//!
+//! let block = oliastrofu::build(&table, &[2, 1, 3], &[0, 5, 9])?;
+//! oliastrofu::commitment(&table, &block)?;
+//! let bytes = oliastrofu::encode(&table, &block)?;
+//!
+//! let (read, used) = oliastrofu::decode(&table, &bytes, 0)?;
+//! assert_eq!((read, used), (block, bytes.len()));
+//! # Ok::<(), oliastrofu::Refusal>(())
+//! ```
+
+#![deny(unsafe_code)]
+#![deny(
+    clippy::arithmetic_side_effects,
+    clippy::expect_used,
+    clippy::indexing_slicing,
+    clippy::panic,
+    clippy::unreachable,
+    clippy::unwrap_used
+)]
+
+mod batch;
+pub mod boundary;
+pub mod lent;
+mod owned;
+mod refusal;
+
+pub use batch::{
+    Arena, Batch, Block, PaddedIndex, PaddedTable, RECORD, RawIndex, RawTable, VM_TABLE,
+};
+pub use owned::{
+    build, commitment, decode, encode, group_of, next_group, padded_index, padded_table, padding,
+    raw_index, raw_table, structure,
+};
+pub use refusal::{Cause, Refusal};

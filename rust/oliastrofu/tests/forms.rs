@@ -1,0 +1,230 @@
+//! The safe functions: both forms say the same, refusals have words, and nothing panics.
+
+use oliastrofu::{
+    Arena, Batch, Block, Cause, PaddedIndex, RECORD, RawIndex, Refusal, VM_TABLE, boundary, build,
+    commitment, decode, encode, group_of,
+    lent::{self, Outputs},
+    next_group, padded_index, padded_table, padding, raw_index, raw_table, structure,
+};
+
+/// A small generator, for inputs that are the same each time.
+struct Seed(u64);
+
+impl Seed {
+    fn next(&mut self) -> u64 {
+        self.0 ^= self.0 << 13;
+        self.0 ^= self.0 >> 7;
+        self.0 ^= self.0 << 17;
+        self.0
+    }
+
+    fn under(&mut self, bound: usize) -> usize {
+        (self.next() % bound as u64) as usize
+    }
+
+    fn bytes(&mut self, most: usize) -> Vec<u8> {
+        (0..self.under(most + 1))
+            .map(|_| self.next() as u8)
+            .collect()
+    }
+
+    fn small_bytes(&mut self, most: usize) -> Vec<u8> {
+        (0..self.under(most + 1))
+            .map(|_| self.under(12) as u8)
+            .collect()
+    }
+
+    fn numbers(&mut self, most: usize) -> Vec<u64> {
+        (0..self.under(most + 1))
+            .map(|_| self.next() >> self.under(64))
+            .collect()
+    }
+}
+
+#[test]
+fn every_number_has_words() {
+    for number in 0..=255u8 {
+        let cause = Cause::of_number(number);
+        assert_eq!(cause.number(), number);
+        let refusal = Refusal {
+            cause,
+            place: 9_876,
+        };
+        let words = refusal.to_string();
+        assert!(words.starts_with(&format!("refusal {number}: ")));
+        let placed = [2, 4, 6, 7, 8, 9, 10, 15, 16].contains(&number);
+        assert_eq!(words.contains("9876"), placed, "{words}");
+        assert_eq!(
+            matches!(cause, Cause::Other(_)),
+            !(1..=16).contains(&number)
+        );
+    }
+}
+
+#[test]
+fn there_and_back() -> Result<(), Refusal> {
+    let mut seed = Seed(0x2545_f491_4f6c_dd1d);
+    for size in (1..200).chain([16_383, 16_384]) {
+        let mut codes = Vec::new();
+        let mut values = Vec::new();
+        for _ in 0..size {
+            let (code, value) = match seed.under(4) {
+                0 => (91, seed.next() >> 1),
+                1 => (32, seed.next() >> 1),
+                2 => (0, 0),
+                _ => (1, 0),
+            };
+            codes.push(code);
+            values.push(value);
+        }
+        let block = build(&VM_TABLE, &codes, &values)?;
+        structure(&block)?;
+        padding(&block)?;
+        commitment(&VM_TABLE, &block)?;
+        let bytes = encode(&VM_TABLE, &block)?;
+        assert_eq!(decode(&VM_TABLE, &bytes, 0)?, (block.clone(), bytes.len()));
+        let batches: Vec<Batch> = block.batches().collect();
+        let same = Block::new(block.codes.clone(), block.values.clone(), &batches);
+        assert_eq!(same, block);
+
+        let raw = raw_table(&block)?;
+        let padded = padded_table(&block)?;
+        for index in 0..=size {
+            let Some(there) = padded_index(&raw, RawIndex(index)) else {
+                panic!("index {index} has a place");
+            };
+            assert_eq!(raw_index(&padded, there), Some(RawIndex(index)));
+            if index < size {
+                assert_eq!(block.codes[there.0], codes[index]);
+            }
+        }
+        assert_eq!(padded_index(&raw, RawIndex(size + 1)), None);
+        assert_eq!(raw_index(&padded, PaddedIndex(block.codes.len() + 1)), None);
+        for batch in batches {
+            for index in 0..batch.operations() {
+                assert!(group_of(&batch, index)?.is_some());
+            }
+            assert_eq!(group_of(&batch, batch.operations())?, None);
+            assert_eq!(next_group(&batch, 7)?, None);
+        }
+    }
+    Ok(())
+}
+
+/// 13 is for lent outputs: the forms with room of their own never give it.
+#[test]
+fn no_want_of_room() {
+    // A count of 100 and no operations.
+    let refusal = decode(&VM_TABLE, &[201], 0).unwrap_err();
+    assert_eq!((refusal.number(), refusal.place), (2, 1));
+    let refusal = decode(&VM_TABLE, &[201, 6], 0).unwrap_err();
+    assert_eq!((refusal.number(), refusal.place), (4, 0));
+    let refusal = build(&VM_TABLE, &[1; 16_385], &[0; 16_385]).unwrap_err();
+    assert_eq!(refusal.cause, Cause::Limit);
+}
+
+/// Any bytes, any lists, any lent buffer: an answer, and on refusal outputs that are all zero.
+#[test]
+fn anything_is_answered() {
+    let mut seed = Seed(0x9e37_79b9_7f4a_7c15);
+    for turn in 0..20_000 {
+        let table = if turn % 4 == 0 {
+            seed.small_bytes(130)
+        } else {
+            VM_TABLE.to_vec()
+        };
+        let codes = seed.small_bytes(20);
+        let mut values = vec![0; codes.len()];
+        if turn % 5 == 0 {
+            values = seed.numbers(20);
+        }
+        let mut records = seed.small_bytes(3 * RECORD);
+        if turn % 3 == 0 {
+            records.truncate(records.len() / RECORD * RECORD);
+        }
+        let bytes = if turn % 2 == 0 {
+            seed.bytes(60)
+        } else {
+            seed.small_bytes(60)
+        };
+        let at = match seed.under(8) {
+            0 => usize::MAX,
+            1 => bytes.len(),
+            _ => seed.under(4),
+        };
+        let mut out = Block {
+            codes: seed.bytes(30),
+            values: seed.numbers(30),
+            records: seed.bytes(200),
+        };
+        for decoding in [true, false] {
+            let lent = Outputs {
+                codes: &mut out.codes,
+                values: &mut out.values,
+                records: &mut out.records,
+            };
+            let refused = if decoding {
+                lent::decode(&table, &bytes, at, lent).is_err()
+            } else {
+                lent::build(&table, &codes, &values, lent).is_err()
+            };
+            if refused {
+                assert!(out.codes.iter().chain(&out.records).all(|&byte| byte == 0));
+                assert!(out.values.iter().all(|&value| value == 0));
+            }
+        }
+        let arena = Arena {
+            codes: &codes,
+            values: &values,
+            records: &records,
+        };
+        let mut buffer = bytes.clone();
+        if lent::encode(&table, arena, &mut buffer, at).is_err() {
+            assert_eq!(buffer, bytes);
+        }
+        let mut entries = seed.numbers(30);
+        if lent::raw_table(arena, &mut entries).is_err() {
+            assert!(entries.iter().all(|&entry| entry == 0));
+        }
+        let _ = lent::padded_table(arena, &mut entries);
+        let _ = lent::structure(arena);
+        let _ = lent::padding(arena);
+        let _ = lent::commitment(&table, arena);
+        let table = seed.numbers(8);
+        let _ = lent::padded_index(&table, RawIndex(at));
+        let _ = lent::raw_index(&table, PaddedIndex(at));
+        if let Some(record) = records.first_chunk::<RECORD>() {
+            let _ = lent::group_of(record, at);
+            let _ = lent::next_group(record, at);
+        }
+
+        // The forms with room of their own.
+        let _ = build(&VM_TABLE, &codes, &values);
+        let _ = decode(&VM_TABLE, &bytes, at);
+        let block = Block {
+            codes,
+            values,
+            records,
+        };
+        let _ = encode(&VM_TABLE, &block);
+        let _ = structure(&block);
+        let _ = padding(&block);
+        let _ = commitment(&VM_TABLE, &block);
+        let _ = raw_table(&block);
+        let _ = padded_table(&block);
+        for batch in block.batches() {
+            let _ = group_of(&batch, at);
+            let _ = next_group(&batch, at);
+        }
+    }
+}
+
+/// A reply that names no cause is no refusal, and a refusal's totals are 0.
+#[test]
+fn the_boundary_hands_replies_on() {
+    let reply = boundary::build(&VM_TABLE, &[], &[], &mut [], &mut [], &mut []);
+    assert_eq!((reply.number, reply.place), (12, 0));
+    assert_eq!((reply.batches, reply.operations), (0, 0));
+    let reply = boundary::structure(&[], &[], &[]);
+    assert_eq!((reply.number, reply.place), (0, 0));
+}

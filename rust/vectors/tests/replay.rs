@@ -1,0 +1,263 @@
+//! The files can be replayed from their text alone, and those that are kept are the ones that are
+//! written today.
+
+use std::{collections::BTreeMap, fs};
+
+use model::{Answer, Arena, Call, Function, Room, answer};
+use vectors::{agree, rest};
+
+/// The numbers of a line.
+struct Numbers(Vec<u64>, usize);
+
+impl Numbers {
+    fn of(line: &str) -> Self {
+        let numbers = line.split(' ').map(|word| {
+            let number = u64::from_str_radix(word, 16).expect("a number in hex");
+            assert_eq!(format!("{number:x}"), word);
+            number
+        });
+        Self(numbers.collect(), 0)
+    }
+
+    fn next(&mut self) -> u64 {
+        self.1 += 1;
+        self.0[self.1 - 1]
+    }
+
+    fn size(&mut self) -> usize {
+        self.next() as usize
+    }
+
+    fn run(&mut self) -> Vec<u64> {
+        let length = self.size();
+        let given = self.size();
+        assert!(given <= length);
+        let mut run: Vec<u64> = (0..given).map(|_| self.next()).collect();
+        run.resize(length, run.last().copied().unwrap_or(0));
+        run
+    }
+
+    fn bytes(&mut self) -> Vec<u8> {
+        self.run()
+            .into_iter()
+            .map(|item| item.try_into().expect("a byte"))
+            .collect()
+    }
+
+    fn room(&mut self) -> Room {
+        Room {
+            codes: self.size(),
+            values: self.size(),
+            records: self.size(),
+        }
+    }
+
+    /// The reply and the outputs.
+    fn answer(&mut self, function: Function) -> Answer {
+        let mut answer = Answer::default();
+        if !matches!(function, Function::PaddedIndex | Function::RawIndex) {
+            answer.number = self.next() as u8;
+            answer.place = self.size();
+        }
+        for i in 0..rest(function) {
+            answer.rest[i] = self.size();
+        }
+        match function {
+            Function::Build | Function::Decode => {
+                answer.codes = self.bytes();
+                answer.values = self.run();
+                answer.records = self.bytes();
+            }
+            Function::Encode => answer.buffer = self.bytes(),
+            Function::RawTable | Function::PaddedTable => answer.entries = self.run(),
+            _ => {}
+        }
+        assert_eq!(self.1, self.0.len(), "the line ends here");
+        answer
+    }
+}
+
+/// Replays a file on the model; how many cases each function and number has.
+fn replay(text: &str) -> BTreeMap<(Function, u8), u32> {
+    let mut table = Vec::new();
+    let mut seen = BTreeMap::new();
+    for line in text.lines() {
+        let mut numbers = Numbers::of(line);
+        let what = numbers.size();
+        if what == 0 {
+            table = numbers.bytes();
+            continue;
+        }
+        let function = Function::ALL[what - 1];
+        let (ours, theirs) = match function {
+            Function::Build => {
+                let (codes, values) = (numbers.bytes(), numbers.run());
+                let room = numbers.room();
+                let call = Call::Build {
+                    table: &table,
+                    codes: &codes,
+                    values: &values,
+                    room,
+                };
+                (answer(call), numbers.answer(function))
+            }
+            Function::Decode => {
+                let bytes = numbers.bytes();
+                let at = numbers.size();
+                let room = numbers.room();
+                let call = Call::Decode {
+                    table: &table,
+                    bytes: &bytes,
+                    at,
+                    room,
+                };
+                (answer(call), numbers.answer(function))
+            }
+            Function::PaddedIndex | Function::RawIndex => {
+                let entries = numbers.run();
+                let index = numbers.size();
+                let call = if function == Function::PaddedIndex {
+                    Call::PaddedIndex {
+                        table: &entries,
+                        raw: index,
+                    }
+                } else {
+                    Call::RawIndex {
+                        table: &entries,
+                        padded: index,
+                    }
+                };
+                (answer(call), numbers.answer(function))
+            }
+            Function::Group | Function::NextGroup => {
+                let record = numbers.bytes();
+                let asked = numbers.size();
+                let call = if function == Function::Group {
+                    Call::Group {
+                        record: &record,
+                        index: asked,
+                    }
+                } else {
+                    Call::NextGroup {
+                        record: &record,
+                        group: asked,
+                    }
+                };
+                (answer(call), numbers.answer(function))
+            }
+            _ => {
+                let (codes, values, records) = (numbers.bytes(), numbers.run(), numbers.bytes());
+                let arena = Arena {
+                    codes: &codes,
+                    values: &values,
+                    records: &records,
+                };
+                let mut buffer = Vec::new();
+                let call = match function {
+                    Function::Encode => {
+                        buffer = numbers.bytes();
+                        Call::Encode {
+                            table: &table,
+                            arena,
+                            buffer: &buffer,
+                            at: numbers.size(),
+                        }
+                    }
+                    Function::Structure => Call::Structure { arena },
+                    Function::Padding => Call::Padding { arena },
+                    Function::Commitment => Call::Commitment {
+                        table: &table,
+                        arena,
+                    },
+                    Function::RawTable => Call::RawTable {
+                        arena,
+                        room: numbers.size(),
+                    },
+                    _ => Call::PaddedTable {
+                        arena,
+                        room: numbers.size(),
+                    },
+                };
+                let answers = (answer(call), numbers.answer(function));
+                drop(buffer);
+                answers
+            }
+        };
+        assert!(agree(&ours, &theirs), "{line}\n{ours:?}\n{theirs:?}");
+        *seen.entry((function, theirs.number)).or_default() += 1;
+    }
+    seen
+}
+
+fn files() -> [(&'static str, String); 3] {
+    let (model, limits) = vectors::of_model();
+    [
+        ("original.txt", vectors::of_original()),
+        ("model.txt", model),
+        ("limits.txt", limits),
+    ]
+}
+
+#[test]
+fn each_file_is_small_and_kept_as_written() {
+    let folder = concat!(env!("CARGO_MANIFEST_DIR"), "/files/");
+    for (name, text) in files() {
+        assert!(text.len() < 200_000, "{name}: {}", text.len());
+        let kept = fs::read_to_string(format!("{folder}{name}")).unwrap_or_default();
+        assert!(kept == text, "{name} is not the one that is kept");
+    }
+}
+
+#[test]
+fn each_file_can_be_replayed() {
+    let [(_, original), (_, model), (_, limits)] = files();
+    let seen = replay(&original);
+    let want: [(Function, &[u8]); 8] = [
+        (Function::Build, &[0, 4, 12]),
+        (Function::Encode, &[0]),
+        (Function::Decode, &[0, 1, 2, 4, 5, 6, 7, 8, 9, 10, 11]),
+        (Function::Structure, &[0, 15]),
+        (Function::Padding, &[0, 10]),
+        (Function::Commitment, &[0, 8, 9, 16]),
+        (Function::RawTable, &[0]),
+        (Function::NextGroup, &[0]),
+    ];
+    for (function, numbers) in want {
+        for &number in numbers {
+            assert!(
+                seen.contains_key(&(function, number)),
+                "{function:?} {number}"
+            );
+        }
+    }
+
+    let mut seen = replay(&model);
+    for (key, times) in replay(&limits) {
+        *seen.entry(key).or_default() += times;
+    }
+    let want: [(Function, &[u8]); 12] = [
+        (Function::Build, &[0, 3, 4, 12, 13, 14]),
+        (Function::Encode, &[0, 1, 3, 4, 13, 14, 15]),
+        (
+            Function::Decode,
+            &[0, 1, 2, 3, 4, 5, 6, 7, 8, 9, 10, 11, 13, 14],
+        ),
+        (Function::Structure, &[0, 3, 15]),
+        (Function::Padding, &[0, 3, 10, 15]),
+        (Function::Commitment, &[0, 3, 4, 8, 9, 14, 15, 16]),
+        (Function::RawTable, &[0, 3, 10, 13, 15]),
+        (Function::PaddedTable, &[0, 3, 10, 13, 15]),
+        (Function::PaddedIndex, &[0]),
+        (Function::RawIndex, &[0]),
+        (Function::Group, &[0, 3, 15]),
+        (Function::NextGroup, &[0, 3, 15]),
+    ];
+    for (function, numbers) in want {
+        for &number in numbers {
+            assert!(
+                seen.contains_key(&(function, number)),
+                "{function:?} {number}"
+            );
+        }
+    }
+}
