@@ -94,7 +94,7 @@ loop-again c =
       c .before .before .fill64 .kept .0 ∙ l .inv .1,
       omega (arith, c .before .before .before .before .before .before .before .before .start .ensures .0, c .before .before .before .before .before .before .before .start2 .ensures .0),
       omega arith,
-      λ rest. run-turn (a .padded) r (starts-length s (a .b)) (flags-length s (a .b)) (l .g) (omega arith) _ _ _ en ep rest (l .out) _ (l .entries) (c .before .before .fill64 .ensures) ∙ l .inv .4 rest,
+      λ rest. run-turn (a .padded) r (starts-length s (a .b)) (flags-length s (a .b)) (l .g) (omega arith) (l .paddings) _ _ en ep rest (l .out) _ (l .entries) (c .before .before .fill64 .ensures) ∙ l .inv .4 rest,
       λ rest. entries-turn (a .padded) r (starts-length s (a .b)) (flags-length s (a .b)) (l .g) (omega arith) _ _ _ en ep rest (l .entries) ∙ l .inv .5 rest,
     )
 
