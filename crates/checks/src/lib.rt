@@ -101,8 +101,8 @@ fn batch_padding(codes: &[u8], values: &[u64], records: &[u8], b: usize, from: u
     0
 }
 
-// The first batch with a padding fault, for callers whose arena passed the structure check.
-pub fn padding_fault(codes: &[u8], values: &[u64], records: &[u8]) -> Verdict
+// The first batch with a padding fault, where the arena passed the structure check.
+fn padding_fault(codes: &[u8], values: &[u64], records: &[u8]) -> Verdict
     requires { ⌜ structureChecked 8 (arena (now codes) (now values) (now records)) ≡ good tt ⌝ }
     ensures { λ r. ⌜ r ≡ verdictOf (refuseFirst 0 (paddingFaults (blockIn (arena (now (codes .entry)) (now (values .entry)) (now (records .entry))))) (good tt)) ⌝ }
 {
@@ -331,8 +331,8 @@ fn batch_commitment(
     16
 }
 
-// The first batch with a fault, for callers whose arena passed the structure check and has only assigned opcodes.
-pub fn commitment_fault(table: &[u8], codes: &[u8], values: &[u64], records: &[u8]) -> Verdict
+// The first batch with a fault, where the arena passed the structure check and the table has a kind for each opcode.
+fn commitment_fault(table: &[u8], codes: &[u8], values: &[u64], records: &[u8]) -> Verdict
     requires { ⌜ (structureChecked 8 (arena (now codes) (now values) (now records)) ≡ good tt) × Apt (now table) (now codes) ⌝ }
     ensures { λ r. ⌜ r ≡ verdictOf (refuseFirst 0 (commitmentFaults (now (table .entry)) (blockIn (arena (now (codes .entry)) (now (values .entry)) (now (records .entry))))) (good tt)) ⌝ }
 {

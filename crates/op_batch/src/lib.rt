@@ -1,6 +1,5 @@
 // OpBatch: a batch's record by value, as it lies in the lent run of records, its structure test and the lookups in one batch.
 ghost use mathlib.Core.Path.{_≡_};
-ghost use mathlib.Core.Bool.{cond};
 ghost use Prim.Native.Nat.{ℕ, _+_, _*_, _≤_, _<_};
 ghost use lib.ListN.{length, getD, take, drop};
 ghost use lib.Dec.{leb};

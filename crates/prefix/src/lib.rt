@@ -1,7 +1,7 @@
 // The two index tables of a block, RawToPaddedPrefix and PaddedToRawPrefix, and lookups in them (document 01, "Lookups and tables").
 ghost use mathlib.Core.Path.{_≡_};
 ghost use mathlib.Core.Bool.{true};
-ghost use Prim.Native.Nat.{ℕ, _+_, _-_, _*_, _/_, _≤_, _<_, _^_};
+ghost use Prim.Native.Nat.{ℕ, _+_, _*_, _/_, _≤_, _<_, _^_};
 ghost use lib.ListN.{length, replicate};
 ghost use lib.Seq.{sets};
 ghost use Rattle.rules.specs.Record.{recordAt, recordsIn};
