@@ -235,6 +235,7 @@ fn decode_groups(
             continue;
         }
         let end = from + n;
+        let slot = g + 1;
         groups[g] = group_number(&codes[from..end]);
         let r = place_immediates(
             table,
@@ -242,7 +243,7 @@ fn decode_groups(
             &values[from..end],
             b,
             left,
-            g + 1,
+            slot,
             groups,
         );
         let CountRead::Found { value, next } = r else {

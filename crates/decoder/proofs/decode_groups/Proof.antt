@@ -31,6 +31,9 @@ loop-again c = G.walk-empty _ _ _ _ _ _ _ _ _ _ _ (c .before .before .loop .inv)
 add-end : tie.Need-add-end Inv-loop μ-loop
 add-end c = omega (arith, G.group-fits _ _ _ _ _ _ _ _ _ _ _ (c .before .before .loop .inv) (omega arith))
 
+add-slot : tie.Need-add-slot Inv-loop μ-loop
+add-slot c = search needs
+
 sub-group-number : tie.Need-sub-group-number Inv-loop μ-loop
 sub-group-number c = search needs
 
@@ -74,9 +77,6 @@ part-place-immediates-start-2 c = search needs
 
 part-place-immediates-end-2 : tie.Need-part-place-immediates-end-2 Inv-loop μ-loop
 part-place-immediates-end-2 c = omega (arith, G.group-fits _ _ _ _ _ _ _ _ _ _ _ (c .before .before .before .before .before .loop .inv) (omega arith))
-
-add-place-immediates : tie.Need-add-place-immediates Inv-loop μ-loop
-add-place-immediates c = search needs
 
 place-immediates-requires : tie.Need-place-immediates-requires Inv-loop μ-loop
 place-immediates-requires c κs =
@@ -127,6 +127,7 @@ decode-groups-spec =
     loop-less
     loop-again
     add-end
+    add-slot
     sub-group-number
     part-group-number-start
     part-group-number-end
@@ -140,7 +141,6 @@ decode-groups-spec =
     sub-place-immediates-2
     part-place-immediates-start-2
     part-place-immediates-end-2
-    add-place-immediates
     place-immediates-requires
     enum-known-r
     enum-told
