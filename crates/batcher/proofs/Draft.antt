@@ -12,6 +12,7 @@ use Rattle.rules.specs.Digits.{digits, number, leBytes}
 use Rattle.rules.specs.Operations.{Op, codes}
 use Rattle.rules.specs.Batching.{Group, ops, imm}
 use Rattle.rules.specs.Record.{startsFrom, recordBy, opsIn, sizeOf, flagOf, codesNumber, numberOf, recordOf, opsOf, wordBytes, recordBytes}
+use Rattle.batcher.specs.Going.{startsOf, flagsOf, wordsOf, bytesWith}
 use Rattle.rules.proofs.Digits.{length-leBytes}
 use Rattle.rules.proofs.Runs.{fitted-length, fitted-zeros, sets-past, sets-front, sets-over, sets-fitted}
 
@@ -136,19 +137,7 @@ module _ (n : ℕ) (s s′ : List ℕ) (k i : ℕ) (vs : List ℕ) (e : sets s k
       → sets (fitted n (p ++ (a ++ (b ++ (c ++ (s ++ q)))))) i vs ≡ fitted n (p ++ (a ++ (b ++ (c ++ (s′ ++ q)))))
   part4 p a b c q j = rw (← append-assoc p a (b ++ (c ++ (s ++ q))), ← append-assoc p a (b ++ (c ++ (s′ ++ q)))) (part3 (p ++ a) b c q (omega (arith, length-append p a)))
 
--- ---- the record of the groups so far, with c for the count
-
-abbrev startsOf : List Group → List ℕ
-startsOf gs = startsFrom 0 (fitted 8 (map sizeOf gs))
-
-abbrev flagsOf : List Group → List ℕ
-flagsOf gs = fitted 8 (map flagOf gs)
-
-abbrev wordsOf : List Group → List ℕ
-wordsOf gs = wordBytes (fitted 8 (map numberOf gs))
-
-unfoldable pub bytesWith : ℕ → List Group → List ℕ
-bytesWith c gs = startsOf gs ++ (flagsOf gs ++ (wordsOf gs ++ (c ∷ [])))
+-- ---- the record of the groups so far
 
 record Lengths (gs : List Group) : Type 0 where
   starts : length (startsOf gs) ≡ 9

@@ -14,14 +14,10 @@ use Rattle.rules.specs.Operations.{Op, noop, codes, hasImmediate}
 use Rattle.rules.specs.Batching.{Group, ops, imm, Batch, nextFree, wantsNoop, closeGroup, groups, turned, joined, ready, full, added, turnedTimes, target, ended}
 use Rattle.rules.specs.Record.{opsIn, codesNumber, opsOf, paddedOf, recordOf, recordBytes, recordsBytes}
 use Rattle.rules.proofs.Runs.{fitted-zeros}
+use Rattle.batcher.specs.Going.{endsIn, written}
 use Rattle.batcher.proofs.Draft.{record-length}
 
 -- ---- a group
-
--- whether a group that is not empty ends in an operation with an immediate
-unfoldable pub endsIn : List ℕ → List Op → Bool
-endsIn t [] = false
-endsIn t (x ∷ xs) = wantsNoop t (x ∷ xs)
 
 pub wants-ends : (t : List ℕ) (xs : List Op) → wantsNoop t xs ≡ cond (eqb (length xs) 0) true (endsIn t xs)
 unfolding wantsNoop endsIn
@@ -69,10 +65,6 @@ ops-imm : (vs : List ℕ) → opsOf (map imm vs) ≡ []
 unfolding opsOf opsIn
 ops-imm [] = refl
 ops-imm (v ∷ vs) = ops-imm vs
-
--- the operations written so far
-unfoldable pub written : Batch → List Op
-written b = opsOf (b .closed) ++ b .current
 
 pub written-length : (b : Batch) → length (written b) ≡ length (opsOf (b .closed)) + length (b .current)
 unfolding written

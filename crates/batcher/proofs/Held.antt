@@ -17,26 +17,17 @@ use Rattle.rules.proofs.Runs.{fitted-length, fitted-set}
 use Rattle.batcher.specs.declared.OpBatchAccumulator.{OpBatchAccumulator}
 use Rattle.batcher.specs.declared.Work.{Work}
 use Rattle.batcher.specs.Good.{Good}
+use Rattle.batcher.specs.Going.{accOf, written, drafted, bytesWith, Held, Going}
 use Rattle.batcher.specs.Batched.{Batched}
 use Rattle.batcher.specs.Model.{newAcc, fitsIn, readyAcc, addedAcc, addedRun, endedTotal, endedRun, endedWork, endedWorkRun, roomWork, roomRun, steppedWork, steppedRun, lastPlace}
 use Rattle.batcher.proofs.Good as good
 use Rattle.batcher.proofs.Keeps.{roomy}
-use Rattle.batcher.proofs.Draft.{bytesWith, bytes-empty}
-use Rattle.batcher.proofs.Groups.{written, unseen-ended, unseen-ready, seen-added, added-length, padded-more, records-more, records-length}
-use Rattle.batcher.proofs.View.{accOf, drafted, acc-empty, acc-fits, acc-total, acc-next, acc-ready, acc-added, closed-free, ended-count, run-added, run-ended}
+use Rattle.batcher.proofs.Draft.{bytes-empty}
+use Rattle.batcher.proofs.Groups.{unseen-ended, unseen-ready, seen-added, added-length, padded-more, records-more, records-length}
+use Rattle.batcher.proofs.View.{acc-empty, acc-fits, acc-total, acc-next, acc-ready, acc-added, closed-free, ended-count, run-added, run-ended}
 
 abbrev recordsOf : List (List Group) → List ℕ
 recordsOf bs = recordsBytes (map recordOf bs)
-
--- `e` are the runs as they came, `a` as they are now
-pub record Held (e : Arena) (t : List ℕ) (d : rule.Work) (w : Work) (a : Arena) : Type 0 where
-  pub acc : w .acc ≡ accOf t (d .current)
-  pub good : Good (accOf t (d .current))
-  pub base : w .base ≡ length (paddedOf (d .batches))
-  pub batches : w .batches ≡ length (d .batches)
-  pub codes : a .codes ≡ fitted (length (e .codes)) (codes (paddedOf (d .batches) ++ written (d .current)))
-  pub values : a .values ≡ fitted (length (e .values)) (values (paddedOf (d .batches) ++ written (d .current)))
-  pub records : a .records ≡ fitted (length (e .records)) (recordsBytes (map recordOf (d .batches)) ++ bytesWith 0 (drafted (d .current)))
 
 -- ---- one view of the operations, in which a Noop is 0
 
@@ -202,14 +193,6 @@ held-step e t d w a h x hc =
     held-put e t (room 8 t x d) (roomWork (hasImmediate t x) w) (arena (a .codes) (a .values) (roomRun (hasImmediate t x) w (a .records))) (held-room e t d w a h x) x hc (room-fits t x d)
 
 -- ---- the loop
-
--- what is left of the lists takes the work in hand to the whole result
-pub record Going (e : Arena) (t xs ys : List ℕ) (i : ℕ) (w : Work) (a : Arena) : Type 0 where
-  pub work : rule.Work
-  pub held : Held e t work w a
-  pub rest : steps 8 t (operations (drop i xs) (drop i ys)) work ≡ steps 8 t (operations xs ys) start
-  pub base : w .base ≤ 72 * i
-  pub batches : w .batches ≤ i
 
 pub going-start : (t xs ys : List ℕ) (e : Arena) → e ≡ filled e noBlock → Going e t xs ys 0 (record { acc = newAcc; base = 0; batches = 0 }) e
 unfolding filled noBlock start written empty codes values opsOf paddedOf recordsBytes

@@ -14,25 +14,10 @@ use Rattle.rules.specs.Batching.{Group, ops, imm, Batch, empty, nextFree, fits,
 use Rattle.rules.specs.Record.{flagOf, codesNumber, opsOf, recordOf, recordBytes}
 use Rattle.batcher.specs.declared.OpBatchAccumulator.{OpBatchAccumulator}
 use Rattle.batcher.specs.Model.{newAcc, fitsIn, pads, padOf, closedRun, turnedAcc, slottedAcc, slottedRun, joinedAcc, crosses, readyAcc, readyRun, addedAcc, addedRun, filledAcc, filledRun, lastAcc, endedTotal, endedRun}
-use Rattle.batcher.proofs.Draft.{bytesWith, closeAt, bytes-close, bytes-imm, bytes-open, bytes-count, bytes-record}
-use Rattle.batcher.proofs.Groups.{endsIn, wants-ends, ends-snoc, number-snoc, pad, written, groups-ops, groups-length, written-length, free-turned, free-times, ended-length}
+use Rattle.batcher.specs.Going.{endsIn, accOf, written, drafted, bytesWith}
+use Rattle.batcher.proofs.Draft.{closeAt, bytes-close, bytes-imm, bytes-open, bytes-count, bytes-record}
+use Rattle.batcher.proofs.Groups.{wants-ends, ends-snoc, number-snoc, pad, groups-ops, groups-length, written-length, free-turned, free-times, ended-length}
 use Rattle.batcher.proofs.Good.{target-bounds}
-
-unfoldable pub accOf : List ℕ → Batch → OpBatchAccumulator
-accOf t b =
-    record {
-      cur = length (b .closed);
-      next = nextFree b;
-      inside = length (b .current);
-      number = codesNumber (b .current);
-      place = 128 ^ length (b .current);
-      total = length (opsOf (b .closed)) + length (b .current);
-      tail = endsIn t (b .current);
-    }
-
--- the groups so far, the current one still empty
-unfoldable pub drafted : Batch → List Group
-drafted b = b .closed ++ ops [] false ∷ map imm (b .placed)
 
 drafted-length : (b : Batch) → length (drafted b) ≡ nextFree b
 unfolding drafted nextFree

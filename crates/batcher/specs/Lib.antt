@@ -1,3 +1,4 @@
 pub mod Good
 pub mod Model
+pub mod Going
 pub mod Batched

@@ -3,7 +3,8 @@ use native.Mathlib.Omega.{arith}
 use borrow.Author.Needs.{needs}
 use lib.ListN.{length}
 use Rattle.rules.specs.Functions.{arena}
-use Rattle.batcher.proofs.Held.{Going, going-start, going-good, going-turn, going-lengths, going-end}
+use Rattle.batcher.specs.Going.{Going}
+use Rattle.batcher.proofs.Held.{going-start, going-good, going-turn, going-lengths, going-end}
 use Rattle.batcher.proofs.batch_ops.Statement.{statement}
 use Rattle.batcher.proofs.batch_ops.Tie as tie
 

@@ -1,0 +1,76 @@
+-- No public contract cites this page: how the work in hand and the three lent runs hold the rules' work, and what each turn of the driver keeps.
+use mathlib.Core.Path.{_≡_}
+use mathlib.Core.Bool.{Bool, false}
+use mathlib.Core.List.{List, [], _∷_, _++_, map}
+use Prim.Native.Nat.{ℕ, _+_, _*_, _^_, _≤_}
+use lib.ListN.{length, drop}
+use Rattle.rules.specs.Lists.{fitted}
+use Rattle.rules.specs.Operations.{Op, operations, codes, values}
+use Rattle.rules.specs.Batching as rule
+use Rattle.rules.specs.Batching.{Group, ops, imm, Batch, nextFree, wantsNoop, start, steps}
+use Rattle.rules.specs.Record.{startsFrom, sizeOf, flagOf, numberOf, codesNumber, opsOf, paddedOf, recordOf, wordBytes, recordsBytes}
+use Rattle.rules.specs.Functions.{Arena}
+use Rattle.batcher.specs.declared.OpBatchAccumulator.{OpBatchAccumulator}
+use Rattle.batcher.specs.declared.Work.{Work}
+use Rattle.batcher.specs.Good.{Good}
+
+-- ---- the accumulator's numbers, as a view of a batch of the rules
+
+-- whether a group that is not empty ends in an operation with an immediate
+unfoldable pub endsIn : List ℕ → List Op → Bool
+endsIn t [] = false
+endsIn t (x ∷ xs) = wantsNoop t (x ∷ xs)
+
+unfoldable pub accOf : List ℕ → Batch → OpBatchAccumulator
+accOf t b =
+    record {
+      cur = length (b .closed);
+      next = nextFree b;
+      inside = length (b .current);
+      number = codesNumber (b .current);
+      place = 128 ^ length (b .current);
+      total = length (opsOf (b .closed)) + length (b .current);
+      tail = endsIn t (b .current);
+    }
+
+-- the operations written so far
+unfoldable pub written : Batch → List Op
+written b = opsOf (b .closed) ++ b .current
+
+-- ---- the bytes of its record
+
+-- the groups so far, the current one still empty
+unfoldable pub drafted : Batch → List Group
+drafted b = b .closed ++ ops [] false ∷ map imm (b .placed)
+
+abbrev pub startsOf : List Group → List ℕ
+startsOf gs = startsFrom 0 (fitted 8 (map sizeOf gs))
+
+abbrev pub flagsOf : List Group → List ℕ
+flagsOf gs = fitted 8 (map flagOf gs)
+
+abbrev pub wordsOf : List Group → List ℕ
+wordsOf gs = wordBytes (fitted 8 (map numberOf gs))
+
+-- the record of the groups so far, with c for the count
+unfoldable pub bytesWith : ℕ → List Group → List ℕ
+bytesWith c gs = startsOf gs ++ (flagsOf gs ++ (wordsOf gs ++ (c ∷ [])))
+
+-- ---- the work in hand: `e` are the runs as they came, `a` as they are now
+
+pub record Held (e : Arena) (t : List ℕ) (d : rule.Work) (w : Work) (a : Arena) : Type 0 where
+  pub acc : w .acc ≡ accOf t (d .current)
+  pub good : Good (accOf t (d .current))
+  pub base : w .base ≡ length (paddedOf (d .batches))
+  pub batches : w .batches ≡ length (d .batches)
+  pub codes : a .codes ≡ fitted (length (e .codes)) (codes (paddedOf (d .batches) ++ written (d .current)))
+  pub values : a .values ≡ fitted (length (e .values)) (values (paddedOf (d .batches) ++ written (d .current)))
+  pub records : a .records ≡ fitted (length (e .records)) (recordsBytes (map recordOf (d .batches)) ++ bytesWith 0 (drafted (d .current)))
+
+-- what is left of the lists takes the work in hand to the whole result
+pub record Going (e : Arena) (t xs ys : List ℕ) (i : ℕ) (w : Work) (a : Arena) : Type 0 where
+  pub work : rule.Work
+  pub held : Held e t work w a
+  pub rest : steps 8 t (operations (drop i xs) (drop i ys)) work ≡ steps 8 t (operations xs ys) start
+  pub base : w .base ≤ 72 * i
+  pub batches : w .batches ≤ i
