@@ -197,11 +197,18 @@ bytes-imm n p c gs v h =
     part3 n (wordsOf gs) (wordsOf hs) (8 * length gs) (length p + 17 + 8 * length gs) (leBytes 8 v) (words-replace gs hs (length gs) v h (fit-more numberOf 8 gs (imm v))) (omega arith) p (startsOf gs) (flagsOf gs) (c ∷ []) (omega arith)
     ∙ rw (starts-more-none gs (imm v) refl, flags-none gs (imm v) refl)
 
--- a group opened is not seen yet
+-- a group of which nothing is seen changes no byte: one that is opened, and an immediate of value 0
+pub bytes-unseen : (c : ℕ) (gs : List Group) (g : Group) → opsIn g ≡ [] → flagOf g ≡ 0 → numberOf g ≡ 0 → bytesWith c (gs ++ (g ∷ [])) ≡ bytesWith c gs
+unfolding bytesWith
+bytes-unseen c gs g o f n = rw (starts-more-none gs g o, flags-none gs g f, ap wordBytes (fit-none numberOf 8 gs g n))
+
 pub bytes-open : (c : ℕ) (gs : List Group) → bytesWith c (gs ++ (ops [] false ∷ [])) ≡ bytesWith c gs
-unfolding bytesWith opsIn flagOf numberOf codesNumber codes number
-bytes-open c gs =
-    rw (starts-more-none gs (ops [] false) refl, flags-none gs (ops [] false) refl, ap wordBytes (fit-none numberOf 8 gs (ops [] false) refl))
+unfolding opsIn flagOf numberOf codesNumber codes number
+bytes-open c gs = bytes-unseen c gs (ops [] false) refl refl refl
+
+pub bytes-zero : (n : ℕ) (p : List ℕ) (c : ℕ) (gs : List Group) → length gs < 8 → sets (fitted n (p ++ bytesWith c gs)) (length p + 17 + 8 * length gs) (leBytes 8 0) ≡ fitted n (p ++ bytesWith c gs)
+unfolding opsIn flagOf numberOf
+bytes-zero n p c gs h = bytes-imm n p c gs 0 h ∙ ap (λ (l : List ℕ). fitted n (p ++ l)) (bytes-unseen c gs (imm 0) refl refl refl)
 
 -- the count
 pub bytes-count : (n : ℕ) (p : List ℕ) (c d : ℕ) (gs : List Group) → set (fitted n (p ++ bytesWith c gs)) (length p + 81) d ≡ fitted n (p ++ bytesWith d gs)

@@ -4,7 +4,7 @@ use mathlib.Core.Bool.{Bool, true, false, cond}
 use mathlib.Core.List.{List}
 use Prim.Native.Nat.{ℕ, zero, suc, _+_, _-_, _*_, _^_, _≤_, _<_}
 use native.Mathlib.Omega.{arith}
-use native.Mathlib.Nat.{pow-suc}
+use native.Mathlib.Nat.{pow-suc, pow-le-pow-right}
 use native.Mathlib.Numerals.{add-one}
 use lib.Dec.{leb, eqb}
 use borrow.Author.Tests.{ltb-true, leb-true, leb-false, eqb-true, le-ltb, lt-ltb}
@@ -102,6 +102,14 @@ joined-good c imm a hc g h =
       small = rw (g .unit) (number-next (a .number) c (a .inside) hc (g .small));
       unit = place-step a g;
     }
+
+-- and the numbers of the group that it joins do not overflow
+pub joined-fits : (c : ℕ) (a : OpBatchAccumulator) → c < 128 → Good a → a .inside < 9 → (a .number + c * a .place < 128 ^ 9) × (a .place * 128 ≤ 128 ^ 9)
+unfolding joinedAcc
+joined-fits c a hc g h =
+    let j = joined-good c false a hc g h in
+    let p = pow-le-pow-right {n = 128} (omega arith) {i = a .inside + 1} {j = 9} (omega arith) in
+    (omega (arith, j .small, p), omega (arith, j .unit, p))
 
 pub added-good : (c : ℕ) (imm : Bool) (a : OpBatchAccumulator) → c < 128 → Good a → fitsIn imm a ≡ true → Good (addedAcc c imm a)
 unfolding addedAcc

@@ -6,7 +6,9 @@ use Prim.Native.Nat.{ℕ, _+_, _-_, _*_, _≤_, _<_}
 use native.Mathlib.Omega.{arith}
 use lib.ListN.{length, getD, drop, set, length-append, length-map}
 use lib.Dec.{eqb}
+use lib.Seq.{sets}
 use Rattle.rules.specs.Lists.{fitted}
+use Rattle.rules.specs.Digits.{leBytes}
 use Rattle.rules.specs.Operations.{Op, operations, codes, values, noop, hasImmediate}
 use Rattle.rules.specs.Batching as rule
 use Rattle.rules.specs.Batching.{Group, Batch, empty, nextFree, fits, ready, added, ended, start, endBatch, room, step, steps, batchesOf}
@@ -24,7 +26,7 @@ use Rattle.batcher.proofs.Good as good
 use Rattle.batcher.proofs.Keeps.{roomy}
 use Rattle.batcher.proofs.Draft.{bytes-empty}
 use Rattle.batcher.proofs.Groups.{unseen-ended, unseen-ready, seen-added, added-length, padded-more, records-more, records-length}
-use Rattle.batcher.proofs.View.{acc-empty, acc-fits, acc-total, acc-next, acc-ready, acc-added, closed-free, ended-count, run-added, run-ended}
+use Rattle.batcher.proofs.View.{acc-empty, acc-fits, acc-total, acc-next, acc-ready, acc-added, closed-free, ended-count, run-added, run-kept, run-ended}
 
 abbrev recordsOf : List (List Group) → List ℕ
 recordsOf bs = recordsBytes (map recordOf bs)
@@ -70,6 +72,12 @@ module _ (e : Arena) (t : List ℕ) (d : rule.Work) (w : Work) (a : Arena) (h : 
 
   place : 82 * w .batches ≡ length (recordsOf (d .batches))
   place = ap (λ (k : ℕ). 82 * k) (h .batches) ∙ sym (records-length (d .batches))
+
+  -- 0 in the next free slot is there already
+  pub held-kept : w .acc .next < 8 → sets (a .records) (82 * w .batches + 17 + 8 * w .acc .next) (leBytes 8 0) ≡ a .records
+  held-kept l =
+      let n = ap (λ (x : OpBatchAccumulator). x .next) (h .acc) ∙ acc-next t (d .current) in
+      (λ j. sets (h .records j) (place j + 17 + 8 * n j) (leBytes 8 0)) ∙ run-kept (length (e .records)) (recordsOf (d .batches)) t (d .current) (omega arith) ∙ sym (h .records)
 
   -- ---- the batch in hand is ended
 
@@ -222,6 +230,35 @@ pub going-lengths : {e : Arena} {t xs ys : List ℕ} {i : ℕ} {w : Work} {a : A
 going-lengths g =
     let h = g .held in
     (ap length (h .codes) ∙ fitted-length _ _, ap length (h .values) ∙ fitted-length _ _, ap length (h .records) ∙ fitted-length _ _)
+
+-- of the runs as they came only the lengths matter
+going-as : {e f : Arena} {t xs ys : List ℕ} {i : ℕ} {w : Work} {a : Arena} → Going e t xs ys i w a
+    → (length (f .codes) ≡ length (e .codes)) × (length (f .values) ≡ length (e .values)) × (length (f .records) ≡ length (e .records)) → Going f t xs ys i w a
+going-as g l =
+    let h = g .held in
+    record {
+      work = g .work;
+      held =
+          record {
+            acc = h .acc;
+            good = h .good;
+            base = h .base;
+            batches = h .batches;
+            codes = rw (l .0) (h .codes);
+            values = rw (l .1) (h .values);
+            records = rw (l .2) (h .records);
+          };
+      rest = g .rest;
+      base = g .base;
+      batches = g .batches;
+    }
+
+-- so that a part of the loop may start from the runs as they are
+pub going-here : {e : Arena} {t xs ys : List ℕ} {i : ℕ} {w : Work} {a : Arena} → Going e t xs ys i w a → Going a t xs ys i w a
+going-here g = going-as g (going-lengths g)
+
+pub going-back : {e : Arena} {t xs ys : List ℕ} {i j : ℕ} {w v : Work} {a b : Arena} → Going e t xs ys i w a → Going a t xs ys j v b → Going e t xs ys j v b
+going-back g h = let l = going-lengths g in going-as h (sym (l .0), sym (l .1), sym (l .2))
 
 steps-turn : (t xs ys : List ℕ) (i : ℕ) (d : rule.Work) → i < length xs → i < length ys
     → steps 8 t (operations (drop (i + 1) xs) (drop (i + 1) ys)) (step 8 t (op (getD xs i 0) (getD ys i 0)) d) ≡ steps 8 t (operations (drop i xs) (drop i ys)) d

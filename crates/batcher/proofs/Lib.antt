@@ -5,3 +5,4 @@ pub mod Draft
 pub mod Groups
 pub mod View
 pub mod Held
+pub mod Join

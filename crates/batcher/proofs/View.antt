@@ -7,15 +7,16 @@ use native.Mathlib.Nat.{add-zero, zero-mul, pow-suc}
 use native.Mathlib.Numerals.{add-one}
 use native.Mathlib.Omega.{arith}
 use lib.ListN.{length, set, length-append, length-map}
+use lib.Seq.{sets}
 use Rattle.rules.specs.Lists.{fitted}
-use Rattle.rules.specs.Digits.{number}
+use Rattle.rules.specs.Digits.{number, leBytes}
 use Rattle.rules.specs.Operations.{Op, codes, noop, hasImmediate}
 use Rattle.rules.specs.Batching.{Group, ops, imm, Batch, empty, nextFree, fits, wantsNoop, closeGroup, groups, turned, full, joined, ready, added, target, turnedTimes, ended}
 use Rattle.rules.specs.Record.{flagOf, codesNumber, opsOf, recordOf, recordBytes}
 use Rattle.batcher.specs.declared.OpBatchAccumulator.{OpBatchAccumulator}
 use Rattle.batcher.specs.Model.{newAcc, fitsIn, pads, padOf, closedRun, turnedAcc, slottedAcc, slottedRun, joinedAcc, crosses, readyAcc, readyRun, addedAcc, addedRun, filledAcc, filledRun, lastAcc, endedTotal, endedRun}
 use Rattle.batcher.specs.Going.{endsIn, accOf, written, drafted, bytesWith}
-use Rattle.batcher.proofs.Draft.{closeAt, bytes-close, bytes-imm, bytes-open, bytes-count, bytes-record}
+use Rattle.batcher.proofs.Draft.{closeAt, bytes-close, bytes-imm, bytes-open, bytes-zero, bytes-count, bytes-record}
 use Rattle.batcher.proofs.Groups.{wants-ends, ends-snoc, number-snoc, pad, groups-ops, groups-length, written-length, free-turned, free-times, ended-length}
 use Rattle.batcher.proofs.Good.{target-bounds}
 
@@ -210,6 +211,10 @@ module _ (n : ℕ) (p t : List ℕ) where
       let e : length (b .closed ++ ops [] false ∷ map imm (b .placed)) ≡ nextFree b = drafted-length b in
       rw (acc-next t b, ← e, map-snoc (b .placed) v, ← append-assoc (b .closed) (ops [] false ∷ map imm (b .placed)) (imm v ∷ []))
       (bytes-imm n p 0 (b .closed ++ ops [] false ∷ map imm (b .placed)) v (omega arith))
+
+  -- 0 in the next free slot is there already
+  pub run-kept : (b : Batch) → nextFree b < 8 → sets (Run (drafted b)) (length p + 17 + 8 * nextFree b) (leBytes 8 0) ≡ Run (drafted b)
+  run-kept b h = let e = drafted-length b in rw (← e) (bytes-zero n p 0 (drafted b) (omega arith))
 
   pub run-added : (x : Op) (b : Batch) → length (b .closed) < 8 → (hasImmediate t x ≡ true → nextFree (ready t x b) < 8)
       → addedRun (hasImmediate t x) (x .value) (length p) (accOf t b) (Run (drafted b)) ≡ Run (drafted (added t x b))

@@ -1,12 +1,15 @@
 -- No public contract cites this page: what the private methods do to the accumulator's numbers and to the lent records, between the code and the rules.
+use mathlib.Core.Path.{_≡_}
 use mathlib.Core.Bool.{Bool, true, false, cond}
 use mathlib.Core.List.{List}
-use Prim.Native.Nat.{ℕ, zero, suc, _+_, _-_, _*_}
-use lib.ListN.{set, replicate}
+use Prim.Native.Nat.{ℕ, zero, suc, _+_, _-_, _*_, _≤_, _<_}
+use lib.ListN.{getD, set, replicate}
 use lib.Seq.{sets}
 use lib.Dec.{leb, ltb, eqb}
 use Rattle.rules.specs.Digits.{leBytes}
+use Rattle.rules.specs.Operations.{opFault}
 use Rattle.rules.specs.Batching.{target}
+use Rattle.operation.specs.Verdict.{op}
 use Rattle.batcher.specs.declared.OpBatchAccumulator.{OpBatchAccumulator}
 use Rattle.batcher.specs.declared.Work.{Work}
 
@@ -98,3 +101,29 @@ steppedRun imm v w xs = addedRun imm v (82 * roomWork imm w .batches) (roomWork 
 -- where the last operation stands
 abbrev pub lastPlace : Work → ℕ
 lastPlace w = w .base + w .acc .total - 1
+
+-- ---- operations that join the current group as it is, one after the other
+
+-- where a value is kept: in the next free slot, if there is one
+unfoldable pub keptRun : ℕ → ℕ → ℕ → List ℕ → List ℕ
+keptRun v at next xs = cond (ltb next 8) (sets xs (at + 17 + 8 * next) (leBytes 8 v)) xs
+
+-- whether the last of n operations from the i-th on has an immediate; of none, what was so before
+abbrev pub lastImm : List ℕ → List ℕ → Bool → ℕ → ℕ → Bool
+lastImm t cs before i n = cond (eqb n 0) before (eqb (getD t (getD cs (i + n - 1) 0) 0) 1)
+
+-- the work once n operations have joined from the i-th on
+abbrev pub takenWork : List ℕ → List ℕ → Work → ℕ → ℕ → ℕ → ℕ → ℕ → Work
+takenWork t cs w i n next number place =
+    record {
+      acc = record { cur = w .acc .cur; next = next; inside = w .acc .inside + n; number = number; place = place; total = w .acc .total + n; tail = lastImm t cs (w .acc .tail) i n };
+      base = w .base;
+      batches = w .batches;
+    }
+
+-- An operation joins as it is, and its immediate takes k slots, 0 or 1. `left` is how many may still join.
+pub record Joins (t : List ℕ) (c v next left k : ℕ) : Type 0 where
+  pub kind : getD t c 0 ≡ k
+  pub fine : opFault t (op c v) ≡ 0
+  pub slot : next + k ≤ 8
+  pub here : k < left

@@ -3,15 +3,16 @@
 // stored by not being stored: the runs come in all zero.
 ghost use mathlib.Core.Path.{_≡_};
 ghost use mathlib.Core.Bool.{true};
-ghost use Prim.Native.Nat.{ℕ, _+_, _*_, _≤_, _<_, _^_};
+ghost use Prim.Native.Nat.{ℕ, _+_, _*_, _-_, _≤_, _<_, _^_};
 ghost use lib.ListN.{length, getD, set};
 ghost use Rattle.rules.specs.Operations.{operations};
 ghost use Rattle.rules.specs.Batching.{batchesOf, target};
 ghost use Rattle.rules.specs.Record.{blockOf, noBlock};
 ghost use Rattle.rules.specs.Functions.{arena, filled};
 ghost use Rattle.batcher.specs.Good.{Good};
+ghost use Rattle.batcher.specs.Going.{Going};
 ghost use Rattle.batcher.specs.Batched.{Batched};
-ghost use Rattle.batcher.specs.Model.{newAcc, fitsIn, padOf, closedRun, turnedAcc, slottedAcc, slottedRun, joinedAcc, crosses, readyAcc, readyRun, addedAcc, addedRun, endedTotal, endedRun, endedWork, endedWorkRun, roomWork, roomRun, steppedWork, steppedRun, lastPlace};
+ghost use Rattle.batcher.specs.Model.{newAcc, fitsIn, padOf, closedRun, turnedAcc, slottedAcc, slottedRun, joinedAcc, crosses, readyAcc, readyRun, addedAcc, addedRun, endedTotal, endedRun, endedWork, endedWorkRun, roomWork, roomRun, steppedWork, steppedRun, lastPlace, keptRun, lastImm, takenWork, Joins};
 
 // groups in a batch, and operations in a group
 const BATCH_SIZE: usize = 8;
@@ -316,6 +317,173 @@ fn step(
     }
 }
 
+// ---- the fast path
+//
+// Nearly every operation closes nothing: it joins the current group, and its immediate, if it has one, takes the next free slot. `join_ops`
+// takes such operations one after the other and does with each what `step` does. It has in hand only what they change, so that all of it
+// stays in registers; it looks for room in the lent runs once; and it keeps a plain operation's value too, which is 0, in the next free slot,
+// which is 0, so that no branch depends on whether an operation has an immediate: that is what a processor cannot foresee.
+
+// Operations that have joined: the work with them, and the place of the first that has not.
+struct Taken {
+    work: Work,
+    upto: usize,
+}
+
+// How many slots an operation takes that joins the current group as it is: 0 or 1. 2 where it does not, or is left to `step`. At most `left`
+// may join, and the last of them has no immediate.
+fn slots(table: &[u8], code: u8, v: u64, next: usize, left: usize) -> usize
+    requires { ⌜ (length (now table) ≡ 128) × (next ≤ 8) ⌝ }
+    ensures { λ r. ⌜ (r < 2 → Joins (now (table .entry)) code v next left r) ⌝ }
+{
+    if 128 <= code {
+        return 2;
+    }
+    let kind = table[code as usize];
+    if 1 < kind {
+        return 2;
+    }
+    // the greatest value is 0 for kind 0, and below the field's size for kind 1
+    if word::wide(kind) * (operation::FIELD - 1) < v {
+        return 2;
+    }
+    let k = kind as usize;
+    if left <= k {
+        return 2;
+    }
+    if BATCH_SIZE < next + k {
+        return 2;
+    }
+    k
+}
+
+// A value in the next free slot, if there is one.
+fn keep(v: u64, at: usize, next: usize, records: &mut [u8])
+    requires { ⌜ (at < 2 ^ 32) × (at + 82 ≤ length (now records)) ⌝ }
+    ensures { λ _. ⌜ now (records .exit) ≡ keptRun v at next (now (records .entry)) ⌝ }
+{
+    if next < BATCH_SIZE {
+        word::put8(records, at + NUMBERS + 8 * next, v);
+    }
+}
+
+// Whether runs of these lengths have room for a whole group and for the record.
+fn room_ahead(from: usize, at: usize, codes: usize, values: usize, records: usize) -> bool
+    requires { ⌜ (from < 2 ^ 32) × (at < 2 ^ 32) ⌝ }
+    ensures { λ r. ⌜ (r ≡ true → (from + 9 ≤ codes) × (from + 9 ≤ values) × (at + 82 ≤ records)) ⌝ }
+{
+    if codes < from + GROUP_SIZE {
+        return false;
+    }
+    if values < from + GROUP_SIZE {
+        return false;
+    }
+    at + RECORD_SIZE <= records
+}
+
+// How many operations can join at most: what is left of the group, or of the list.
+fn most(inside: usize, i: usize, len: usize) -> usize
+    requires { ⌜ (inside ≤ 9) × (i ≤ len) ⌝ }
+    ensures { λ r. ⌜ (inside + r ≤ 9) × (i + r ≤ len) ⌝ }
+{
+    if len - i < GROUP_SIZE - inside {
+        return len - i;
+    }
+    GROUP_SIZE - inside
+}
+
+// Whether the last of n operations has an immediate.
+fn last_imm(table: &[u8], codes: &[u8], before: bool, i: usize, n: usize) -> bool
+    requires { ⌜ (length (now table) ≡ 128) × (i + n ≤ length (now codes)) × (0 < n → getD (now codes) (i + n - 1) 0 < 128) ⌝ }
+    ensures { λ r. ⌜ r ≡ lastImm (now (table .entry)) (now (codes .entry)) before i n ⌝ }
+{
+    if n == 0 {
+        return before;
+    }
+    let code = codes[i + n - 1];
+    table[code as usize] == 1
+}
+
+// The work put together again, with n operations that have joined from the i-th on.
+fn gather(
+    w: Work,
+    table: &[u8],
+    codes: &[u8],
+    i: usize,
+    n: usize,
+    next: usize,
+    number: u64,
+    place: u64,
+) -> Taken
+    requires { ⌜ (length (now table) ≡ 128) × (i + n ≤ length (now codes)) × (0 < n → getD (now codes) (i + n - 1) 0 < 128) ⌝ }
+    requires { ⌜ Good (takenWork (now table) (now codes) w i n next number place .acc) ⌝ }
+    ensures { λ r. ⌜ (r .work ≡ takenWork (now (table .entry)) (now (codes .entry)) w i n next number place) × (r .upto ≡ i + n) ⌝ }
+{
+    let a = w.acc;
+    let tail = last_imm(table, codes, a.tail, i, n);
+    let acc = OpBatchAccumulator {
+        cur: a.cur,
+        next,
+        inside: a.inside + n,
+        number,
+        place,
+        total: a.total + n as u8,
+        tail,
+    };
+    let work = Work {
+        acc,
+        base: w.base,
+        batches: w.batches,
+    };
+    Taken { work, upto: i + n }
+}
+
+// The operations from the i-th on that join the current group as it is, up to the first that does not.
+fn join_ops(
+    w: Work,
+    i: usize,
+    table: &[u8],
+    codes: &[u8],
+    values: &[u64],
+    out_codes: &mut [u8],
+    out_values: &mut [u64],
+    records: &mut [u8],
+) -> Taken
+    requires sizes { ⌜ (length (now table) ≡ 128) × (length (now codes) ≤ 16384) × (length (now values) ≡ length (now codes)) × (i ≤ length (now codes)) ⌝ }
+    requires going { ⌜ Going (arena (now «out_codes») (now «out_values») (now records)) (now table) (now codes) (now values) i w (arena (now «out_codes») (now «out_values») (now records)) ⌝ }
+    ensures place { λ r. ⌜ (i ≤ r .upto) × (r .upto ≤ length (now (codes .entry))) ⌝ }
+    ensures going { λ r. ⌜ Going (arena (now («out_codes» .entry)) (now («out_values» .entry)) (now (records .entry))) (now (table .entry)) (now (codes .entry)) (now (values .entry)) (r .upto) (r .work) (arena (now («out_codes» .exit)) (now («out_values» .exit)) (now (records .exit))) ⌝ }
+{
+    let a = w.acc;
+    let at = RECORD_SIZE * w.batches;
+    let t = a.total as usize;
+    let from = w.base + t;
+    if !room_ahead(from, at, out_codes.len(), out_values.len(), records.len()) {
+        return Taken { work: w, upto: i };
+    }
+    let end = most(a.inside, i, codes.len());
+    let mut next = a.next;
+    let mut number = a.number;
+    let mut place = a.place;
+    let mut n: usize = 0;
+    while n < end {
+        let code = codes[i + n];
+        let v = values[i + n];
+        let k = slots(table, code, v, next, end - n);
+        if 1 < k {
+            return gather(w, table, codes, i, n, next, number, place);
+        }
+        keep(v, at, next, records);
+        out_codes[from + n] = code;
+        out_values[from + n] = v;
+        number = number + word::wide(code) * place;
+        place = place * 128;
+        next = next + k;
+        n += 1;
+    }
+    gather(w, table, codes, i, n, next, number, place)
+}
+
 // How much a list comes to.
 pub struct Totals {
     pub batches: usize,
@@ -349,8 +517,19 @@ pub fn batch_ops(
         let at = code as usize;
         let kind = table[at];
         let imm = kind == 1;
-        w = step(w, code, imm, v, out_codes, out_values, records);
-        i += 1;
+        let s = step(w, code, imm, v, out_codes, out_values, records);
+        let t = join_ops(
+            s,
+            i + 1,
+            table,
+            codes,
+            values,
+            out_codes,
+            out_values,
+            records,
+        );
+        w = t.work;
+        i = t.upto;
     }
     let e = end_batch(w, records);
     Totals {

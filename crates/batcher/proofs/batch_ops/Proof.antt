@@ -4,7 +4,7 @@ use borrow.Author.Needs.{needs}
 use lib.ListN.{length}
 use Rattle.rules.specs.Functions.{arena}
 use Rattle.batcher.specs.Going.{Going}
-use Rattle.batcher.proofs.Held.{going-start, going-good, going-turn, going-lengths, going-end}
+use Rattle.batcher.proofs.Held.{going-start, going-good, going-turn, going-here, going-back, going-lengths, going-end}
 use Rattle.batcher.proofs.batch_ops.Statement.{statement}
 use Rattle.batcher.proofs.batch_ops.Tie as tie
 
@@ -43,35 +43,38 @@ step-requires c κs =
     let g = l .inv .1 in
     (going-good g, (omega (arith, g .base, a .pre .0), omega (arith, g .batches, a .pre .0), a .pre .1 .0 (l .i) (c .before .before .before .before .before .before .loop-test .taken)))
 
-add-i : tie.Need-add-i Inv-loop μ-loop
-add-i c = omega (arith, c .before .before .before .before .before .before .before .before .before .before .before .before .before .loop-test .taken, c .before .before .before .before .before .before .before .before .before .before .before .before .before .before .before .before .before .before .before .before .before .before .pre .0)
+add-join-ops : tie.Need-add-join-ops Inv-loop μ-loop
+add-join-ops c = omega (arith, c .before .before .before .before .before .before .before .before .before .before .before .before .before .loop-test .taken, c .before .before .before .before .before .before .before .before .before .before .before .before .before .before .before .before .before .before .before .before .before .before .pre .0)
+
+join-ops-requires : tie.Need-join-ops-requires Inv-loop μ-loop
+join-ops-requires c κs =
+    let a = c .before .before .before .before .before .before .before .before .before .before .before .before .before .before .before .before .before .before .before .before .before .before .before .before .before in
+    let t = c .before .before .before .before .before .before .before .before .before .before .before .before .before .before .before .before .loop-test .taken in
+    let e = c .before .before .before .before .before .before .before .before .before .step .ensures in
+    ((a .pre .0 .0, a .pre .0 .1, a .pre .0 .2, omega arith), going-here (going-turn (c .before .before .before .before .before .before .before .before .before .before .before .before .before .before .before .before .before .loop .inv .1) t (omega (arith, a .pre .0)) (a .pre .0 .0) (a .pre .1 .0 _ t) (e .0) (λ j. arena (e .1 .0 j) (e .1 .1 .0 j) (e .1 .1 .1 j))))
 
 loop-less : tie.Need-loop-less Inv-loop μ-loop
-loop-less c = omega arith
+loop-less c = omega (arith, c .before .before .before .before .before .before .before .join-ops .ensures .0, c .before .before .before .before .before .before .before .before .before .before .before .before .before .before .before .before .before .before .before .before .before .before .before .before .loop-test .taken)
 
 loop-again : tie.Need-loop-again Inv-loop μ-loop
 loop-again c =
-    let a = c .before .before .before .before .before .before .before .before .before .before .before .before .before .before .before .before .before .before .before .before .before .before in
-    let l = c .before .before .before .before .before .before .before .before .before .before .before .before .before .before .loop in
-    let t = c .before .before .before .before .before .before .before .before .before .before .before .before .before .loop-test .taken in
-    let e = c .before .before .before .before .before .before .step .ensures in (
-      omega arith,
-      going-turn (l .inv .1) t (omega (arith, a .pre .0)) (a .pre .0 .0) (a .pre .1 .0 (l .i) t) (e .0) (λ j. arena (e .1 .0 j) (e .1 .1 .0 j) (e .1 .1 .1 j)),
-    )
+    let a = c .before .before .before .before .before .before .before .before .before .before .before .before .before .before .before .before .before .before .before .before .before .before .before .before .before .before .before .before .before .before .before .before .before in
+    let t = c .before .before .before .before .before .before .before .before .before .before .before .before .before .before .before .before .before .before .before .before .before .before .before .before .loop-test .taken in
+    let e = c .before .before .before .before .before .before .before .before .before .before .before .before .before .before .before .before .before .step .ensures in
+    (c .before .before .before .before .before .before .before .join-ops .ensures .0 .1, going-back (going-turn (c .before .before .before .before .before .before .before .before .before .before .before .before .before .before .before .before .before .before .before .before .before .before .before .before .before .loop .inv .1) t (omega (arith, a .pre .0)) (a .pre .0 .0) (a .pre .1 .0 _ t) (e .0) (λ j. arena (e .1 .0 j) (e .1 .1 .0 j) (e .1 .1 .1 j))) (c .before .before .before .before .before .before .before .join-ops .ensures .1))
 
 end-batch-requires : tie.Need-end-batch-requires Inv-loop μ-loop
 end-batch-requires c κs =
     let a = c .before .before .before .before .before .before .before .before .before .before in
     let l = c .before .before .loop in
     let g = l .inv .1 in
-    let h = l .inv .0 in
-    (going-good g, (omega (arith, g .base, a .pre .0), omega (arith, g .batches, a .pre .0)))
+    (going-good g, (omega (arith, l .inv .0, g .base, a .pre .0), omega (arith, l .inv .0, g .batches, a .pre .0)))
 
 same-length : tie.Need-same-length Inv-loop μ-loop
-same-length c = omega (arith, going-lengths (c .before .before .before .before .before .loop .inv .1), c .before .before .end-batch .kept)
+same-length c = going-lengths (c .before .before .before .before .before .loop .inv .1) .0
 
 same-length-2 : tie.Need-same-length-2 Inv-loop μ-loop
-same-length-2 c = omega (arith, going-lengths (c .before .before .before .before .before .loop .inv .1), c .before .before .end-batch .kept)
+same-length-2 c = going-lengths (c .before .before .before .before .before .loop .inv .1) .1
 
 same-length-3 : tie.Need-same-length-3 Inv-loop μ-loop
 same-length-3 c = omega (arith, going-lengths (c .before .before .before .before .before .loop .inv .1), c .before .before .end-batch .kept)
@@ -96,7 +99,8 @@ batch-ops-spec =
     cast-at
     shared-slice-read-kind
     step-requires
-    add-i
+    add-join-ops
+    join-ops-requires
     loop-less
     loop-again
     end-batch-requires

@@ -1,5 +1,5 @@
 use native.Mathlib.Omega.{arith}
-use Rattle.batcher.proofs.Places.{place-le, unit-product}
+use Rattle.batcher.proofs.Good.{joined-fits}
 use borrow.Author.Needs.{needs}
 use Rattle.batcher.proofs.OpBatchAccumulator.number_with.Statement.{statement}
 use Rattle.batcher.proofs.OpBatchAccumulator.number_with.Tie as tie
@@ -10,12 +10,12 @@ wide-requires c κs = search needs
 mul-result : tie.Need-mul-result
 mul-result c =
     let a = c .before .before in
-    rw (c .before .wide .ensures .0) (omega (arith, unit-product (a .args .code) (a .args .self .inside) (a .args .self .place) (a .pre .1 .0) (a .pre .1 .1) (a .pre .0 .unit)))
+    rw (c .before .wide .ensures .0) (omega (arith, joined-fits (a .args .code) (a .args .self) (a .pre .1 .0) (a .pre .0) (a .pre .1 .1)))
 
 add-result : tie.Need-add-result
 add-result c =
     let a = c .before .before .before in
-    rw (c .before .before .wide .ensures .0) (omega (arith, unit-product (a .args .code) (a .args .self .inside) (a .args .self .place) (a .pre .1 .0) (a .pre .1 .1) (a .pre .0 .unit), place-le (a .args .self .inside) (a .pre .1 .1), a .pre .0 .small))
+    rw (c .before .before .wide .ensures .0) (omega (arith, joined-fits (a .args .code) (a .args .self) (a .pre .1 .0) (a .pre .0) (a .pre .1 .1)))
 
 returns : tie.Need-returns
 returns c = rw (c .before .before .wide .ensures .0)

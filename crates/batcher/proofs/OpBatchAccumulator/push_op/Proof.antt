@@ -1,6 +1,6 @@
 use native.Mathlib.Omega.{arith}
 use Rattle.batcher.specs.Model.{joinedAcc}
-use Rattle.batcher.proofs.Places.{unit-le}
+use Rattle.batcher.proofs.Good.{joined-fits}
 use borrow.Author.Needs.{needs}
 use Rattle.batcher.proofs.OpBatchAccumulator.push_op.Statement.{statement}
 use Rattle.batcher.proofs.OpBatchAccumulator.push_op.Tie as tie
@@ -14,7 +14,7 @@ add-t5 c = search needs
 mul-t6 : tie.Need-mul-t6
 mul-t6 c =
     let a = c .before .before .before in
-    omega (arith, unit-le (a .args .self .inside) (a .args .self .place) (a .pre .1 .1) (a .pre .0 .unit))
+    omega (arith, joined-fits (a .args .code) (a .args .self) (a .pre .1 .0) (a .pre .0) (a .pre .1 .1))
 
 add-t7 : tie.Need-add-t7
 add-t7 c = search needs
