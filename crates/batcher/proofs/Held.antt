@@ -8,19 +8,22 @@ use lib.ListN.{length, getD, drop, set, length-append, length-map}
 use lib.Dec.{eqb}
 use lib.Seq.{sets}
 use Rattle.rules.specs.Lists.{fitted}
+use Rattle.rules.specs.Answer.{Answer, good, refused, refuseFirst}
 use Rattle.rules.specs.Digits.{leBytes}
-use Rattle.rules.specs.Operations.{Op, operations, codes, values, noop, hasImmediate}
+use Rattle.rules.specs.Operations.{Op, operations, codes, values, noop, hasImmediate, opFault}
 use Rattle.rules.specs.Batching as rule
 use Rattle.rules.specs.Batching.{Group, Batch, empty, nextFree, fits, ready, added, ended, start, endBatch, room, step, steps, batchesOf}
-use Rattle.rules.specs.Record.{opsOf, paddedOf, recordOf, recordsBytes, blockOf, noBlock}
+use Rattle.rules.specs.Record.{opsOf, paddedOf, recordOf, recordsBytes, Block, blockOf, noBlock}
 use Rattle.rules.specs.Functions.{Arena, arena, filled}
-use Rattle.rules.proofs.Operations.{op, kind-at, operations-turn, operations-end}
+use Rattle.rules.proofs.Answer.{clash, value, first-turn, first-stop, first-done}
+use Rattle.rules.proofs.Operations.{op, kind-at, admitted, operations-turn, operations-end}
 use Rattle.rules.proofs.Runs.{fitted-length, fitted-set}
 use Rattle.batcher.specs.declared.OpBatchAccumulator.{OpBatchAccumulator}
 use Rattle.batcher.specs.declared.Work.{Work}
 use Rattle.batcher.specs.Good.{Good}
 use Rattle.batcher.specs.Going.{accOf, written, drafted, bytesWith, Held, Going}
-use Rattle.batcher.specs.Batched.{Batched}
+use Rattle.batcher.specs.declared.Batches.the-variants.{Done, Fault}
+use Rattle.batcher.specs.Batched.{listed, batchesIn, Batched}
 use Rattle.batcher.specs.Model.{newAcc, fitsIn, readyAcc, addedAcc, addedRun, endedTotal, endedRun, endedWork, endedWorkRun, roomWork, roomRun, steppedWork, steppedRun, lastPlace}
 use Rattle.batcher.proofs.Good as good
 use Rattle.batcher.proofs.Keeps.{roomy}
@@ -217,6 +220,7 @@ going-start t xs ys e z =
             values = ap (λ (a : Arena). a .values) z;
             records = ap (λ (a : Arena). a .records) z ∙ sym (draft-empty (length (e .records)) []);
           };
+      fine = refl;
       rest = refl;
       base = omega arith;
       batches = omega arith;
@@ -248,6 +252,7 @@ going-as g l =
             values = rw (l .1) (h .values);
             records = rw (l .2) (h .records);
           };
+      fine = g .fine;
       rest = g .rest;
       base = g .base;
       batches = g .batches;
@@ -269,14 +274,29 @@ steps-end : (t xs ys : List ℕ) (i : ℕ) (d : rule.Work) → length xs ≤ i �
 unfolding steps
 steps-end t xs ys i d h = rw (operations-end xs ys i h)
 
-going-step : {e : Arena} {t xs ys : List ℕ} {i : ℕ} {w : Work} {a : Arena} → Going e t xs ys i w a → i < length xs → i < length ys → (x : Op) → x ≡ op (getD xs i 0) (getD ys i 0) → x .code < 128
+-- the walk to the first fault: a turn, a stop, the end
+module _ (t xs ys : List ℕ) (i : ℕ) where
+  abbrev answer : ℕ → Answer Block
+  answer i = refuseFirst i (map (opFault t) (operations (drop i xs) (drop i ys))) (good (blockOf (batchesOf 8 t (operations xs ys))))
+
+  fine-turn : i < length xs → i < length ys → opFault t (op (getD xs i 0) (getD ys i 0)) ≡ 0 → answer (i + 1) ≡ answer i
+  fine-turn h k e = rw (operations-turn xs ys i h k) (sym (first-turn i (opFault t (op (getD xs i 0) (getD ys i 0))) _ _ e))
+
+  fine-stop : i < length xs → i < length ys → (n : ℕ) → n ≡ opFault t (op (getD xs i 0) (getD ys i 0)) → (n ≡ 0 → ⊥) → answer i ≡ refused n i
+  fine-stop h k n e f = rw (operations-turn xs ys i h k, sym e) (first-stop i n _ _ f)
+
+  fine-end : length xs ≤ i → answer i ≡ good (blockOf (batchesOf 8 t (operations xs ys)))
+  fine-end h = rw (operations-end xs ys i h) (first-done i _)
+
+going-step : {e : Arena} {t xs ys : List ℕ} {i : ℕ} {w : Work} {a : Arena} → Going e t xs ys i w a → i < length xs → i < length ys → (x : Op) → x ≡ op (getD xs i 0) (getD ys i 0) → opFault t x ≡ 0
     → Going e t xs ys (i + 1) (steppedWork (x .code) (hasImmediate t x) w) (steppedRuns x (hasImmediate t x) w a)
 unfolding steppedWork
-going-step {e} {t} {xs} {ys} {i} {w} {a} g hx hy x q hc =
+going-step {e} {t} {xs} {ys} {i} {w} {a} g hx hy x q f =
     let r = roomy (hasImmediate t x) w (going-good g) in
     record {
       work = step 8 t x (g .work);
-      held = held-step e t (g .work) w a (g .held) x hc;
+      held = held-step e t (g .work) w a (g .held) x (admitted t x f .code);
+      fine = fine-turn t xs ys i hx hy (ap (opFault t) (sym q) ∙ f) ∙ g .fine;
       rest = ap (λ (y : Op). steps 8 t (operations (drop (i + 1) xs) (drop (i + 1) ys)) (step 8 t y (g .work))) q ∙ steps-turn t xs ys i (g .work) hx hy ∙ g .rest;
       base = omega (arith, r .base, g .base);
       batches = omega (arith, r .batches, g .batches);
@@ -287,14 +307,14 @@ kind-here : (t : List ℕ) (x : Op) → x .code < length t → eqb (getD t (x .c
 unfolding hasImmediate
 kind-here t x h = ap (λ (k : ℕ). eqb k 1) (sym (kind-at t (x .code) h))
 
-pub going-turn : {e : Arena} {t xs ys : List ℕ} {i : ℕ} {w w′ : Work} {a a′ : Arena} → Going e t xs ys i w a → i < length xs → i < length ys → length t ≡ 128 → getD xs i 0 < 128
+pub going-turn : {e : Arena} {t xs ys : List ℕ} {i : ℕ} {w w′ : Work} {a a′ : Arena} → Going e t xs ys i w a → i < length xs → i < length ys → length t ≡ 128 → opFault t (op (getD xs i 0) (getD ys i 0)) ≡ 0
     → w′ ≡ steppedWork (getD xs i 0) (eqb (getD t (getD xs i 0) 0) 1) w → a′ ≡ steppedRuns (op (getD xs i 0) (getD ys i 0)) (eqb (getD t (getD xs i 0) 0) 1) w a → Going e t xs ys (i + 1) w′ a′
-going-turn {e} {t} {xs} {ys} {i} {w} {w′} {a} {a′} g hx hy ht hc e1 e2 =
+going-turn {e} {t} {xs} {ys} {i} {w} {w′} {a} {a′} g hx hy ht f e1 e2 =
     let x = op (getD xs i 0) (getD ys i 0) in
-    let k = kind-here t x (omega arith) in
+    let k = kind-here t x (omega (arith, admitted t x f .code)) in
     subst (λ (p : Work × Arena). Going e t xs ys (i + 1) (p .0) (p .1))
     (λ j. (sym (e1 ∙ ap (λ (b : Bool). steppedWork (x .code) b w) k) j, sym (e2 ∙ ap (λ (b : Bool). steppedRuns x b w a) k) j))
-    (going-step g hx hy x refl hc)
+    (going-step g hx hy x refl f)
 
 -- ---- the end: what is held is what the driver promises
 
@@ -303,30 +323,36 @@ unfolding written empty opsOf
 written-none q = append-nil q
 
 done : (e : Arena) (t : List ℕ) (d : rule.Work) (w : Work) (a : Arena) → d .current ≡ empty → Held e t d w a
-    → Batched (blockOf (d .batches)) (record { batches = w .batches; operations = w .base }) e a
+    → (w .batches ≡ length (blockOf (d .batches) .records)) × (w .base ≡ length (blockOf (d .batches) .ops)) × (a ≡ filled e (blockOf (d .batches)))
 unfolding blockOf filled
 done e t d w a c h =
-    record {
-      batches = h .batches ∙ sym (length-map (d .batches) recordOf);
-      operations = h .base;
-      runs =
-          let q = ap (λ (b : Batch). paddedOf (d .batches) ++ written b) c ∙ written-none (paddedOf (d .batches)) in
-          let cs : a .codes ≡ fitted (length (e .codes)) (codes (paddedOf (d .batches))) = h .codes ∙ ap (λ (l : List Op). fitted (length (e .codes)) (codes l)) q in
-          let vs : a .values ≡ fitted (length (e .values)) (values (paddedOf (d .batches))) = h .values ∙ ap (λ (l : List Op). fitted (length (e .values)) (values l)) q in
-          let rs : a .records ≡ fitted (length (e .records)) (recordsOf (d .batches)) =
-          h .records ∙ ap (λ (b : Batch). fitted (length (e .records)) (recordsOf (d .batches) ++ bytesWith 0 (drafted b))) c ∙ draft-empty (length (e .records)) (recordsOf (d .batches)) in
-          λ j. arena (cs j) (vs j) (rs j);
-    }
+    let q = ap (λ (b : Batch). paddedOf (d .batches) ++ written b) c ∙ written-none (paddedOf (d .batches)) in
+    let cs : a .codes ≡ fitted (length (e .codes)) (codes (paddedOf (d .batches))) = h .codes ∙ ap (λ (l : List Op). fitted (length (e .codes)) (codes l)) q in
+    let vs : a .values ≡ fitted (length (e .values)) (values (paddedOf (d .batches))) = h .values ∙ ap (λ (l : List Op). fitted (length (e .values)) (values l)) q in
+    let rs : a .records ≡ fitted (length (e .records)) (recordsOf (d .batches)) =
+    h .records ∙ ap (λ (b : Batch). fitted (length (e .records)) (recordsOf (d .batches) ++ bytesWith 0 (drafted b))) c ∙ draft-empty (length (e .records)) (recordsOf (d .batches)) in
+    (h .batches ∙ sym (length-map (d .batches) recordOf), h .base, λ j. arena (cs j) (vs j) (rs j))
 
 end-empty : (t : List ℕ) (d : rule.Work) → endBatch t d .current ≡ empty
 unfolding endBatch
 end-empty t d = refl
 
 pub going-end : {e : Arena} {t xs ys : List ℕ} {i : ℕ} {w w′ : Work} {a a′ : Arena} → Going e t xs ys i w a → length xs ≤ i → w′ ≡ endedWork w → a′ ≡ arena (a .codes) (a .values) (endedWorkRun w (a .records))
-    → Batched (blockOf (batchesOf 8 t (operations xs ys))) (record { batches = w′ .batches; operations = w′ .base }) e a′
+    → Batched (listed t xs ys) (Done (w′ .batches) (w′ .base)) e a′
 unfolding batchesOf
 going-end {e} {t} {xs} {ys} {i} {w} {w′} {a} {a′} g h e1 e2 =
+    let b = blockOf (batchesOf 8 t (operations xs ys)) in
     let q : g .work ≡ steps 8 t (operations xs ys) start = sym (steps-end t xs ys i (g .work) h) ∙ g .rest in
-    subst (λ (p : rule.Work × Work × Arena). Batched (blockOf (endBatch t (p .0) .batches)) (record { batches = p .1 .batches; operations = p .1 .base }) e (p .2))
+    let r : listed t xs ys ≡ good b = sym (g .fine) ∙ fine-end t xs ys i h in
+    let m = subst (λ (p : rule.Work × Work × Arena). (p .1 .batches ≡ length (blockOf (endBatch t (p .0) .batches) .records)) × (p .1 .base ≡ length (blockOf (endBatch t (p .0) .batches) .ops)) × (p .2 ≡ filled e (blockOf (endBatch t (p .0) .batches))))
     (λ j. (q j, sym e1 j, sym e2 j))
-    (done e t (endBatch t (g .work)) (endedWork w) (arena (a .codes) (a .values) (endedWorkRun w (a .records))) (end-empty t (g .work)) (held-end e t (g .work) w a (g .held)))
+    (done e t (endBatch t (g .work)) (endedWork w) (arena (a .codes) (a .values) (endedWorkRun w (a .records))) (end-empty t (g .work)) (held-end e t (g .work) w a (g .held))) in
+    record { reply = (λ j. Done (m .0 j) (m .1 j)) ∙ ap batchesIn (sym r); runs = λ x k. m .2 ∙ ap (filled e) (value b x (sym r ∙ k)) }
+
+-- ---- or an operation at fault
+
+pub going-fault : {e : Arena} {t xs ys : List ℕ} {i n : ℕ} {w : Work} {a : Arena} → Going e t xs ys i w a → i < length xs → i < length ys → n ≡ opFault t (op (getD xs i 0) (getD ys i 0)) → (n ≡ 0 → ⊥)
+    → Batched (listed t xs ys) (Fault n i) e a
+going-fault {e} {t} {xs} {ys} {i} {n} {w} {a} g hx hy q f =
+    let r : listed t xs ys ≡ refused n i = sym (g .fine) ∙ fine-stop t xs ys i hx hy n q f in
+    record { reply = ap batchesIn (sym r); runs = λ x k. absurd (clash n i x (sym r ∙ k)) }

@@ -112,7 +112,7 @@ module _ {e : Arena} {t xs ys : List ℕ} {i left k : ℕ} {w : Work} {a : Arena
       → a′ ≡ arena (set (a .codes) (w .base + w .acc .total) c) (set (a .values) (w .base + w .acc .total) v) (keptRun v (82 * w .batches) (w .acc .next) (a .records))
       → Going e t xs ys (i + 1) w′ a′
   going-join hx hy e1 e2 =
-      going-turn g hx hy ht (ok .code)
+      going-turn g hx hy ht (j .fine)
       (e1 ∙ sym (ap (λ (x : Bool). steppedWork c x w) imm ∙ work))
       (e2 ∙ sym (ap (λ (x : Bool). steppedRuns (op c v) x w a) imm ∙ (λ l. arena (set (a .codes) (place l) c) (set (a .values) (place l) v) (run l))))
 

@@ -5,14 +5,16 @@ use mathlib.Core.List.{List, [], _∷_, _++_, map}
 use Prim.Native.Nat.{ℕ, _+_, _*_, _^_, _≤_}
 use lib.ListN.{length, drop}
 use Rattle.rules.specs.Lists.{fitted}
-use Rattle.rules.specs.Operations.{Op, operations, codes, values}
+use Rattle.rules.specs.Answer.{good, refuseFirst}
+use Rattle.rules.specs.Operations.{Op, operations, codes, values, opFault}
 use Rattle.rules.specs.Batching as rule
-use Rattle.rules.specs.Batching.{Group, ops, imm, Batch, nextFree, wantsNoop, start, steps}
-use Rattle.rules.specs.Record.{startsFrom, sizeOf, flagOf, numberOf, codesNumber, opsOf, paddedOf, recordOf, wordBytes, recordsBytes}
+use Rattle.rules.specs.Batching.{Group, ops, imm, Batch, nextFree, wantsNoop, start, steps, batchesOf}
+use Rattle.rules.specs.Record.{startsFrom, sizeOf, flagOf, numberOf, codesNumber, opsOf, paddedOf, recordOf, blockOf, wordBytes, recordsBytes}
 use Rattle.rules.specs.Functions.{Arena}
 use Rattle.batcher.specs.declared.OpBatchAccumulator.{OpBatchAccumulator}
 use Rattle.batcher.specs.declared.Work.{Work}
 use Rattle.batcher.specs.Good.{Good}
+use Rattle.batcher.specs.Batched.{listed}
 
 -- ---- the accumulator's numbers, as a view of a batch of the rules
 
@@ -67,10 +69,11 @@ pub record Held (e : Arena) (t : List ℕ) (d : rule.Work) (w : Work) (a : Arena
   pub values : a .values ≡ fitted (length (e .values)) (values (paddedOf (d .batches) ++ written (d .current)))
   pub records : a .records ≡ fitted (length (e .records)) (recordsBytes (map recordOf (d .batches)) ++ bytesWith 0 (drafted (d .current)))
 
--- what is left of the lists takes the work in hand to the whole result
+-- No operation so far is at fault, and what is left of the lists takes the work in hand to the whole result.
 pub record Going (e : Arena) (t xs ys : List ℕ) (i : ℕ) (w : Work) (a : Arena) : Type 0 where
   pub work : rule.Work
   pub held : Held e t work w a
+  pub fine : refuseFirst i (map (opFault t) (operations (drop i xs) (drop i ys))) (good (blockOf (batchesOf 8 t (operations xs ys)))) ≡ listed t xs ys
   pub rest : steps 8 t (operations (drop i xs) (drop i ys)) work ≡ steps 8 t (operations xs ys) start
   pub base : w .base ≤ 72 * i
   pub batches : w .batches ≤ i

@@ -1,4 +1,4 @@
 pub mod Good
 pub mod Model
-pub mod Going
 pub mod Batched
+pub mod Going

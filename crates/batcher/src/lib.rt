@@ -5,13 +5,12 @@ ghost use mathlib.Core.Path.{_≡_};
 ghost use mathlib.Core.Bool.{true};
 ghost use Prim.Native.Nat.{ℕ, _+_, _*_, _-_, _≤_, _<_, _^_};
 ghost use lib.ListN.{length, getD, set};
-ghost use Rattle.rules.specs.Operations.{operations};
-ghost use Rattle.rules.specs.Batching.{batchesOf, target};
-ghost use Rattle.rules.specs.Record.{blockOf, noBlock};
+ghost use Rattle.rules.specs.Batching.{target};
+ghost use Rattle.rules.specs.Record.{noBlock};
 ghost use Rattle.rules.specs.Functions.{arena, filled};
 ghost use Rattle.batcher.specs.Good.{Good};
 ghost use Rattle.batcher.specs.Going.{Going};
-ghost use Rattle.batcher.specs.Batched.{Batched};
+ghost use Rattle.batcher.specs.Batched.{listed, Batched};
 ghost use Rattle.batcher.specs.Model.{newAcc, fitsIn, padOf, closedRun, turnedAcc, slottedAcc, slottedRun, joinedAcc, crosses, readyAcc, readyRun, addedAcc, addedRun, endedTotal, endedRun, endedWork, endedWorkRun, roomWork, roomRun, steppedWork, steppedRun, lastPlace, keptRun, lastImm, takenWork, Joins};
 
 // groups in a batch, and operations in a group
@@ -484,13 +483,13 @@ fn join_ops(
     gather(w, table, codes, i, n, next, number, place)
 }
 
-// How much a list comes to.
-pub struct Totals {
-    pub batches: usize,
-    pub operations: usize,
+// How much a list comes to; or the number of refusal and the place of its first operation that is not admissible.
+pub enum Batches {
+    Done { batches: usize, operations: usize },
+    Fault { number: u8, place: usize },
 }
 
-// The batches of a list, written to runs that are all zero. What the runs have no room for falls away; the totals do not.
+// The batches of a list, written to runs that are all zero. What the runs have no room for falls away; what is replied does not.
 pub fn batch_ops(
     table: &[u8],
     codes: &[u8],
@@ -498,11 +497,10 @@ pub fn batch_ops(
     out_codes: &mut [u8],
     out_values: &mut [u64],
     records: &mut [u8],
-) -> Totals
+) -> Batches
     requires sizes { ⌜ (length (now table) ≡ 128) × (length (now codes) ≤ 16384) × (length (now values) ≡ length (now codes)) ⌝ }
-    requires small { ⌜ ((k : ℕ) → k < length (now codes) → getD (now codes) k 0 < 128) ⌝ }
     requires zero { ⌜ arena (now «out_codes») (now «out_values») (now records) ≡ filled (arena (now «out_codes») (now «out_values») (now records)) noBlock ⌝ }
-    ensures { λ r. ⌜ Batched (blockOf (batchesOf 8 (now (table .entry)) (operations (now (codes .entry)) (now (values .entry))))) r (arena (now («out_codes» .entry)) (now («out_values» .entry)) (now (records .entry))) (arena (now («out_codes» .exit)) (now («out_values» .exit)) (now (records .exit))) ⌝ }
+    ensures { λ r. ⌜ Batched (listed (now (table .entry)) (now (codes .entry)) (now (values .entry))) r (arena (now («out_codes» .entry)) (now («out_values» .entry)) (now (records .entry))) (arena (now («out_codes» .exit)) (now («out_values» .exit)) (now (records .exit))) ⌝ }
 {
     let fresh = OpBatchAccumulator::new();
     let mut w = Work {
@@ -514,8 +512,11 @@ pub fn batch_ops(
     while i < codes.len() {
         let code = codes[i];
         let v = values[i];
-        let at = code as usize;
-        let kind = table[at];
+        let number = operation::fault(table, code, v);
+        if number != 0 {
+            return Batches::Fault { number, place: i };
+        }
+        let kind = table[code as usize];
         let imm = kind == 1;
         let s = step(w, code, imm, v, out_codes, out_values, records);
         let t = join_ops(
@@ -532,7 +533,7 @@ pub fn batch_ops(
         i = t.upto;
     }
     let e = end_batch(w, records);
-    Totals {
+    Batches::Done {
         batches: e.batches,
         operations: e.base,
     }

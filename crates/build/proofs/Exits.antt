@@ -1,75 +1,122 @@
--- The ends of `build`: refused by a check of the input, made, refused for want of room. Assumes nothing.
-use mathlib.Core.Path.{_≡_, refl, sym, ap, _∙_}
+-- The ends of `build`: refused by a check of the input, refused for an operation, made, refused for want of room. Assumes nothing.
+use mathlib.Core.Path.{_≡_, refl, sym, ap, _∙_, subst}
 use mathlib.Core.Bool.{Bool, true, false, not, _&&_}
-use mathlib.Core.List.{List}
-use Prim.Native.Nat.{ℕ, _/_}
+use mathlib.Core.List.{List, [], _∷_, map}
+use Prim.Native.Nat.{ℕ, zero, suc, _+_, _/_, _≤_}
+use native.Mathlib.Omega.{arith}
 use lib.ListN.{length}
 use lib.Dec.{leb}
-use Rattle.rules.specs.Answer.{Answer, good, refused, refuse}
-use Rattle.rules.specs.Operations.{codes, values}
-use Rattle.rules.specs.Record.{Block, noBlock, recordsBytes}
+use Rattle.rules.specs.Answer.{Answer, good, refused, refuse, refuseFirst}
+use Rattle.rules.specs.Operations.{operations, opFault}
+use Rattle.rules.specs.Record.{Block, noBlock}
 use Rattle.rules.specs.Block.{Room}
 use Rattle.rules.specs.Functions.{Arena, roomIn, filled, roomFor, built, blockLeft}
 use Rattle.rules.proofs.Runs.{fitted-length}
 use Rattle.operation.specs.declared.Verdict.{Verdict}
 use Rattle.operation.specs.declared.Verdict.the-variants as verdict
-use Rattle.batcher.specs.declared.Totals.{Totals}
-use Rattle.batcher.specs.Batched.{Batched}
+use Rattle.batcher.specs.declared.Batches.{Batches}
+use Rattle.batcher.specs.declared.Batches.the-variants.{Done, Fault}
+use Rattle.batcher.specs.Batched.{listed, batchesIn, Batched}
 use Rattle.build.specs.declared.Built.{Built}
 use Rattle.build.specs.declared.Built.the-variants.{Made, Refused}
 use Rattle.build.specs.Outcome.{builtOf, Outcome}
-use Rattle.build.specs.Checked.{heard, placed, blockFor, Checked}
+use Rattle.build.specs.Checked.{heard, placed, blockFor, Fit, Checked}
 
--- what was in the runs does not matter
-filled-again : (e : Arena) (b d : Block) → filled (filled e b) d ≡ filled e d
+-- ---- of the runs only the lengths matter
+
+abbrev Same : Arena → Arena → Type 0
+Same a e = (length (a .codes) ≡ length (e .codes)) × (length (a .values) ≡ length (e .values)) × (length (a .records) ≡ length (e .records))
+
+same : (e a : Arena) (b : Block) → a ≡ filled e b → Same a e
 unfolding filled
-filled-again e b d =
-    rw (fitted-length (length (e .codes)) (codes (b .ops)), fitted-length (length (e .values)) (values (b .ops)), fitted-length (length (e .records)) (recordsBytes (b .records)))
+same e a b p =
+    (ap (λ (x : Arena). length (x .codes)) p ∙ fitted-length _ _, ap (λ (x : Arena). length (x .values)) p ∙ fitted-length _ _, ap (λ (x : Arena). length (x .records)) p ∙ fitted-length _ _)
 
-module _ (e a : Arena) (b : Block) (p : a ≡ filled e b) where
-  refill : (a′ : Arena) (d : Block) → a′ ≡ filled a d → a′ ≡ filled e d
-  refill a′ d q = q ∙ ap (λ (x : Arena). filled x d) p ∙ filled-again e b d
+refill : (e a : Arena) → Same a e → (d : Block) → filled a d ≡ filled e d
+unfolding filled
+refill e a l d = rw (l .0, l .1, l .2)
 
-  pub same-again : a ≡ filled a b
-  same-again = p ∙ sym (filled-again e b b) ∙ ap (λ (x : Arena). filled x b) (sym p)
-
-  lengths : (length (a .codes) ≡ length (e .codes)) × (length (a .values) ≡ length (e .values)) × (length (a .records) ≡ length (e .records))
-  unfolding filled
-  lengths =
-      (ap (λ (x : Arena). length (x .codes)) p ∙ fitted-length _ _, ap (λ (x : Arena). length (x .values)) p ∙ fitted-length _ _, ap (λ (x : Arena). length (x .records)) p ∙ fitted-length _ _)
+pub same-again : (e a : Arena) (b : Block) → a ≡ filled e b → a ≡ filled a b
+same-again e a b p = p ∙ sym (refill e a (same e a b p) b)
 
 outcome : {answer : Room → Answer Block} {r : Built} {e a : Arena} (x : Answer Block) → answer (roomIn e) ≡ x → r ≡ builtOf x → a ≡ filled e (blockLeft x) → Outcome answer r e a
 outcome {answer} {r} {e} {a} x q p s = record { reply = p ∙ ap builtOf (sym q); runs = s ∙ ap (λ (y : Answer Block). filled e (blockLeft y)) (sym q) }
 
+-- what is left once the input has passed
+abbrev left : List ℕ → List ℕ → List ℕ → Room → Answer Block
+left t cs vs room = refuseFirst 0 (map (opFault t) (operations cs vs)) (placed (blockFor t cs vs) room)
+
 pub input-refused : {t cs vs : List ℕ} {v : Verdict} {n p : ℕ} {e a : Arena} → Checked t cs vs v → v ≡ verdict.Refused n p → a ≡ filled e noBlock → Outcome (built 8 t cs vs) (Refused n p) e a
 input-refused {t} {cs} {vs} {v} {n} {p} {e} {a} h q z =
-    outcome (refused n p) (h .decides (roomIn e) ∙ ap (λ (x : Verdict). heard x (placed (blockFor t cs vs) (roomIn e))) q) refl z
+    outcome (refused n p) (h .decides (roomIn e) ∙ ap (λ (x : Verdict). heard x (left t cs vs (roomIn e))) q) refl z
 
--- ---- all checks passed: `a` are the runs cleared, `a′` with the block written
+pub passed : {t cs vs : List ℕ} {v : Verdict} → Checked t cs vs v → v ≡ verdict.Passed → (length t ≡ 128) × (length cs ≤ 16384) × (length vs ≡ length cs)
+passed {t} {cs} {vs} h q = subst (Fit t cs vs) q (h .fit)
 
-module _ (t cs vs : List ℕ) (v : Verdict) (r : Totals) (e a a′ : Arena) (h : Checked t cs vs v) (q : v ≡ verdict.Passed) (z : a ≡ filled e noBlock) (m : Batched (blockFor t cs vs) r a a′) where
-  holds : a′ ≡ filled e (blockFor t cs vs)
-  holds = refill e a noBlock z a′ (blockFor t cs vs) (m .runs)
+-- ---- the walk to the first fault, heard as the driver's reply
 
-  -- the room that is found is the room that the rules ask
-  found : (leb (r .operations) (length (a′ .codes)) && (leb (r .operations) (length (a′ .values)) && leb (r .batches) (length (a′ .records) / 82))) ≡ roomFor (blockFor t cs vs) (roomIn e)
-  unfolding roomFor roomIn
-  found =
-      let l = lengths e a′ (blockFor t cs vs) holds in
-      rw (m .operations, m .batches, l .0, l .1, l .2)
+abbrev then : Batches → Answer Block → Answer Block
+then (Done k m) r = r
+then (Fault n p) r = refused n p
 
-  module _ (f : Bool) (g : f ≡ (leb (r .operations) (length (a′ .codes)) && (leb (r .operations) (length (a′ .values)) && leb (r .batches) (length (a′ .records) / 82)))) where
-    decided : built 8 t cs vs (roomIn e) ≡ refuse (not f) 13 0 (good (blockFor t cs vs))
-    decided =
-        let b = blockFor t cs vs in
-        h .decides (roomIn e) ∙ ap (λ (x : Verdict). heard x (placed b (roomIn e))) q ∙ ap (λ (x : Bool). refuse (not x) 13 0 (good b)) (sym (g ∙ found))
+walked : (i : ℕ) (ns : List ℕ) (b : Block) (r : Answer Block) → refuseFirst i ns r ≡ then (batchesIn (refuseFirst i ns (good b))) r
+unfolding refuseFirst
+walked i [] b r = refl
+walked i (zero ∷ ns) b r = walked (i + 1) ns b r
+walked i (suc n ∷ ns) b r = refl
 
-    pub made : f ≡ true → Outcome (built 8 t cs vs) (Made (r .batches) (r .operations)) e a′
-    made i =
-        let b = blockFor t cs vs in
-        outcome (good b) (decided ∙ ap (λ (x : Bool). refuse (not x) 13 0 (good b)) i) (λ j. Made (m .batches j) (m .operations j)) holds
+walked-done : (i : ℕ) (ns : List ℕ) (b : Block) (k m : ℕ) → batchesIn (refuseFirst i ns (good b)) ≡ Done k m → refuseFirst i ns (good b) ≡ good b
+unfolding refuseFirst
+walked-done i [] b k m h = refl
+walked-done i (zero ∷ ns) b k m h = walked-done (i + 1) ns b k m h
+walked-done i (suc n ∷ ns) b k m h = let z : _≡_ {A = ℕ} 0 1 = cc in absurd (omega arith)
 
-    pub no-room : (a″ : Arena) → f ≡ false → a″ ≡ filled a′ noBlock → Outcome (built 8 t cs vs) (Refused 13 0) e a″
-    no-room a″ i y =
-        let b = blockFor t cs vs in
-        outcome (refused 13 0) (decided ∙ ap (λ (x : Bool). refuse (not x) 13 0 (good b)) i) refl (refill e a′ b holds a″ noBlock y)
+abbrev batches : Batches → ℕ
+batches (Done k m) = k
+batches (Fault n p) = 0
+
+abbrev padded : Batches → ℕ
+padded (Done k m) = m
+padded (Fault n p) = 0
+
+-- ---- the input has passed: `a` are the runs cleared, `a′` as the driver leaves them
+
+module _ (t cs vs : List ℕ) (v : Verdict) (r : Batches) (e a a′ : Arena) (h : Checked t cs vs v) (q : v ≡ verdict.Passed) (z : a ≡ filled e noBlock) (m : Batched (listed t cs vs) r a a′) where
+  decides : (x : Batches) → r ≡ x → built 8 t cs vs (roomIn e) ≡ then x (placed (blockFor t cs vs) (roomIn e))
+  decides x f =
+      let b = blockFor t cs vs in
+      let room = roomIn e in
+      h .decides room
+      ∙ ap (λ (y : Verdict). heard y (left t cs vs room)) q
+      ∙ walked 0 (map (opFault t) (operations cs vs)) b (placed b room)
+      ∙ ap (λ (y : Batches). then y (placed b room)) (sym (m .reply) ∙ f)
+
+  pub fault : (n p : ℕ) → r ≡ Fault n p → (a″ : Arena) → Same a′ a → a″ ≡ filled a′ noBlock → Outcome (built 8 t cs vs) (Refused n p) e a″
+  fault n p f a″ l y = outcome (refused n p) (decides (Fault n p) f) refl (y ∙ refill a a′ l noBlock ∙ refill e a (same e a noBlock z) noBlock)
+
+  module _ (k o : ℕ) (f : r ≡ Done k o) where
+    whole : listed t cs vs ≡ good (blockFor t cs vs)
+    whole = walked-done 0 (map (opFault t) (operations cs vs)) (blockFor t cs vs) k o (sym (m .reply) ∙ f)
+
+    counts : Done k o ≡ batchesIn (good (blockFor t cs vs))
+    counts = sym f ∙ m .reply ∙ ap batchesIn whole
+
+    holds : a′ ≡ filled e (blockFor t cs vs)
+    holds = m .runs (blockFor t cs vs) whole ∙ refill e a (same e a noBlock z) (blockFor t cs vs)
+
+    -- the room that is found is the room that the rules ask
+    found : (leb o (length (a′ .codes)) && (leb o (length (a′ .values)) && leb k (length (a′ .records) / 82))) ≡ roomFor (blockFor t cs vs) (roomIn e)
+    unfolding roomFor roomIn
+    found =
+        let l = same e a′ (blockFor t cs vs) holds in
+        rw (ap padded counts, ap batches counts, l .0, l .1, l .2)
+
+    module _ (x : Bool) (g : x ≡ (leb o (length (a′ .codes)) && (leb o (length (a′ .values)) && leb k (length (a′ .records) / 82)))) where
+      decided : (y : Bool) → x ≡ y → built 8 t cs vs (roomIn e) ≡ refuse (not y) 13 0 (good (blockFor t cs vs))
+      decided y i = decides (Done k o) f ∙ ap (λ (w : Bool). refuse (not w) 13 0 (good (blockFor t cs vs))) (sym (g ∙ found) ∙ i)
+
+      pub made : x ≡ true → Outcome (built 8 t cs vs) (Made k o) e a′
+      made i = outcome (good (blockFor t cs vs)) (decided true i) (ap (λ (w : Batches). Made (batches w) (padded w)) counts) holds
+
+      pub no-room : (a″ : Arena) → x ≡ false → a″ ≡ filled a′ noBlock → Outcome (built 8 t cs vs) (Refused 13 0) e a″
+      no-room a″ i y = outcome (refused 13 0) (decided false i) refl (y ∙ refill e a′ (same e a′ (blockFor t cs vs) holds) noBlock)

@@ -1,4 +1,3 @@
-pub mod Input
 pub mod Exits
 pub mod Thirteen
 pub mod Unique

@@ -1,10 +1,11 @@
--- No public contract cites this page: what the checks of the input say of the rules' answer.
+-- No public contract cites this page: what the checks of the input before its operations say of the rules' answer.
 use mathlib.Core.Path.{_≡_}
 use mathlib.Core.Bool.{not}
-use mathlib.Core.List.{List}
-use Prim.Native.Nat.{ℕ}
-use Rattle.rules.specs.Answer.{Answer, good, refused, refuse}
-use Rattle.rules.specs.Operations.{operations}
+use mathlib.Core.List.{List, map}
+use Prim.Native.Nat.{ℕ, _≤_}
+use lib.ListN.{length}
+use Rattle.rules.specs.Answer.{Answer, good, refused, refuse, refuseFirst}
+use Rattle.rules.specs.Operations.{operations, opFault}
 use Rattle.rules.specs.Batching.{batchesOf}
 use Rattle.rules.specs.Record.{Block, blockOf}
 use Rattle.rules.specs.Block.{Room}
@@ -17,7 +18,7 @@ abbrev pub heard : {A : Type 0} → Verdict → Answer A → Answer A
 heard Passed r = r
 heard (Refused n p) r = refused n p
 
--- the last guard: what is left to decide once the input has passed
+-- the last guard: what is left to decide once the operations have passed
 abbrev pub placed : Block → Room → Answer Block
 placed b room = refuse (not (roomFor b room)) 13 0 (good b)
 
@@ -25,5 +26,11 @@ placed b room = refuse (not (roomFor b room)) 13 0 (good b)
 abbrev pub blockFor : List ℕ → List ℕ → List ℕ → Block
 blockFor t cs vs = blockOf (batchesOf 8 t (operations cs vs))
 
+-- what has passed can be batched
+abbrev pub Fit : List ℕ → List ℕ → List ℕ → Verdict → Type 0
+Fit t cs vs Passed = (length t ≡ 128) × (length cs ≤ 16384) × (length vs ≡ length cs)
+Fit t cs vs (Refused n p) = Unit
+
 pub record Checked (t cs vs : List ℕ) (v : Verdict) : Type 0 where
-  pub decides : (room : Room) → built 8 t cs vs room ≡ heard v (placed (blockFor t cs vs) room)
+  pub fit : Fit t cs vs v
+  pub decides : (room : Room) → built 8 t cs vs room ≡ heard v (refuseFirst 0 (map (opFault t) (operations cs vs)) (placed (blockFor t cs vs) room))

@@ -13,7 +13,7 @@ pub enum Built {
     Refused { number: u8, place: usize },
 }
 
-// The checks of the input, in order.
+// The checks of the input that come before its operations, in order.
 fn check_input(table: &[u8], codes: &[u8], values: &[u64]) -> operation::Verdict
     ensures { λ r. ⌜ Checked (now (table .entry)) (now (codes .entry)) (now (values .entry)) r ⌝ }
 {
@@ -41,7 +41,7 @@ fn check_input(table: &[u8], codes: &[u8], values: &[u64]) -> operation::Verdict
             place: 0,
         };
     }
-    operation::first_fault(table, codes, values)
+    operation::Verdict::Passed
 }
 
 // Whether runs of these lengths hold so much.
@@ -82,24 +82,33 @@ pub fn build(
     if let operation::Verdict::Refused { number, place } = verdict {
         return Built::Refused { number, place };
     }
-    let t = batcher::batch_ops(table, codes, values, out_codes, out_values, records);
-    let batches = t.batches;
-    let operations = t.operations;
-    if room_for(
-        batches,
-        operations,
-        out_codes.len(),
-        out_values.len(),
-        records.len(),
-    ) {
-        return Built::Made {
+    let answer = batcher::batch_ops(table, codes, values, out_codes, out_values, records);
+    match answer {
+        batcher::Batches::Fault { number, place } => {
+            clear(out_codes, out_values, records);
+            return Built::Refused { number, place };
+        }
+        batcher::Batches::Done {
             batches,
             operations,
-        };
-    }
-    clear(out_codes, out_values, records);
-    Built::Refused {
-        number: 13,
-        place: 0,
+        } => {
+            if room_for(
+                batches,
+                operations,
+                out_codes.len(),
+                out_values.len(),
+                records.len(),
+            ) {
+                return Built::Made {
+                    batches,
+                    operations,
+                };
+            }
+            clear(out_codes, out_values, records);
+            return Built::Refused {
+                number: 13,
+                place: 0,
+            };
+        }
     }
 }

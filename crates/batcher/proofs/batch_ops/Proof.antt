@@ -1,10 +1,12 @@
+use mathlib.Core.Path.{sym, _∙_}
 use Prim.Native.Nat.{_-_, _≤_}
 use native.Mathlib.Omega.{arith}
 use borrow.Author.Needs.{needs}
 use lib.ListN.{length}
 use Rattle.rules.specs.Functions.{arena}
+use Rattle.rules.proofs.Operations.{admitted}
 use Rattle.batcher.specs.Going.{Going}
-use Rattle.batcher.proofs.Held.{going-start, going-good, going-turn, going-here, going-back, going-lengths, going-end}
+use Rattle.batcher.proofs.Held.{going-start, going-good, going-turn, going-here, going-back, going-lengths, going-end, going-fault}
 use Rattle.batcher.proofs.batch_ops.Statement.{statement}
 use Rattle.batcher.proofs.batch_ops.Tie as tie
 
@@ -19,7 +21,7 @@ new-requires : tie.Need-new-requires Inv-loop μ-loop
 new-requires c κs = search needs
 
 loop-holds : tie.Need-loop-holds Inv-loop μ-loop
-loop-holds c = rw (c .new .ensures) (omega arith, going-start _ _ _ _ (c .before .before .before .before .before .before .before .pre .1 .1))
+loop-holds c = rw (c .new .ensures) (omega arith, going-start _ _ _ _ (c .before .before .before .before .before .before .before .pre .1))
 
 shared-slice-read-code : tie.Need-shared-slice-read-code Inv-loop μ-loop
 shared-slice-read-code c = search needs
@@ -30,45 +32,8 @@ mul-v c = search needs
 shared-slice-read-v : tie.Need-shared-slice-read-v Inv-loop μ-loop
 shared-slice-read-v c = search needs
 
-cast-at : tie.Need-cast-at Inv-loop μ-loop
-cast-at c = omega (arith, c .before .before .before .before .before .before .before .before .before .before .before .pre .1 .0 (c .before .before .before .loop .i) (c .before .before .loop-test .taken))
-
-shared-slice-read-kind : tie.Need-shared-slice-read-kind Inv-loop μ-loop
-shared-slice-read-kind c = omega (arith, c .before .before .before .before .before .before .before .before .before .before .before .before .pre .0, c .before .before .before .before .before .before .before .before .before .before .before .before .pre .1 .0 (c .before .before .before .before .loop .i) (c .before .before .before .loop-test .taken))
-
-step-requires : tie.Need-step-requires Inv-loop μ-loop
-step-requires c κs =
-    let a = c .before .before .before .before .before .before .before .before .before .before .before .before .before .before .before in
-    let l = c .before .before .before .before .before .before .before .loop in
-    let g = l .inv .1 in
-    (going-good g, (omega (arith, g .base, a .pre .0), omega (arith, g .batches, a .pre .0), a .pre .1 .0 (l .i) (c .before .before .before .before .before .before .loop-test .taken)))
-
-add-join-ops : tie.Need-add-join-ops Inv-loop μ-loop
-add-join-ops c = omega (arith, c .before .before .before .before .before .before .before .before .before .before .before .before .before .loop-test .taken, c .before .before .before .before .before .before .before .before .before .before .before .before .before .before .before .before .before .before .before .before .before .before .pre .0)
-
-join-ops-requires : tie.Need-join-ops-requires Inv-loop μ-loop
-join-ops-requires c κs =
-    let a = c .before .before .before .before .before .before .before .before .before .before .before .before .before .before .before .before .before .before .before .before .before .before .before .before .before in
-    let t = c .before .before .before .before .before .before .before .before .before .before .before .before .before .before .before .before .loop-test .taken in
-    let e = c .before .before .before .before .before .before .before .before .before .step .ensures in
-    ((a .pre .0 .0, a .pre .0 .1, a .pre .0 .2, omega arith), going-here (going-turn (c .before .before .before .before .before .before .before .before .before .before .before .before .before .before .before .before .before .loop .inv .1) t (omega (arith, a .pre .0)) (a .pre .0 .0) (a .pre .1 .0 _ t) (e .0) (λ j. arena (e .1 .0 j) (e .1 .1 .0 j) (e .1 .1 .1 j))))
-
-loop-less : tie.Need-loop-less Inv-loop μ-loop
-loop-less c = omega (arith, c .before .before .before .before .before .before .before .join-ops .ensures .0, c .before .before .before .before .before .before .before .before .before .before .before .before .before .before .before .before .before .before .before .before .before .before .before .before .loop-test .taken)
-
-loop-again : tie.Need-loop-again Inv-loop μ-loop
-loop-again c =
-    let a = c .before .before .before .before .before .before .before .before .before .before .before .before .before .before .before .before .before .before .before .before .before .before .before .before .before .before .before .before .before .before .before .before .before in
-    let t = c .before .before .before .before .before .before .before .before .before .before .before .before .before .before .before .before .before .before .before .before .before .before .before .before .loop-test .taken in
-    let e = c .before .before .before .before .before .before .before .before .before .before .before .before .before .before .before .before .before .step .ensures in
-    (c .before .before .before .before .before .before .before .join-ops .ensures .0 .1, going-back (going-turn (c .before .before .before .before .before .before .before .before .before .before .before .before .before .before .before .before .before .before .before .before .before .before .before .before .before .loop .inv .1) t (omega (arith, a .pre .0)) (a .pre .0 .0) (a .pre .1 .0 _ t) (e .0) (λ j. arena (e .1 .0 j) (e .1 .1 .0 j) (e .1 .1 .1 j))) (c .before .before .before .before .before .before .before .join-ops .ensures .1))
-
-end-batch-requires : tie.Need-end-batch-requires Inv-loop μ-loop
-end-batch-requires c κs =
-    let a = c .before .before .before .before .before .before .before .before .before .before in
-    let l = c .before .before .loop in
-    let g = l .inv .1 in
-    (going-good g, (omega (arith, l .inv .0, g .base, a .pre .0), omega (arith, l .inv .0, g .batches, a .pre .0)))
+fault-requires : tie.Need-fault-requires Inv-loop μ-loop
+fault-requires c κs = c .before .before .before .before .before .before .before .before .before .before .before .pre .0 .0
 
 same-length : tie.Need-same-length Inv-loop μ-loop
 same-length c = going-lengths (c .before .before .before .before .before .loop .inv .1) .0
@@ -77,10 +42,58 @@ same-length-2 : tie.Need-same-length-2 Inv-loop μ-loop
 same-length-2 c = going-lengths (c .before .before .before .before .before .loop .inv .1) .1
 
 same-length-3 : tie.Need-same-length-3 Inv-loop μ-loop
-same-length-3 c = omega (arith, going-lengths (c .before .before .before .before .before .loop .inv .1), c .before .before .end-batch .kept)
+same-length-3 c = going-lengths (c .before .before .before .before .before .loop .inv .1) .2
 
 returns : tie.Need-returns Inv-loop μ-loop
-returns c =
+returns c = going-fault (c .before .before .before .before .before .loop .inv .1) (c .before .before .before .before .loop-test .taken) (omega (arith, c .before .before .before .before .before .before .before .before .before .before .before .before .before .pre .0)) (c .before .fault .ensures) (c .if1 .taken)
+
+cast-kind : tie.Need-cast-kind Inv-loop μ-loop
+cast-kind c = omega (arith, admitted _ _ (sym (c .before .fault .ensures) ∙ c .if1 .left) .code)
+
+shared-slice-read-kind : tie.Need-shared-slice-read-kind Inv-loop μ-loop
+shared-slice-read-kind c = omega (arith, c .before .before .before .before .before .before .before .before .before .before .before .before .before .before .pre .0, admitted _ _ (sym (c .before .before .fault .ensures) ∙ c .before .if1 .left) .code)
+
+step-requires : tie.Need-step-requires Inv-loop μ-loop
+step-requires c κs =
+    let g = c .before .before .before .before .before .before .before .before .before .loop .inv .1 in
+    (going-good g, (omega (arith, g .base, c .before .before .before .before .before .before .before .before .before .before .before .before .before .before .before .before .before .pre .0), omega (arith, g .batches, c .before .before .before .before .before .before .before .before .before .before .before .before .before .before .before .before .before .pre .0), admitted _ _ (sym (c .before .before .before .before .before .fault .ensures) ∙ c .before .before .before .before .if1 .left) .code))
+
+add-join-ops : tie.Need-add-join-ops Inv-loop μ-loop
+add-join-ops c = omega (arith, c .before .before .before .before .before .before .before .before .before .before .before .before .before .before .before .loop-test .taken, c .before .before .before .before .before .before .before .before .before .before .before .before .before .before .before .before .before .before .before .before .before .before .before .before .pre .0)
+
+join-ops-requires : tie.Need-join-ops-requires Inv-loop μ-loop
+join-ops-requires c κs =
+    let p = c .before .before .before .before .before .before .before .before .before .before .before .before .before .before .before .before .before .before .before .before .before .before .before .before .before .before .before .pre .0 in
+    let e = c .before .before .before .before .before .before .before .before .before .step .ensures in
+    ((p .0, p .1, p .2, omega arith), going-here (going-turn (c .before .before .before .before .before .before .before .before .before .before .before .before .before .before .before .before .before .before .before .loop .inv .1) (c .before .before .before .before .before .before .before .before .before .before .before .before .before .before .before .before .before .before .loop-test .taken) (omega arith) (p .0) (sym (c .before .before .before .before .before .before .before .before .before .before .before .before .before .before .before .fault .ensures) ∙ c .before .before .before .before .before .before .before .before .before .before .before .before .before .before .if1 .left) (e .0) (λ j. arena (e .1 .0 j) (e .1 .1 .0 j) (e .1 .1 .1 j))))
+
+loop-less : tie.Need-loop-less Inv-loop μ-loop
+loop-less c = omega (arith, c .before .before .before .before .before .before .before .join-ops .ensures .0, c .before .before .before .before .before .before .before .before .before .before .before .before .before .before .before .before .before .before .before .before .before .before .before .before .before .before .loop-test .taken)
+
+loop-again : tie.Need-loop-again Inv-loop μ-loop
+loop-again c =
+    let p = c .before .before .before .before .before .before .before .before .before .before .before .before .before .before .before .before .before .before .before .before .before .before .before .before .before .before .before .before .before .before .before .before .before .before .before .pre .0 in
+    let e = c .before .before .before .before .before .before .before .before .before .before .before .before .before .before .before .before .before .step .ensures in
+    let j = c .before .before .before .before .before .before .before .join-ops .ensures in
+    (j .0 .1, going-back (going-turn (c .before .before .before .before .before .before .before .before .before .before .before .before .before .before .before .before .before .before .before .before .before .before .before .before .before .before .before .loop .inv .1) (c .before .before .before .before .before .before .before .before .before .before .before .before .before .before .before .before .before .before .before .before .before .before .before .before .before .before .loop-test .taken) (omega arith) (p .0) (sym (c .before .before .before .before .before .before .before .before .before .before .before .before .before .before .before .before .before .before .before .before .before .before .before .fault .ensures) ∙ c .before .before .before .before .before .before .before .before .before .before .before .before .before .before .before .before .before .before .before .before .before .before .if1 .left) (e .0) (λ j. arena (e .1 .0 j) (e .1 .1 .0 j) (e .1 .1 .1 j))) (j .1))
+
+end-batch-requires : tie.Need-end-batch-requires Inv-loop μ-loop
+end-batch-requires c κs =
+    let l = c .before .before .loop in
+    let g = l .inv .1 in
+    (going-good g, (omega (arith, l .inv .0, g .base, c .before .before .before .before .before .before .before .before .before .before .pre .0), omega (arith, l .inv .0, g .batches, c .before .before .before .before .before .before .before .before .before .before .pre .0)))
+
+same-length-4 : tie.Need-same-length-4 Inv-loop μ-loop
+same-length-4 c = going-lengths (c .before .before .before .before .before .loop .inv .1) .0
+
+same-length-5 : tie.Need-same-length-5 Inv-loop μ-loop
+same-length-5 c = going-lengths (c .before .before .before .before .before .loop .inv .1) .1
+
+same-length-6 : tie.Need-same-length-6 Inv-loop μ-loop
+same-length-6 c = omega (arith, going-lengths (c .before .before .before .before .before .loop .inv .1), c .before .before .end-batch .kept)
+
+returns-2 : tie.Need-returns-2 Inv-loop μ-loop
+returns-2 c =
     let l = c .before .before .before .before .before .loop in
     let e = c .before .before .end-batch .ensures in
     going-end (l .inv .1) (c .before .before .before .before .loop-test .left) (e .0) (λ j. arena (l .out-codes) (l .out-values) (e .1 j))
@@ -96,7 +109,12 @@ batch-ops-spec =
     shared-slice-read-code
     mul-v
     shared-slice-read-v
-    cast-at
+    fault-requires
+    same-length
+    same-length-2
+    same-length-3
+    returns
+    cast-kind
     shared-slice-read-kind
     step-requires
     add-join-ops
@@ -104,7 +122,7 @@ batch-ops-spec =
     loop-less
     loop-again
     end-batch-requires
-    same-length
-    same-length-2
-    same-length-3
-    returns)
+    same-length-4
+    same-length-5
+    same-length-6
+    returns-2)

@@ -2,18 +2,17 @@ use mathlib.Core.Path.{sym, _∙_}
 use borrow.Author.Tests.{le-ltb, lt-ltb, eq-eqb, ne-eqb, not-true, not-false}
 use Rattle.rules.specs.Functions.{built}
 use Rattle.rules.proofs.Operations.{table-128}
-use Rattle.build.proofs.Input.{first-heard}
 use borrow.Author.Needs.{needs}
 use Rattle.build.proofs.check_input.Statement.{statement}
 use Rattle.build.proofs.check_input.Tie as tie
 
 returns : tie.Need-returns
 unfolding built
-returns c = record { decides = λ room. simp (ne-eqb _ _ (c .if1 .taken)) }
+returns c = record { fit = tt; decides = λ room. simp (ne-eqb _ _ (c .if1 .taken)) }
 
 returns-2 : tie.Need-returns-2
 unfolding built
-returns-2 c = record { decides = λ room. simp (eq-eqb _ _ (c .before .if1 .left), lt-ltb _ _ (c .if2 .taken)) }
+returns-2 c = record { fit = tt; decides = λ room. simp (eq-eqb _ _ (c .before .if1 .left), lt-ltb _ _ (c .if2 .taken)) }
 
 good-table-requires : tie.Need-good-table-requires
 good-table-requires c κs = search needs
@@ -21,23 +20,21 @@ good-table-requires c κs = search needs
 returns-3 : tie.Need-returns-3
 unfolding built
 returns-3 c =
-    record { decides = λ room. simp (eq-eqb _ _ (c .before .before .before .if1 .left), le-ltb _ _ (c .before .before .if2 .left), sym (c .before .good-table .ensures) ∙ not-true _ (c .if3 .taken)) }
+    record { fit = tt; decides = λ room. simp (eq-eqb _ _ (c .before .before .before .if1 .left), le-ltb _ _ (c .before .before .if2 .left), sym (c .before .good-table .ensures) ∙ not-true _ (c .if3 .taken)) }
 
 returns-4 : tie.Need-returns-4
 unfolding built
 returns-4 c =
-    record { decides = λ room. simp (eq-eqb _ _ (c .before .before .before .before .if1 .left), le-ltb _ _ (c .before .before .before .if2 .left), sym (c .before .before .good-table .ensures) ∙ not-false _ (c .before .if3 .left), eq-eqb _ _ (c .if4 .taken)) }
-
-first-fault-requires : tie.Need-first-fault-requires
-first-fault-requires c κs = (table-128 _ (sym (c .before .before .good-table .ensures) ∙ not-false _ (c .before .if3 .left)), c .before .before .before .before .if1 .left)
+    record { fit = tt; decides = λ room. simp (eq-eqb _ _ (c .before .before .before .before .if1 .left), le-ltb _ _ (c .before .before .before .if2 .left), sym (c .before .before .good-table .ensures) ∙ not-false _ (c .before .if3 .left), eq-eqb _ _ (c .if4 .taken)) }
 
 returns-5 : tie.Need-returns-5
 unfolding built
 returns-5 c =
+    let t = sym (c .before .before .good-table .ensures) ∙ not-false _ (c .before .if3 .left) in
+    let e = c .before .before .before .before .if1 .left in
     record {
-      decides =
-          λ room. rw (c .first-fault .ensures)
-          (simp (eq-eqb _ _ (c .before .before .before .before .before .if1 .left), le-ltb _ _ (c .before .before .before .before .if2 .left), sym (c .before .before .before .good-table .ensures) ∙ not-false _ (c .before .before .if3 .left), ne-eqb _ _ (c .before .if4 .left)) (first-heard 0 _ _));
+      fit = (table-128 _ t, c .before .before .before .if2 .left, sym e);
+      decides = λ room. simp (eq-eqb _ _ e, le-ltb _ _ (c .before .before .before .if2 .left), t, ne-eqb _ _ (c .if4 .left));
     }
 
 pub check-input-spec : {M : Type 1} → statement M
@@ -49,5 +46,4 @@ check-input-spec =
     good-table-requires
     returns-3
     returns-4
-    first-fault-requires
     returns-5)
