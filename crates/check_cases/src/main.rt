@@ -1,7 +1,8 @@
 // Reads cases from standard input, runs the check, table or lookup that each names, and writes the reply, a line each.
 // A case is a list of numbers: all other bytes of the text only part them, so that its words are for the reader.
-//   what: 0 structure, 1 padding, 2 commitment, 3 raw table, 4 padded table, 5 group of an operation, 6 next group
-//   argument: a table's room, an operation number or a group
+//   what: 0 structure, 1 padding, 2 commitment, 3 raw table, 4 padded table, 5 group of an operation, 6 next group,
+//     7 padded index of a raw one, 8 raw index of a padded one (the values are the table's entries)
+//   argument: a table's room, an operation number, a group or an index
 //   table: its length, the kind of opcode 4 (opcodes 0 and 2 have kind 0, 1 has 1, 3 has 2, the rest 3)
 //   codes, values and records each: how many are lent (of records the bytes), how many are listed, those; the rest are 0
 ghost use mathlib.Core.Path.{_≡_};
@@ -10,6 +11,10 @@ ghost use lib.ListN.{length};
 use op_batch::Lookup;
 use op_batch::NextGroup;
 use operation::Verdict;
+use prefix::PaddedFound;
+use prefix::PaddedIndex;
+use prefix::RawFound;
+use prefix::RawIndex;
 use prefix::Tabled;
 
 // ---- numbers in a text
@@ -40,6 +45,17 @@ fn skip(s: &[u8], from: usize) -> usize
     at
 }
 
+// A digit more, where the number stays within 64 bits.
+fn with_digit(v: u64, d: u64) -> u64 {
+    if 1844674407370955161 < v {
+        return v;
+    }
+    if 18446744073709551615 - v * 10 < d {
+        return v;
+    }
+    v * 10 + d
+}
+
 fn number(s: &[u8], from: usize) -> Read
     requires { ⌜ from ≤ length (now s) ⌝ }
     ensures { λ r. ⌜ r .at ≤ length (now (s .entry)) ⌝ }
@@ -54,7 +70,7 @@ fn number(s: &[u8], from: usize) -> Read
         if 57 < d {
             return Read { value, at };
         }
-        value = value % 1000000000000000000 * 10 + (d - 48);
+        value = with_digit(value, d - 48);
         at += 1;
     }
     Read { value, at }
@@ -245,6 +261,34 @@ fn lookups(next: bool, argument: usize, records: &[u8]) {
     show_lookup(batch.op_idx_in_batch_to_group(argument));
 }
 
+fn show_padded(v: PaddedFound) {
+    match v {
+        PaddedFound::At(i) => {
+            show(i.0 as u64);
+            line(b"");
+        }
+        PaddedFound::Nothing => line(b"nothing"),
+    }
+}
+
+fn show_raw(v: RawFound) {
+    match v {
+        RawFound::At(i) => {
+            show(i.0 as u64);
+            line(b"");
+        }
+        RawFound::Nothing => line(b"nothing"),
+    }
+}
+
+fn indexes(padded: bool, argument: usize, entries: &[u64]) {
+    if padded {
+        show_raw(prefix::padded_to_raw_index(entries, PaddedIndex(argument)));
+        return;
+    }
+    show_padded(prefix::raw_to_padded_index(entries, RawIndex(argument)));
+}
+
 fn run(what: u64, argument: usize, table: &[u8], codes: &[u8], values: &[u64], records: &[u8]) {
     if what == 0 {
         show_verdict(checks::structure(codes, values, records));
@@ -264,7 +308,11 @@ fn run(what: u64, argument: usize, table: &[u8], codes: &[u8], values: &[u64], r
         tables(what == 4, codes, values, records, &mut out[..room]);
         return;
     }
-    lookups(what == 6, argument, records);
+    if what <= 6 {
+        lookups(what == 6, argument, records);
+        return;
+    }
+    indexes(what == 8, argument, values);
 }
 
 // The front of each run that is lent.

@@ -6,6 +6,7 @@ use Rattle.check_cases.proofs.number.Tie as tie
 use Rattle.check_cases.proofs.number.Reads as reads
 use Rattle.check_cases.proofs.number.Lts as lts
 use Rattle.check_cases.proofs.skip.Reads as skip-reads
+use Rattle.check_cases.proofs.with_digit.Reads as with-digit-reads
 use Rattle.word.proofs.wide.Reads as wide-reads
 
 abbrev Inv-loop : tie.InvT-loop
@@ -32,11 +33,8 @@ returns c = search needs
 returns-2 : tie.Need-returns-2 Inv-loop μ-loop
 returns-2 c = search needs
 
-mul-value : tie.Need-mul-value Inv-loop μ-loop
-mul-value c = search needs
-
-add-value : tie.Need-add-value Inv-loop μ-loop
-add-value c = search needs
+with-digit-requires : tie.Need-with-digit-requires Inv-loop μ-loop
+with-digit-requires c κs = search needs
 
 add-at : tie.Need-add-at Inv-loop μ-loop
 add-at c = search needs
@@ -62,8 +60,7 @@ number-spec =
     wide-requires
     returns
     returns-2
-    mul-value
-    add-value
+    with-digit-requires
     add-at
     loop-less
     loop-again

@@ -6,6 +6,7 @@ use Rattle.check_cases.proofs.run.Statement.{statement}
 use Rattle.check_cases.proofs.run.Tie as tie
 use Rattle.check_cases.proofs.run.Reads as reads
 use Rattle.check_cases.proofs.run.Lts as lts
+use Rattle.check_cases.proofs.indexes.Reads as indexes-reads
 use Rattle.check_cases.proofs.lookups.Reads as lookups-reads
 use Rattle.check_cases.proofs.most.Reads as most-reads
 use Rattle.check_cases.proofs.show_verdict.Reads as show-verdict-reads
@@ -62,6 +63,12 @@ lookups-requires c κs = search needs
 returns-5 : tie.Need-returns-5
 returns-5 c = search needs
 
+indexes-requires : tie.Need-indexes-requires
+indexes-requires c κs = search needs
+
+returns-6 : tie.Need-returns-6
+returns-6 c = search needs
+
 pub run-spec : {M : Type 1} → statement M
 run-spec =
     tie.close
@@ -81,4 +88,6 @@ run-spec =
     tables-requires
     returns-4
     lookups-requires
-    returns-5)
+    returns-5
+    indexes-requires
+    returns-6)
