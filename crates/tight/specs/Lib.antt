@@ -1,1 +1,3 @@
 pub mod Build
+pub mod Bytes
+pub mod OneAnswer

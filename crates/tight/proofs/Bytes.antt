@@ -1,0 +1,60 @@
+-- The wrong encoders and decoders are shut out. Assumes nothing.
+use mathlib.Core.Path.{_≡_, refl, sym, ap, _∙_}
+use mathlib.Core.List.{List}
+use Prim.Native.Nat.{ℕ}
+use native.Mathlib.Omega.{arith}
+use lib.ListN.{getD, replicate}
+use Rattle.rules.specs.Functions as rules
+use Rattle.rules.specs.Functions.{Arena, roomIn}
+use Rattle.rules.specs.Examples.{tableT, p1, p2}
+use Rattle.rules.specs.Examples as examples
+use Rattle.rules.specs.Open.{document}
+use Rattle.encoder.specs.declared.Encoded.{Encoded}
+use Rattle.encoder.specs.declared.Encoded.the-variants as encoded
+use Rattle.encoder.specs.Replies.{encodedOf}
+use Rattle.decoder.specs.declared.Decoded.{Decoded}
+use Rattle.decoder.specs.declared.Decoded.the-variants as decoded
+use Rattle.decoder.specs.Replies.{decodedOf}
+use Rattle.tight.specs.Build.{lentRuns}
+use Rattle.tight.specs.Bytes.{EncodesP1, DecodesP2, ShutOut}
+
+-- the right replies
+written : encodedOf (rules.encoded 8 tableT (examples.lent p1) 30 3) ≡ encoded.Written 20
+unfolding document
+written = refl
+
+read : decodedOf 0 (rules.decoded 8 tableT p2 0 (roomIn lentRuns)) ≡ decoded.Made 1 2 20
+unfolding document
+read = refl
+
+not-written : (n p : ℕ) → _≡_ {A = Encoded} (encoded.Refused n p) (encoded.Written 20) → ⊥
+not-written n p h = let z : _≡_ {A = ℕ} 0 1 = cc in omega arith
+
+not-read : (n p : ℕ) → _≡_ {A = Decoded} (decoded.Refused n p) (decoded.Made 1 2 20) → ⊥
+not-read n p h = let z : _≡_ {A = ℕ} 0 1 = cc in omega arith
+
+same-length : (n : ℕ) → _≡_ {A = Encoded} (encoded.Written n) (encoded.Written 20) → n ≡ 20
+same-length n h = cc
+
+same-totals : (b o u : ℕ) → _≡_ {A = Decoded} (decoded.Made b o u) (decoded.Made 1 2 20) → (b ≡ 1) × (o ≡ 2) × (u ≡ 20)
+same-totals b o u h = (cc, cc, cc)
+
+-- the first byte written is 5, and the first opcode read is 1
+writes : (r : Encoded) → EncodesP1 (replicate 30 0) r → ⊥
+unfolding document
+writes r h = let z : _≡_ {A = ℕ} 0 5 = ap (λ (l : List ℕ). getD l 3 0) (h .bytes) in omega arith
+
+fills : (r : Decoded) → DecodesP2 lentRuns r → ⊥
+unfolding document
+fills r h = let z : _≡_ {A = ℕ} 0 1 = ap (λ (a : Arena). getD (a .codes) 0 0) (h .runs) in omega arith
+
+pub shut-out : ShutOut
+shut-out =
+    record {
+      encode-refuses = λ n p after h. not-written n p (h .reply ∙ written);
+      decode-refuses = λ n p after h. not-read n p (h .reply ∙ read);
+      encode-writes-nothing = writes;
+      decode-writes-nothing = fills;
+      encode-length = λ n after h. same-length n (h .reply ∙ written);
+      decode-totals = λ b o u after h. same-totals b o u (h .reply ∙ read);
+    }

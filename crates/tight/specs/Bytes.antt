@@ -1,0 +1,34 @@
+-- Wrong encoders and decoders that the contracts of `encode` and `decode` shut out, each at P1's block or P2's bytes. `Encodes` and `Decodes` are what they ensure.
+use mathlib.Core.Path.{_≡_}
+use mathlib.Core.List.{List}
+use Prim.Native.Nat.{ℕ}
+use lib.ListN.{replicate}
+use Rattle.rules.specs.Functions.{Arena}
+use Rattle.rules.specs.Examples.{tableT, p1, p2}
+use Rattle.rules.specs.Examples as examples
+use Rattle.encoder.specs.declared.Encoded.{Encoded}
+use Rattle.encoder.specs.declared.Encoded.the-variants as encoded
+use Rattle.encoder.specs.Replies.{Encodes}
+use Rattle.decoder.specs.declared.Decoded.{Decoded}
+use Rattle.decoder.specs.declared.Decoded.the-variants as decoded
+use Rattle.decoder.specs.Replies.{Decodes}
+use Rattle.tight.specs.Build.{lentRuns}
+
+-- encode on P1's block, from byte 3 of a buffer of 30 zeros
+abbrev pub EncodesP1 : List ℕ → Encoded → Type 0
+EncodesP1 after r = Encodes tableT (examples.lent p1) 3 (replicate 30 0) after r
+
+-- decode of P2's bytes
+abbrev pub DecodesP2 : Arena → Decoded → Type 0
+DecodesP2 after r = Decodes tableT p2 0 lentRuns after r
+
+pub record ShutOut : Type 0 where
+  -- "one that refuses everything"
+  pub encode-refuses : (n p : ℕ) (after : List ℕ) → EncodesP1 after (encoded.Refused n p) → ⊥
+  pub decode-refuses : (n p : ℕ) (after : Arena) → DecodesP2 after (decoded.Refused n p) → ⊥
+  -- "one that writes nothing"
+  pub encode-writes-nothing : (r : Encoded) → EncodesP1 (replicate 30 0) r → ⊥
+  pub decode-writes-nothing : (r : Decoded) → DecodesP2 lentRuns r → ⊥
+  -- "one that replies with an invented length or batch total"
+  pub encode-length : (n : ℕ) (after : List ℕ) → EncodesP1 after (encoded.Written n) → n ≡ 20
+  pub decode-totals : (b o u : ℕ) (after : Arena) → DecodesP2 after (decoded.Made b o u) → (b ≡ 1) × (o ≡ 2) × (u ≡ 20)
