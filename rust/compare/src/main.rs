@@ -76,6 +76,8 @@ fn all(run: &mut Run, seed: u64, count: u64, start: Instant) -> Result<(), Stopp
     sections::two_kinds(run, 17, &mut |run| {
         line(run, "all lists over two kinds up to 17")
     })?;
+    line(run, "small blocks");
+    sections::changes(run)?;
     line(run, "limits");
     sections::limits(run)?;
     let mut seed = Seed::new(seed);

@@ -307,6 +307,39 @@ pub fn limits(run: &mut Run) -> Done {
     Ok(())
 }
 
+/// Small blocks whole: every front, every change of a single byte, and every offset up to one past the end.
+pub fn changes(run: &mut Run) -> Done {
+    let table = run.table.to_vec();
+    let kinds = Kinds::of(&table);
+    let mut seed = Seed::new(5);
+    for size in [0, 1, 2, 8, 10] {
+        let good = if size == 0 {
+            vec![1, 0, 0, 0, 0]
+        } else {
+            let list = inputs::list(&mut seed, &kinds, size);
+            let built = model::build(&table, &list.codes, &list.values, list.room());
+            let block = Block::of(&built);
+            let buffer = vec![0; 7 + 9 * block.codes.len() + block.records.len() / 16];
+            let encoded = model::encode(&table, block.arena(), &buffer, 0);
+            encoded.buffer[..encoded.rest[0]].to_vec()
+        };
+        for end in 0..=good.len() {
+            decode(run, &table, &good[..end], 0)?;
+        }
+        for at in 0..=good.len() + 1 {
+            decode(run, &table, &good, at)?;
+        }
+        for at in 0..good.len() {
+            let mut bytes = good.clone();
+            for byte in 0..=255 {
+                bytes[at] = byte;
+                decode(run, &table, &bytes, 0)?;
+            }
+        }
+    }
+    Ok(())
+}
+
 /// One turn of the random part.
 pub fn turn(run: &mut Run, seed: &mut Seed) -> Done {
     let own = run.table;
