@@ -3,7 +3,7 @@ use mathlib.Core.Path.{_≡_}
 use mathlib.Core.Bool.{true, cond, not, _||_}
 use mathlib.Core.List.{List, [], _∷_, map}
 use Prim.Native.Nat.{ℕ, _+_, _/_, _<_}
-use lib.ListN.{length, getD}
+use lib.ListN.{length}
 use lib.Dec.{ltb}
 use Rattle.rules.specs.Answer.{Answer, good, refused, refuse, refuseFirst}
 use Rattle.rules.specs.Operations.{valued, goodTable, opFault}
@@ -44,10 +44,6 @@ inputsChecked t a size at =
 unfoldable pub opsSize : List ℕ → List ℕ → ℕ
 opsSize t [] = 0
 opsSize t (c ∷ cs) = cond (valued t c) 9 1 + opsSize t cs
-
--- opcodes
-abbrev pub Coded : List ℕ → Type 0
-Coded cs = (i : ℕ) → i < length cs → getD cs i 0 < 128
 
 -- a run of records that pass the structure test
 abbrev pub Right : List ℕ → Type 0

@@ -1,6 +1,6 @@
 // The block encoder (document 01, "Block bytes").
 ghost use mathlib.Core.Path.{_≡_};
-ghost use Prim.Native.Nat.{_+_, _*_, _/_, _≤_, _<_};
+ghost use Prim.Native.Nat.{_+_, _*_, _/_, _≤_};
 ghost use lib.ListN.{length};
 ghost use lib.Seq.{sets};
 ghost use Rattle.rules.specs.Operations.{operations};
@@ -9,7 +9,8 @@ ghost use Rattle.rules.specs.Bytes.{more, opsBytes, nibbleBytes, flagBytes};
 ghost use Rattle.rules.specs.Block.{blockBytes};
 ghost use Rattle.rules.specs.Functions.{arena, blockIn};
 ghost use Rattle.operation.specs.Verdict.{verdictOf};
-ghost use Rattle.encoder.specs.Replies.{Encodes, handVerdict, inputsChecked, opsSize, Coded, Right};
+ghost use Rattle.checks.specs.Batch.{Apt};
+ghost use Rattle.encoder.specs.Replies.{Encodes, handVerdict, inputsChecked, opsSize, Right};
 use op_batch::RECORD;
 use operation::Verdict;
 
@@ -79,7 +80,7 @@ fn check_inputs(
 // ---- the length
 
 fn ops_len(table: &[u8], codes: &[u8]) -> usize
-    requires { ⌜ (length (now table) ≡ 128) × (length (now codes) ≤ 65535) × Coded (now codes) ⌝ }
+    requires { ⌜ Apt (now table) (now codes) × (length (now codes) ≤ 65535) ⌝ }
     ensures { λ r. ⌜ (r ≡ opsSize (now (table .entry)) (now (codes .entry))) × (r ≤ 9 * 65535) ⌝ }
 {
     let mut sum: usize = 0;
@@ -98,7 +99,7 @@ fn ops_len(table: &[u8], codes: &[u8]) -> usize
 
 // How many bytes the block takes: 5 per batch, plus 4, plus the count's, plus 1 or 9 per operation.
 fn basic_block_data_len(table: &[u8], codes: &[u8], batches: usize) -> usize
-    requires { ⌜ (length (now table) ≡ 128) × (length (now codes) ≤ 65535) × Coded (now codes) × (batches ≤ 16384) ⌝ }
+    requires { ⌜ Apt (now table) (now codes) × (length (now codes) ≤ 65535) × (batches ≤ 16384) ⌝ }
     ensures { λ r. ⌜ r ≡ 5 * batches + 4 + (more (length (now (codes .entry))) + 1) + opsSize (now (table .entry)) (now (codes .entry)) ⌝ }
 {
     5 * batches + 4 + wire::count_size(codes.len() as u64) + ops_len(table, codes)
@@ -107,7 +108,7 @@ fn basic_block_data_len(table: &[u8], codes: &[u8], batches: usize) -> usize
 // ---- the bytes, each item stored from `at` on; and the place after it
 
 fn write_ops(table: &[u8], codes: &[u8], values: &[u64], out: &mut [u8], at: usize) -> usize
-    requires { ⌜ (length (now table) ≡ 128) × (length (now codes) ≡ length (now values)) × Coded (now codes) ⌝ }
+    requires { ⌜ Apt (now table) (now codes) × (length (now codes) ≡ length (now values)) ⌝ }
     requires { ⌜ at + length (opsBytes (now table) (operations (now codes) (now values))) ≤ length (now out) ⌝ }
     ensures place { λ r. ⌜ r ≡ at + length (opsBytes (now (table .entry)) (operations (now (codes .entry)) (now (values .entry)))) ⌝ }
     ensures bytes { λ _. ⌜ now (out .exit) ≡ sets (now (out .entry)) at (opsBytes (now (table .entry)) (operations (now (codes .entry)) (now (values .entry)))) ⌝ }
@@ -162,7 +163,7 @@ fn encode_basic_block(
     out: &mut [u8],
     at: usize,
 )
-    requires { ⌜ (length (now table) ≡ 128) × (length (now codes) ≡ length (now values)) × (length (now codes) ≤ 65535) × Coded (now codes) × Right (now records) ⌝ }
+    requires { ⌜ Apt (now table) (now codes) × (length (now codes) ≡ length (now values)) × (length (now codes) ≤ 65535) × Right (now records) ⌝ }
     requires { ⌜ at + length (blockBytes (now table) (blockIn (arena (now codes) (now values) (now records)))) ≤ length (now out) ⌝ }
     ensures { λ _. ⌜ now (out .exit) ≡ sets (now (out .entry)) at (blockBytes (now (table .entry)) (blockIn (arena (now (codes .entry)) (now (values .entry)) (now (records .entry))))) ⌝ }
 {

@@ -39,7 +39,7 @@ basic-block-data-len-requires c κs =
     let a = c .before .before .before .before .before .before .before .before .args in
     let b = arena (now (a .codes)) (now (a .values)) (now (a .records)) in
     let i = inputs-good _ _ _ _ _ _ (was-good (inputsChecked (now (a .table)) b (length (now (a .out))) (a .at)) (sym (c .before .before .check-inputs .ensures) ∙ c .enum-told .given .1)) in
-    (i .operations .table, i .few, i .operations .codes, i .batches)
+    (i .operations, i .few, i .batches)
 
 sub-if1 : tie.Need-sub-if1
 sub-if1 c =
@@ -64,7 +64,7 @@ encode-basic-block-requires c κs =
     let b = arena (now (a .codes)) (now (a .values)) (now (a .records)) in
     let i = inputs-good _ _ _ _ _ _ (was-good (inputsChecked (now (a .table)) b (length (now (a .out))) (a .at)) (sym (c .before .before .before .before .before .check-inputs .ensures) ∙ c .before .before .before .enum-told .given .1)) in
     let l = long (now (a .table)) (now (a .codes)) (now (a .values)) (now (a .records)) (i .equal) in
-    ((i .operations .table, i .equal, i .few, i .operations .codes, i .structure .right), omega (arith, l .all, i .inside))
+    ((i .operations, i .equal, i .few, i .structure .right), omega (arith, l .all, i .inside))
 
 same-length : tie.Need-same-length
 same-length c = search needs

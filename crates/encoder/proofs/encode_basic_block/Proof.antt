@@ -16,7 +16,7 @@ write-ops-requires c κs =
     let a = c .before .before .before .before .before .before .before .before .before .before .args in
     let p = c .before .before .before .before .before .before .before .before .before .before .pre .0 in
     let l = long (now (a .table)) (now (a .codes)) (now (a .values)) (now (a .records)) (p .1) in
-    ((p .0, p .1, p .3), omega (arith, l .all, l .ops, c .before .before .before .write-count .ensures .0, c .before .before .before .write-count .kept .0))
+    ((p .0, p .1), omega (arith, l .all, l .ops, c .before .before .before .write-count .ensures .0, c .before .before .before .write-count .kept .0))
 
 put4-requires : tie.Need-put4-requires
 put4-requires c κs =
@@ -34,13 +34,13 @@ write-deltas-requires : tie.Need-write-deltas-requires
 write-deltas-requires c κs =
     let a = c .before .before .before .before .before .before .before .before .before .before .before .before .before .before .before .before .before .before .args in
     let l = long (now (a .table)) (now (a .codes)) (now (a .values)) (now (a .records)) (c .before .before .before .before .before .before .before .before .before .before .before .before .before .before .before .before .before .before .pre .0 .1) in
-    (c .before .before .before .before .before .before .before .before .before .before .before .before .before .before .before .before .before .before .pre .0 .4, omega (arith, l .all, l .ops, c .before .before .before .before .before .before .before .before .before .before .before .write-count .ensures .0, c .before .before .before .before .before .before .before .before .before .before .before .write-count .kept .0, c .before .before .before .before .before .before .before .write-ops .ensures .0, c .before .before .before .before .before .before .before .write-ops .kept .1 .1 .1 .0, c .before .before .before .put4 .kept .0, c .before .before .before .before .before .before .before .before .before .before .before .before .before .before .before .before .before .before .pre .1))
+    (c .before .before .before .before .before .before .before .before .before .before .before .before .before .before .before .before .before .before .pre .0 .3, omega (arith, l .all, l .ops, c .before .before .before .before .before .before .before .before .before .before .before .write-count .ensures .0, c .before .before .before .before .before .before .before .before .before .before .before .write-count .kept .0, c .before .before .before .before .before .before .before .write-ops .ensures .0, c .before .before .before .before .before .before .before .write-ops .kept .1 .1 .1 .0, c .before .before .before .put4 .kept .0, c .before .before .before .before .before .before .before .before .before .before .before .before .before .before .before .before .before .before .pre .1))
 
 write-padding-requires : tie.Need-write-padding-requires
 write-padding-requires c κs =
     let a = c .before .before .before .before .before .before .before .before .before .before .before .before .before .before .before .before .before .before .before .before .before .before .args in
     let l = long (now (a .table)) (now (a .codes)) (now (a .values)) (now (a .records)) (c .before .before .before .before .before .before .before .before .before .before .before .before .before .before .before .before .before .before .before .before .before .before .pre .0 .1) in
-    (c .before .before .before .before .before .before .before .before .before .before .before .before .before .before .before .before .before .before .before .before .before .before .pre .0 .4, omega (arith, l .all, l .ops, c .before .before .before .before .before .before .before .before .before .before .before .before .before .before .before .write-count .ensures .0, c .before .before .before .before .before .before .before .before .before .before .before .before .before .before .before .write-count .kept .0, c .before .before .before .before .before .before .before .before .before .before .before .write-ops .ensures .0, c .before .before .before .before .before .before .before .before .before .before .before .write-ops .kept .1 .1 .1 .0, c .before .before .before .before .before .before .before .put4 .kept .0, c .before .before .before .write-deltas .ensures .0, c .before .before .before .write-deltas .kept .1 .0, c .before .before .before .before .before .before .before .before .before .before .before .before .before .before .before .before .before .before .before .before .before .before .pre .1))
+    (c .before .before .before .before .before .before .before .before .before .before .before .before .before .before .before .before .before .before .before .before .before .before .pre .0 .3, omega (arith, l .all, l .ops, c .before .before .before .before .before .before .before .before .before .before .before .before .before .before .before .write-count .ensures .0, c .before .before .before .before .before .before .before .before .before .before .before .before .before .before .before .write-count .kept .0, c .before .before .before .before .before .before .before .before .before .before .before .write-ops .ensures .0, c .before .before .before .before .before .before .before .before .before .before .before .write-ops .kept .1 .1 .1 .0, c .before .before .before .before .before .before .before .put4 .kept .0, c .before .before .before .write-deltas .ensures .0, c .before .before .before .write-deltas .kept .1 .0, c .before .before .before .before .before .before .before .before .before .before .before .before .before .before .before .before .before .before .before .before .before .before .pre .1))
 
 same-length : tie.Need-same-length
 same-length c = search needs

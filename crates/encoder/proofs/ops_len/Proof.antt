@@ -26,7 +26,7 @@ cast-if1 : tie.Need-cast-if1 Inv-loop μ-loop
 cast-if1 c = omega (arith, c .shared-slice-known .given (c .before .before .loop .i))
 
 shared-slice-read-if1-2 : tie.Need-shared-slice-read-if1-2 Inv-loop μ-loop
-shared-slice-read-if1-2 c = omega (arith, c .before .before .before .before .pre .2 (c .before .before .before .loop .i) (omega arith))
+shared-slice-read-if1-2 c = omega (arith, c .before .before .before .before .pre .0 .codes (c .before .before .before .loop .i) (omega arith))
 
 add-sum : tie.Need-add-sum Inv-loop μ-loop
 add-sum c = search needs
@@ -41,7 +41,7 @@ loop-again : tie.Need-loop-again Inv-loop μ-loop
 loop-again c =
     let a = c .before .before .before .before .before in
     let l = c .before .before .before .before .loop in
-    let k = a .pre .2 (l .i) (omega arith) in
+    let k = a .pre .0 .codes (l .i) (omega arith) in
     (omega arith, omega arith, omega (arith, size-plain (now (a .args .table)) (now (a .args .codes)) (l .i) (omega arith) (omega arith) (c .if1 .taken)))
 
 add-sum-2 : tie.Need-add-sum-2 Inv-loop μ-loop
@@ -57,7 +57,7 @@ loop-again-2 : tie.Need-loop-again-2 Inv-loop μ-loop
 loop-again-2 c =
     let a = c .before .before .before .before .before in
     let l = c .before .before .before .before .loop in
-    let k = a .pre .2 (l .i) (omega arith) in
+    let k = a .pre .0 .codes (l .i) (omega arith) in
     (omega arith, omega arith, omega (arith, size-valued (now (a .args .table)) (now (a .args .codes)) (l .i) (omega arith) (omega arith) (c .if1 .left)))
 
 returns : tie.Need-returns Inv-loop μ-loop

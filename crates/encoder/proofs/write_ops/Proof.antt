@@ -38,7 +38,7 @@ write-op-requires c κs =
     let a = c .before .before .before .before .before .before .before .before .before in
     let l = c .before .before .before .before .loop in
     let m = ap length (ops-turn (now (a .args .table)) (now (a .args .codes)) (now (a .args .values)) (l .i) (omega arith) (omega arith)) in
-    (a .pre .0 .0, a .pre .0 .2 (l .i) (omega arith), omega (arith, simp length-append at m))
+    (a .pre .0 .0 .table, a .pre .0 .0 .codes (l .i) (omega arith), omega (arith, simp length-append at m))
 
 add-i : tie.Need-add-i Inv-loop μ-loop
 add-i c = search needs
