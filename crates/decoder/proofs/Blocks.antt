@@ -12,8 +12,7 @@ use Rattle.rules.specs.Bytes.{countAt, nibblesAt}
 use Rattle.rules.specs.Block.{Head, Layout, Room, headAt, layoutAt, batchesAt, batchesBy, blockAt}
 use Rattle.rules.specs.Functions.{decoded}
 use Rattle.decoder.specs.Replies.{itemsAt, recordsAt, sizesFrom, flagsFrom}
-use Rattle.decoder.proofs.Stages.{held}
-use Rattle.decoder.proofs.Sizes.{Sized, nibbles-found, flags-found}
+use Rattle.decoder.proofs.Sizes.{Sized, flags-found}
 
 -- ---- items 4 and 5, and the records
 
@@ -22,25 +21,22 @@ module _ (t s : List ℕ) (xs : List Op) (k at : ℕ) where
   unfolding recordsAt layoutAt
   records-6 n p e = rw e
 
-  module _ (nss : List (List ℕ)) (next : ℕ) (e : nibblesAt 8 s k at 0 ≡ found nss next) where
-    pub sized : Sized s k at nss next
-    sized = held (Sized s k at) (nibblesAt 8 s k at 0) nss next e (nibbles-found s k at 0)
-
+  module _ (nss : List (List ℕ)) (next : ℕ) (e : nibblesAt 8 s k at 0 ≡ found nss next) (z : Sized s k at nss next) where
     abbrev pub each : Read (List Record)
     each = batchesAt 8 t xs 0 0 (sizesFrom k s at) (flagsFrom k s next)
 
     pub records-lost : (n p : ℕ) → each ≡ refused n p → recordsAt t s xs k at ≡ refused n p
     unfolding recordsAt layoutAt batchesBy
-    records-lost n p f = rw (e, sized .sizes, flags-found s k next 0, f)
+    records-lost n p f = rw (e, z .sizes, flags-found s k next 0, f)
 
     module _ (rs : List Record) (end : ℕ) (f : each ≡ found rs end) where
       pub records-11 : end < length xs → recordsAt t s xs k at ≡ refused 11 0
       unfolding recordsAt layoutAt batchesBy
-      records-11 h = rw (e, sized .sizes, flags-found s k next 0, f, lt-ltb end (length xs) h)
+      records-11 h = rw (e, z .sizes, flags-found s k next 0, f, lt-ltb end (length xs) h)
 
       pub records-good : length xs ≤ end → recordsAt t s xs k at ≡ found rs (next + k)
       unfolding recordsAt layoutAt batchesBy
-      records-good h = rw (e, sized .sizes, flags-found s k next 0, f, le-ltb end (length xs) h)
+      records-good h = rw (e, z .sizes, flags-found s k next 0, f, le-ltb end (length xs) h)
 
 -- ---- the block
 

@@ -1,5 +1,5 @@
 -- What is kept of lent runs: the block and then zeros, or zeros alone. Assumes nothing.
-use mathlib.Core.Path.{_≡_, sym, ap, _∙_}
+use mathlib.Core.Path.{_≡_, refl, sym, ap, _∙_}
 use Prim.Native.Nat.{ℕ, _*_, _≤_}
 use native.Mathlib.Omega.{arith}
 use lib.ListN.{length, length-take}
@@ -8,7 +8,8 @@ use Rattle.rules.specs.Operations.{codes, values}
 use Rattle.rules.specs.Record.{Block, noBlock, recordsBytes}
 use Rattle.rules.specs.Functions.{Arena, filled, readLeft}
 use Rattle.rules.proofs.Runs.{zeroed}
-use Rattle.decoder.specs.Replies.{IfFound, OpsIn, RecordsIn, decodedOf, tailless}
+use Rattle.decoder.specs.Replies.{OpsIn, RecordsIn, Reading, decodedOf, tailless}
+use Rattle.decoder.specs.declared.Decoded.{Decoded}
 use Rattle.decoder.specs.declared.Decoded.the-variants as whole
 use Rattle.decoder.proofs.Ops.{length-codes, length-values}
 
@@ -18,15 +19,14 @@ pub record Even (a b : Arena) : Type 0 where
   pub values : length (a .values) ≡ length (b .values)
   pub records : length (a .records) ≡ length (b .records)
 
--- an arena that begins with the block
-abbrev pub Begins : Arena → Block → ℕ → Type 0
-Begins a b next = OpsIn (a .codes) (a .values) (b .ops) × RecordsIn (a .records) (b .records)
-
 module _ (at : ℕ) (before after : Arena) (e : Even after before) where
-  pub refused-kept : (d : Read Block) (n p : ℕ) → decodedOf at d ≡ whole.Refused n p → tailless 0 0 after ≡ filled before (readLeft d)
+  no-block : (d : Read Block) (n p : ℕ) → decodedOf at d ≡ whole.Refused n p → tailless 0 0 after ≡ filled before (readLeft d)
   unfolding filled noBlock codes values recordsBytes
-  refused-kept (good i) n p h = cc
-  refused-kept (refused m q) n p h = rw (e .codes, e .values, e .records)
+  no-block (good i) n p h = cc
+  no-block (refused m q) n p h = rw (e .codes, e .values, e .records)
+
+  pub refused-kept : {d : Read Block} {r : Decoded} {n p : ℕ} → Reading at d after r → r ≡ whole.Refused n p → tailless 0 0 after ≡ filled before (readLeft d)
+  refused-kept {d} {r} {n} {p} w h = no-block d n p (sym (w .reply) ∙ h)
 
   -- a block of n operations and k records
   kept : (b : Block) (k n : ℕ) → length (b .records) ≡ k → length (b .ops) ≡ n → OpsIn (after .codes) (after .values) (b .ops) → RecordsIn (after .records) (b .records)
@@ -39,12 +39,23 @@ module _ (at : ℕ) (before after : Arena) (e : Even after before) where
         zeroed (before .records) (after .records) (recordsBytes (b .records)) (82 * k) (e .records) (r .0) (sym (r .1 ∙ ap (λ (m : ℕ). 82 * m) f)),
       )
 
-  pub made-kept : (d : Read Block) (k n u : ℕ) → decodedOf at d ≡ whole.Made k n u → IfFound (Begins after) d → tailless n (82 * k) after ≡ filled before (readLeft d)
-  made-kept (good i) k n u h p = kept (i .item) k n (cc) (cc) (p .0) (p .1)
-  made-kept (refused m q) k n u h p = cc
+  -- what was made
+  record Made (d : Read Block) (k n : ℕ) : Type 0 where
+    block : Block
+    is : readLeft d ≡ block
+    batches : length (block .records) ≡ k
+    ops : length (block .ops) ≡ n
+    begins : OpsIn (after .codes) (after .values) (block .ops)
+    records : RecordsIn (after .records) (block .records)
 
-  pub made-fits : (d : Read Block) (k n u : ℕ) → decodedOf at d ≡ whole.Made k n u → IfFound (Begins after) d → 82 * k ≤ length (before .records)
-  made-fits (good i) k n u h p =
-      let f : length (i .item .records) ≡ k = cc in
-      omega (arith, e .records, p .1 .1, ap length (p .1 .0), length-take (length (recordsBytes (i .item .records))) (after .records))
-  made-fits (refused m q) k n u h p = let z : _≡_ {A = ℕ} 0 1 = cc in absurd (omega arith)
+  made : {r : Decoded} {k n u : ℕ} (d : Read Block) → Reading at d after r → r ≡ whole.Made k n u → Made d k n
+  made (good i) w h = record { block = i .item; is = refl; batches = cc (w .reply); ops = cc (w .reply); begins = w .left .0; records = w .left .1 }
+  made (refused m q) w h = let z : _≡_ {A = ℕ} 0 1 = cc (w .reply) in absurd (omega arith)
+
+  pub made-kept : {d : Read Block} {r : Decoded} {k n u : ℕ} → Reading at d after r → r ≡ whole.Made k n u → tailless n (82 * k) after ≡ filled before (readLeft d)
+  made-kept {d} {r} {k} {n} w h = let m = made d w h in rw (m .is) (kept (m .block) k n (m .batches) (m .ops) (m .begins) (m .records))
+
+  pub made-fits : {d : Read Block} {r : Decoded} {k n u : ℕ} → Reading at d after r → r ≡ whole.Made k n u → 82 * k ≤ length (before .records)
+  made-fits {d} w h =
+      let m = made d w h in
+      omega (arith, e .records, m .batches, m .records .1, ap length (m .records .0), length-take (length (recordsBytes (m .block .records))) (after .records))

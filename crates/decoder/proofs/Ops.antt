@@ -17,9 +17,10 @@ use Rattle.rules.specs.Operations.{Op, operations, codes, values, kindOf, assig
 use Rattle.rules.specs.Bytes.{least, countBy, countAt, opAt, valueAt, opsAt, batchCountAt}
 use Rattle.rules.specs.Block.{Head, part}
 use Rattle.rules.proofs.Operations.{op, true-left, codes-back}
+use Rattle.wire.specs.declared.CountRead.{CountRead}
 use Rattle.wire.specs.declared.CountRead.the-variants as count
-use Rattle.decoder.specs.Replies.{counted, IfFound, OpsIn, Coded, itemsAt}
-use Rattle.decoder.proofs.Stages.{onto, onto-then, onto-found, if-then, if-refuse, held, got}
+use Rattle.decoder.specs.Replies.{IfFound, Staged, OpsIn, Coded, itemsAt}
+use Rattle.decoder.proofs.Stages.{onto, onto-then, onto-found, if-then, if-refuse, held, found-by}
 
 -- ---- the operations of two runs
 
@@ -212,9 +213,9 @@ module _ (t s : List ℕ) (n at room : ℕ) (cs vs : List ℕ) (k next : ℕ) wh
         records = rw (← b) (f .records);
       }
 
-  pub items-in : counted (λ (h : Head). h .batches) (itemsAt t s n at room) ≡ count.Found k next → IfFound (λ (h : Head) (next : ℕ). OpsIn cs vs (h .ops)) (itemsAt t s n at room)
+  pub items-in : {r : CountRead} → Staged (λ (h : Head). h .batches) (λ (h : Head) (next : ℕ). OpsIn cs vs (h .ops)) (itemsAt t s n at room) r → r ≡ count.Found k next
       → ItemsIn t s n at room cs vs k next
-  items-in r o =
+  items-in w e =
       let d = itemsAt t s n at room in
-      let g = got (λ (h : Head). h .batches) d k next r in
-      lies (g .item) (g .is) (g .number) (held _ d (g .item) next (g .is) (items-found t s n at room)) (held _ d (g .item) next (g .is) o)
+      let g = found-by w e in
+      lies (g .item) (g .is) (g .number) (held _ d (g .item) next (g .is) (items-found t s n at room)) (g .holds)

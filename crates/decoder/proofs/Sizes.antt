@@ -11,7 +11,8 @@ use Rattle.rules.specs.Lists.{every}
 use Rattle.rules.specs.Digits.{digits, leAt}
 use Rattle.rules.specs.Answer.{refused, found}
 use Rattle.rules.specs.Bytes.{upTo, sizesAt, nibblesAt, bitsAt, flagsAt}
-use Rattle.decoder.specs.Replies.{counted, IfFound, sizesFrom, flagsFrom}
+use Rattle.wire.specs.declared.CountRead.{CountRead}
+use Rattle.decoder.specs.Replies.{counted, IfFound, Staged, sizesFrom, flagsFrom}
 use Rattle.decoder.proofs.Stages.{more-then, if-then, if-refuse, held}
 
 -- ---- at width 8 the sizes are right where none is over 9, and no flag byte is refused
@@ -76,3 +77,6 @@ nibbles-found s (suc k) at b =
         → upTo 9 (digits 16 8 (leAt 4 s (at + 4 * j))) ≡ true
     at-j zero l h f = rw add-zero h
     at-j (suc j) l h f = let e : at + 4 * suc j ≡ at + 4 + 4 * j = omega arith in rw e (f j (omega arith))
+
+pub sized-by : {s : List ℕ} {k at : ℕ} {r : CountRead} → r ≡ counted length (nibblesAt 8 s k at 0) → Staged length (Sized s k at) (nibblesAt 8 s k at 0) r
+sized-by {s} {k} {at} e = record { reply = e; left = nibbles-found s k at 0 }

@@ -1,5 +1,5 @@
 -- What a stage's reply says of what was found, and what holds of whatever a stage finds. Assumes nothing.
-use mathlib.Core.Path.{_≡_, refl}
+use mathlib.Core.Path.{_≡_, refl, sym, _∙_}
 use mathlib.Core.Bool.{Bool, true, false}
 use mathlib.Core.List.{List, [], _∷_, _++_, append-nil}
 use Prim.Native.Nat.{ℕ, suc, _+_}
@@ -10,23 +10,32 @@ use Rattle.rules.specs.Answer.{good, refused, Read, found, refuse, _then_}
 use Rattle.rules.specs.Operations.{Op}
 use Rattle.rules.proofs.Operations.{op}
 use Rattle.wire.specs.Replies.{countReadOf, opReadOf}
+use Rattle.wire.specs.declared.CountRead.{CountRead}
 use Rattle.wire.specs.declared.CountRead.the-variants as count
 use Rattle.wire.specs.declared.OpRead.the-variants as one
-use Rattle.decoder.specs.Replies.{counted, IfFound}
+use Rattle.decoder.specs.Replies.{counted, IfFound, Staged}
 
-pub record Got {A : Type 0} (f : A → ℕ) (d : Read A) (v next : ℕ) : Type 0 where
+pub record Got {A : Type 0} (f : A → ℕ) (P : A → ℕ → Type 0) (d : Read A) (v next : ℕ) : Type 0 where
   pub item : A
   pub is : d ≡ found item next
   pub number : f item ≡ v
+  pub holds : P item next
 
-module _ {A : Type 0} (f : A → ℕ) where
-  pub got : (d : Read A) (v next : ℕ) → counted f d ≡ count.Found v next → Got f d v next
-  got (good i) v next h = let e : i .next ≡ next = cc in record { item = i .item; is = rw (← e); number = cc }
-  got (refused n p) v next h = let z : _≡_ {A = ℕ} 0 1 = cc in absurd (omega arith)
+module _ {A : Type 0} (f : A → ℕ) (P : A → ℕ → Type 0) where
+  got : (d : Read A) (v next : ℕ) → counted f d ≡ count.Found v next → IfFound P d → Got f P d v next
+  got (good i) v next h p = let e : i .next ≡ next = cc in record { item = i .item; is = rw (← e); number = cc; holds = rw (← e) p }
+  got (refused n p) v next h q = let z : _≡_ {A = ℕ} 0 1 = cc in absurd (omega arith)
 
-  pub lost : (d : Read A) (n p : ℕ) → counted f d ≡ count.Refused n p → d ≡ refused n p
+  lost : (d : Read A) (n p : ℕ) → counted f d ≡ count.Refused n p → d ≡ refused n p
   lost (good i) n p h = cc
   lost (refused m q) n p h = cc
+
+module _ {A : Type 0} {f : A → ℕ} {P : A → ℕ → Type 0} {d : Read A} {r : CountRead} (s : Staged f P d r) where
+  pub found-by : {v next : ℕ} → r ≡ count.Found v next → Got f P d v next
+  found-by {v} {next} e = got f P d v next (sym (s .reply) ∙ e) (s .left)
+
+  pub refused-by : {n p : ℕ} → r ≡ count.Refused n p → d ≡ refused n p
+  refused-by {n} {p} e = lost f P d n p (sym (s .reply) ∙ e)
 
 pub count-found : (d : Read ℕ) (v next : ℕ) → countReadOf d ≡ count.Found v next → d ≡ found v next
 count-found (good i) v next h = let e : i .next ≡ next = cc in let f : i .item ≡ v = cc in rw (← e, ← f)

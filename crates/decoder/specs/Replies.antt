@@ -39,10 +39,15 @@ abbrev pub counted : {A : Type 0} → (A → ℕ) → Read A → CountRead
 counted f (good i) = count.Found (f (i .item)) (i .next)
 counted f (refused n p) = count.Refused n p
 
--- what a stage promises of what was found and the place after it; a refused one promises nothing
+-- what holds of what was found and the place after it; of a refusal nothing is said
 abbrev pub IfFound : {A : Type 0} → (A → ℕ → Type 0) → Read A → Type 0
 IfFound P (good i) = P (i .item) (i .next)
 IfFound P (refused n p) = Unit {0}
+
+-- what a stage answers, and what it leaves in lent runs
+pub record Staged {A : Type 0} (f : A → ℕ) (P : A → ℕ → Type 0) (d : Read A) (r : CountRead) : Type 0 where
+  pub reply : r ≡ counted f d
+  pub left : IfFound P d
 
 -- two runs that begin with the operations
 abbrev pub OpsIn : List ℕ → List ℕ → List Op → Type 0
@@ -51,6 +56,11 @@ OpsIn cs vs xs = (take (length xs) cs ≡ codes xs) × (take (length xs) vs ≡ 
 -- a run that begins with the records, 82 bytes each
 abbrev pub RecordsIn : List ℕ → List Record → Type 0
 RecordsIn s rs = (take (length (recordsBytes rs)) s ≡ recordsBytes rs) × (length (recordsBytes rs) ≡ 82 * length rs)
+
+-- the block's answer, and runs that begin with the block
+pub record Reading (at : ℕ) (d : Read Block) (after : Arena) (r : Decoded) : Type 0 where
+  pub reply : r ≡ decodedOf at d
+  pub left : IfFound (λ (b : Block) (end : ℕ). OpsIn (after .codes) (after .values) (b .ops) × RecordsIn (after .records) (b .records)) d
 
 -- a refused operation, and a refused count
 abbrev pub handOp : OpRead → CountRead

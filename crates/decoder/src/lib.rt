@@ -7,12 +7,12 @@ ghost use lib.ListN.{length, take};
 ghost use lib.Seq.{sets};
 ghost use Rattle.rules.specs.Lists.{fitted, total};
 ghost use Rattle.rules.specs.Digits.{digits, number, leAt};
-ghost use Rattle.rules.specs.Operations.{Op, operations, goodTable};
-ghost use Rattle.rules.specs.Record.{Record, Block, startsFrom, wordBytes, recordBytes, recordsBytes};
+ghost use Rattle.rules.specs.Operations.{Op, operations};
+ghost use Rattle.rules.specs.Record.{Record, Block, startsFrom, wordBytes, recordBytes};
 ghost use Rattle.rules.specs.Bytes.{opsAt, nibblesAt, upTo};
-ghost use Rattle.rules.specs.Block.{Head, immediates, slots, cut, paddingRight, batchAt, batchesAt, blockAt};
+ghost use Rattle.rules.specs.Block.{Head, immediates, slots, batchAt, batchesAt, blockAt};
 ghost use Rattle.rules.specs.Functions.{arena, roomIn, decoded};
-ghost use Rattle.decoder.specs.Replies.{counted, IfFound, handOp, handCount, decodedOf, Decodes, tailless};
+ghost use Rattle.decoder.specs.Replies.{counted, Staged, Reading, Decodes, handOp, handCount, tailless};
 ghost use Rattle.decoder.specs.Replies.{OpsIn, RecordsIn, Coded, itemsAt, recordsAt, sizesFrom, flagsFrom, Placing, PaddingRight};
 use wire::CountRead;
 use wire::OpRead;
@@ -71,8 +71,7 @@ fn read_ops(
     out_values: &mut [u64],
 ) -> CountRead
     requires { ⌜ (length (now table) ≡ 128) × (n ≤ length (now «out_codes»)) × (n ≤ length (now «out_values»)) ⌝ }
-    ensures reply { λ r. ⌜ r ≡ counted length (opsAt (now (table .entry)) (now (s .entry)) n at 0) ⌝ }
-    ensures runs { λ _. ⌜ IfFound (λ (xs : List Op) (next : ℕ). OpsIn (now («out_codes» .exit)) (now («out_values» .exit)) xs) (opsAt (now (table .entry)) (now (s .entry)) n at 0) ⌝ }
+    ensures { λ r. ⌜ Staged length (λ (xs : List Op) (next : ℕ). OpsIn (now («out_codes» .exit)) (now («out_values» .exit)) xs) (opsAt (now (table .entry)) (now (s .entry)) n at 0) r ⌝ }
 {
     let mut i: usize = 0;
     let mut from = at;
@@ -103,8 +102,7 @@ fn read_items(
     out_values: &mut [u64],
 ) -> CountRead
     requires { ⌜ (length (now table) ≡ 128) × (n ≤ length (now «out_codes»)) × (n ≤ length (now «out_values»)) ⌝ }
-    ensures reply { λ r. ⌜ r ≡ counted (λ (h : Head). h .batches) (itemsAt (now (table .entry)) (now (s .entry)) n at room) ⌝ }
-    ensures runs { λ _. ⌜ IfFound (λ (h : Head) (next : ℕ). OpsIn (now («out_codes» .exit)) (now («out_values» .exit)) (h .ops)) (itemsAt (now (table .entry)) (now (s .entry)) n at room) ⌝ }
+    ensures { λ r. ⌜ Staged (λ (h : Head). h .batches) (λ (h : Head) (next : ℕ). OpsIn (now («out_codes» .exit)) (now («out_values» .exit)) (h .ops)) (itemsAt (now (table .entry)) (now (s .entry)) n at room) r ⌝ }
 {
     let r = read_ops(table, s, at, n, out_codes, out_values);
     let CountRead::Found { value: _, next } = r else {
@@ -220,8 +218,7 @@ fn decode_groups(
 ) -> CountRead
     requires { ⌜ (length (now table) ≡ 128) × (length (now codes) ≡ length (now values)) × Coded (now codes) × (now groups ≡ fitted 8 []) ⌝ }
     requires { ⌜ (at + total (digits 16 8 deltas) ≤ length (now codes)) × (upTo 9 (digits 16 8 deltas) ≡ true) ⌝ }
-    ensures reply { λ r. ⌜ r ≡ counted length (slots (now (table .entry)) b (digits 16 8 deltas) [] (operations (now (codes .entry)) (now (values .entry))) at) ⌝ }
-    ensures left { λ _. ⌜ IfFound (λ (vs : List ℕ) (end : ℕ). (now (groups .exit) ≡ fitted 8 vs) × (length vs ≤ 8) × (end ≤ length (now (codes .entry)))) (slots (now (table .entry)) b (digits 16 8 deltas) [] (operations (now (codes .entry)) (now (values .entry))) at) ⌝ }
+    ensures { λ r. ⌜ Staged length (λ (vs : List ℕ) (end : ℕ). (now (groups .exit) ≡ fitted 8 vs) × (length vs ≤ 8) × (end ≤ length (now (codes .entry)))) (slots (now (table .entry)) b (digits 16 8 deltas) [] (operations (now (codes .entry)) (now (values .entry))) at) r ⌝ }
 {
     let mut left = deltas;
     let mut from = at;
@@ -344,8 +341,7 @@ fn decode_batch(
 ) -> CountRead
     requires { ⌜ (length (now table) ≡ 128) × (length (now codes) ≡ length (now values)) × Coded (now codes) ⌝ }
     requires { ⌜ (at ≤ length (now codes)) × (upTo 9 (digits 16 8 deltas) ≡ true) × (82 * b + 82 ≤ length (now records)) ⌝ }
-    ensures reply { λ r. ⌜ r ≡ counted (λ (r : Record). r .count) (batchAt 8 (now (table .entry)) (operations (now (codes .entry)) (now (values .entry))) at b (digits 16 8 deltas) (digits 2 8 flags)) ⌝ }
-    ensures runs { λ _. ⌜ IfFound (λ (r : Record) (end : ℕ). (now (records .exit) ≡ sets (now (records .entry)) (82 * b) (recordBytes r)) × (length (recordBytes r) ≡ 82) × (end ≤ length (now (codes .entry)))) (batchAt 8 (now (table .entry)) (operations (now (codes .entry)) (now (values .entry))) at b (digits 16 8 deltas) (digits 2 8 flags)) ⌝ }
+    ensures { λ r. ⌜ Staged (λ (r : Record). r .count) (λ (r : Record) (end : ℕ). (now (records .exit) ≡ sets (now (records .entry)) (82 * b) (recordBytes r)) × (length (recordBytes r) ≡ 82) × (end ≤ length (now (codes .entry)))) (batchAt 8 (now (table .entry)) (operations (now (codes .entry)) (now (values .entry))) at b (digits 16 8 deltas) (digits 2 8 flags)) r ⌝ }
 {
     if codes.len() - at < operations_in(deltas) {
         return CountRead::Refused {
@@ -382,8 +378,7 @@ fn decode_each(
     requires { ⌜ (length (now table) ≡ 128) × (length (now codes) ≡ length (now values)) × Coded (now codes) ⌝ }
     requires { ⌜ (sizes + 4 * k ≤ length (now s)) × (flags + k ≤ length (now s)) × (82 * k ≤ length (now records)) ⌝ }
     requires { ⌜ ((b : ℕ) → b < k → upTo 9 (digits 16 8 (leAt 4 (now s) (sizes + 4 * b))) ≡ true) ⌝ }
-    ensures reply { λ r. ⌜ r ≡ counted length (batchesAt 8 (now (table .entry)) (operations (now (codes .entry)) (now (values .entry))) 0 0 (sizesFrom k (now (s .entry)) sizes) (flagsFrom k (now (s .entry)) flags)) ⌝ }
-    ensures runs { λ _. ⌜ IfFound (λ (rs : List Record) (end : ℕ). RecordsIn (now (records .exit)) rs) (batchesAt 8 (now (table .entry)) (operations (now (codes .entry)) (now (values .entry))) 0 0 (sizesFrom k (now (s .entry)) sizes) (flagsFrom k (now (s .entry)) flags)) ⌝ }
+    ensures { λ r. ⌜ Staged length (λ (rs : List Record) (end : ℕ). RecordsIn (now (records .exit)) rs) (batchesAt 8 (now (table .entry)) (operations (now (codes .entry)) (now (values .entry))) 0 0 (sizesFrom k (now (s .entry)) sizes) (flagsFrom k (now (s .entry)) flags)) r ⌝ }
 {
     let mut b: usize = 0;
     let mut from: usize = 0;
@@ -422,8 +417,7 @@ fn decode_batches(
 ) -> CountRead
     requires { ⌜ (length (now table) ≡ 128) × (length (now codes) ≡ length (now values)) × Coded (now codes) ⌝ }
     requires { ⌜ (at + 5 * k ≤ length (now s)) × (82 * k ≤ length (now records)) ⌝ }
-    ensures reply { λ r. ⌜ r ≡ counted length (recordsAt (now (table .entry)) (now (s .entry)) (operations (now (codes .entry)) (now (values .entry))) k at) ⌝ }
-    ensures runs { λ _. ⌜ IfFound (λ (rs : List Record) (end : ℕ). RecordsIn (now (records .exit)) rs × (at ≤ end)) (recordsAt (now (table .entry)) (now (s .entry)) (operations (now (codes .entry)) (now (values .entry))) k at) ⌝ }
+    ensures { λ r. ⌜ Staged length (λ (rs : List Record) (end : ℕ). RecordsIn (now (records .exit)) rs × (at ≤ end)) (recordsAt (now (table .entry)) (now (s .entry)) (operations (now (codes .entry)) (now (values .entry))) k at) r ⌝ }
 {
     let n = nibbles_right(s, at, k);
     let CountRead::Found { value: _, next } = n else {
@@ -456,8 +450,7 @@ fn decode_block(
     records: &mut [u8],
 ) -> Decoded
     requires { ⌜ length (now table) ≡ 128 ⌝ }
-    ensures reply { λ r. ⌜ r ≡ decodedOf at (blockAt 8 (now (table .entry)) (now (s .entry)) at (roomIn (arena (now («out_codes» .entry)) (now («out_values» .entry)) (now (records .entry))))) ⌝ }
-    ensures runs { λ _. ⌜ IfFound (λ (b : Block) (end : ℕ). OpsIn (now («out_codes» .exit)) (now («out_values» .exit)) (b .ops) × RecordsIn (now (records .exit)) (b .records)) (blockAt 8 (now (table .entry)) (now (s .entry)) at (roomIn (arena (now («out_codes» .entry)) (now («out_values» .entry)) (now (records .entry))))) ⌝ }
+    ensures { λ r. ⌜ Reading at (blockAt 8 (now (table .entry)) (now (s .entry)) at (roomIn (arena (now («out_codes» .entry)) (now («out_values» .entry)) (now (records .entry))))) (arena (now («out_codes» .exit)) (now («out_values» .exit)) (now (records .exit))) r ⌝ }
 {
     let c = wire::read_count(s, at);
     let CountRead::Found { value, next } = c else {
@@ -519,8 +512,7 @@ fn decode_checked(
     out_values: &mut [u64],
     records: &mut [u8],
 ) -> Decoded
-    ensures reply { λ r. ⌜ r ≡ decodedOf at (decoded 8 (now (table .entry)) (now (s .entry)) at (roomIn (arena (now («out_codes» .entry)) (now («out_values» .entry)) (now (records .entry))))) ⌝ }
-    ensures runs { λ _. ⌜ IfFound (λ (b : Block) (end : ℕ). OpsIn (now («out_codes» .exit)) (now («out_values» .exit)) (b .ops) × RecordsIn (now (records .exit)) (b .records)) (decoded 8 (now (table .entry)) (now (s .entry)) at (roomIn (arena (now («out_codes» .entry)) (now («out_values» .entry)) (now (records .entry))))) ⌝ }
+    ensures { λ r. ⌜ Reading at (decoded 8 (now (table .entry)) (now (s .entry)) at (roomIn (arena (now («out_codes» .entry)) (now («out_values» .entry)) (now (records .entry))))) (arena (now («out_codes» .exit)) (now («out_values» .exit)) (now (records .exit))) r ⌝ }
 {
     if 1048576 < s.len() {
         return Decoded::Refused {

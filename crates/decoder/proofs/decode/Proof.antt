@@ -2,7 +2,7 @@ use mathlib.Core.Path.{sym, _∙_}
 use native.Mathlib.Omega.{arith}
 use borrow.Author.Needs.{needs}
 use denote.Ref.{now}
-use Rattle.rules.specs.Functions.{arena, roomIn, decoded}
+use Rattle.rules.specs.Functions.{arena}
 use Rattle.decoder.proofs.Kept.{Even, refused-kept, made-kept, made-fits}
 use Rattle.decoder.proofs.decode.Statement.{statement}
 use Rattle.decoder.proofs.decode.Tie as tie
@@ -35,11 +35,7 @@ returns c =
     let b = arena (now (a .out-codes)) (now (a .out-values)) (now (a .records)) in
     let m = arena (w .last .1 .1 .1 .0) (w .last .1 .1 .1 .1 .0) (w .last .1 .1 .1 .1 .1 .0) in
     let e : Even m b = record { codes = w .kept .1 .1 .1 .0; values = w .kept .1 .1 .1 .1 .0; records = w .kept .1 .1 .1 .1 .1 .0 } in
-    let d = decoded 8 (now (a .table)) (now (a .s)) (a .at) (roomIn b) in
-    record {
-      reply = w .ensures .0;
-      runs = c .before .before .before .before .before .before .clear-after .ensures ∙ refused-kept (a .at) b m e d _ _ (sym (w .ensures .0) ∙ c .before .before .before .before .before .before .before .before .before .before .enum-told .given .1);
-    }
+    record { reply = w .ensures .reply; runs = c .before .before .before .before .before .before .clear-after .ensures ∙ refused-kept (a .at) b m e (w .ensures) (c .before .before .before .before .before .before .before .before .before .before .enum-told .given .1) }
 
 mul-clear-after : tie.Need-mul-clear-after
 mul-clear-after c =
@@ -48,8 +44,7 @@ mul-clear-after c =
     let b = arena (now (a .out-codes)) (now (a .out-values)) (now (a .records)) in
     let m = arena (w .last .1 .1 .1 .0) (w .last .1 .1 .1 .1 .0) (w .last .1 .1 .1 .1 .1 .0) in
     let e : Even m b = record { codes = w .kept .1 .1 .1 .0; values = w .kept .1 .1 .1 .1 .0; records = w .kept .1 .1 .1 .1 .1 .0 } in
-    let d = decoded 8 (now (a .table)) (now (a .s)) (a .at) (roomIn b) in
-    omega (arith, c .before .before .before .before .before .before .before .before .before .before .before .before .before .before .before .before .before .before .before .before .before .good .1 .1 .1 .1 .1 .0, made-fits (a .at) b m e d _ _ _ (sym (w .ensures .0) ∙ c .before .before .before .before .r .given .1) (w .ensures .1))
+    omega (arith, c .before .before .before .before .before .before .before .before .before .before .before .before .before .before .before .before .before .before .before .before .before .good .1 .1 .1 .1 .1 .0, made-fits (a .at) b m e (w .ensures) (c .before .before .before .before .r .given .1))
 
 clear-after-requires-2 : tie.Need-clear-after-requires-2
 clear-after-requires-2 c κs = search needs
@@ -70,12 +65,8 @@ returns-2 c =
     let b = arena (now (a .out-codes)) (now (a .out-values)) (now (a .records)) in
     let m = arena (w .last .1 .1 .1 .0) (w .last .1 .1 .1 .1 .0) (w .last .1 .1 .1 .1 .1 .0) in
     let e : Even m b = record { codes = w .kept .1 .1 .1 .0; values = w .kept .1 .1 .1 .1 .0; records = w .kept .1 .1 .1 .1 .1 .0 } in
-    let d = decoded 8 (now (a .table)) (now (a .s)) (a .at) (roomIn b) in
     let u = c .before .before .before .before .before .before .before .before .before .before .before .r .given in
-    record {
-      reply = sym (u .1) ∙ w .ensures .0;
-      runs = c .before .before .before .before .before .before .clear-after2 .ensures ∙ made-kept (a .at) b m e d _ _ _ (sym (w .ensures .0) ∙ u .1) (w .ensures .1);
-    }
+    record { reply = sym (u .1) ∙ w .ensures .reply; runs = c .before .before .before .before .before .before .clear-after2 .ensures ∙ made-kept (a .at) b m e (w .ensures) (u .1) }
 
 pub decode-spec : {M : Type 1} → statement M
 decode-spec =

@@ -1,4 +1,3 @@
-use mathlib.Core.List.{[]}
 use mathlib.Core.Path.{refl, sym, ap, _∙_}
 use Prim.Native.Nat.{ℕ}
 use native.Mathlib.Omega.{arith}
@@ -7,13 +6,11 @@ use borrow.Author.Needs.{needs}
 use denote.Ref.{now}
 use lib.ListN.{length}
 use Rattle.rules.specs.Record.{recordBy}
-use Rattle.rules.specs.Digits.{digits}
 use Rattle.rules.specs.Operations.{operations}
-use Rattle.rules.specs.Block.{slots}
 use Rattle.rules.proofs.Operations.{length-operations}
 use Rattle.rules.proofs.Runs.{zeros-fitted, fitted-length}
 use Rattle.wire.specs.declared.CountRead.the-variants.{Found}
-use Rattle.decoder.proofs.Stages.{got, lost, held}
+use Rattle.decoder.proofs.Stages.{found-by, refused-by}
 use Rattle.decoder.proofs.Ops.{codes-operations}
 use Rattle.decoder.proofs.Batches.{way-7, way-slots, way-10, way-good, made-size, made-stored}
 use Rattle.decoder.proofs.decode_batch.Statement.{statement}
@@ -30,7 +27,7 @@ returns c =
     let a = c .before .before .before .before .before .before .args in
     let xs = operations (now (a .codes)) (now (a .values)) in
     let n = length-operations (now (a .codes)) (now (a .values)) (c .before .before .before .before .before .before .pre .0 .1) in
-    rw (way-7 (now (a .table)) xs (a .at) (a .b) (a .deltas) (a .flags) (omega arith)) (refl, tt)
+    rw (way-7 (now (a .table)) xs (a .at) (a .b) (a .deltas) (a .flags) (omega arith)) (record { reply = refl; left = tt })
 
 decode-groups-requires : tie.Need-decode-groups-requires
 decode-groups-requires c κs =
@@ -49,8 +46,7 @@ returns-2 c =
     let xs = operations (now (a .codes)) (now (a .values)) in
     let n = length-operations (now (a .codes)) (now (a .values)) (c .before .before .before .before .before .before .before .before .before .before .pre .0 .1) in
     let u = c .enum-told .given in
-    let d = lost length (slots (now (a .table)) (a .b) (digits 16 8 (a .deltas)) [] xs (a .at)) _ _ (sym (c .before .before .decode-groups .ensures .0) ∙ u .1) in
-    rw (way-slots (now (a .table)) xs (a .at) (a .b) (a .deltas) (a .flags) (omega arith) _ _ d) (u .1, tt)
+    rw (way-slots (now (a .table)) xs (a .at) (a .b) (a .deltas) (a .flags) (omega arith) _ _ (refused-by (c .before .before .decode-groups .ensures) (u .1))) (record { reply = u .1; left = tt })
 
 padding-right-requires : tie.Need-padding-right-requires
 padding-right-requires c κs = search needs
@@ -60,20 +56,17 @@ returns-3 c =
     let a = c .before .before .before .before .before .before .before .before .before .before .before .before .before .args in
     let xs = operations (now (a .codes)) (now (a .values)) in
     let n = length-operations (now (a .codes)) (now (a .values)) (c .before .before .before .before .before .before .before .before .before .before .before .before .before .pre .0 .1) in
-    let d = got length (slots (now (a .table)) (a .b) (digits 16 8 (a .deltas)) [] xs (a .at)) _ _ (sym (c .before .before .before .before .before .decode-groups .ensures .0) ∙ c .before .before .before .r .given .1) in
+    let d = found-by (c .before .before .before .before .before .decode-groups .ensures) (c .before .before .before .r .given .1) in
     let p = sym (c .before .padding-right .ensures xs (codes-operations _ _ (c .before .before .before .before .before .before .before .before .before .before .before .before .before .pre .0 .1))) ∙ not-true _ (c .if2 .taken) in
-    rw (way-10 (now (a .table)) xs (a .at) (a .b) (a .deltas) (a .flags) (omega arith) _ _ (d .is) (rw (← d .number) at p)) (refl, tt)
+    rw (way-10 (now (a .table)) xs (a .at) (a .b) (a .deltas) (a .flags) (omega arith) _ _ (d .is) (rw (← d .number) at p)) (record { reply = refl; left = tt })
 
 mul-put-record : tie.Need-mul-put-record
 mul-put-record c = search needs
 
 put-record-requires : tie.Need-put-record-requires
 put-record-requires c κs =
-    let a = c .before .before .before .before .before .before .before .before .before .before .before .before .before .before .before .args in
-    let s = slots (now (a .table)) (a .b) (digits 16 8 (a .deltas)) [] (operations (now (a .codes)) (now (a .values))) (a .at) in
-    let d = got length s _ _ (sym (c .before .before .before .before .before .before .before .decode-groups .ensures .0) ∙ c .before .before .before .before .before .r .given .1) in
-    let l = held _ s _ _ (d .is) (c .before .before .before .before .before .before .before .decode-groups .ensures .1) in
-    (c .before .before .before .before .before .before .before .before .before .before .before .before .before .before .before .pre .1 .2, ap length (l .0) ∙ fitted-length 8 (d .item), omega (arith, d .number, l .1))
+    let d = found-by (c .before .before .before .before .before .before .before .decode-groups .ensures) (c .before .before .before .before .before .r .given .1) in
+    (c .before .before .before .before .before .before .before .before .before .before .before .before .before .before .before .pre .1 .2, ap length (d .holds .0) ∙ fitted-length 8 (d .item), omega (arith, d .number, d .holds .1))
 
 same-length : tie.Need-same-length
 same-length c = search needs
@@ -84,13 +77,14 @@ returns-4 c =
     let a = c .before .before .before .before .before .before .before .before .before .before .before .before .before .before .before .before .before .before .args in
     let xs = operations (now (a .codes)) (now (a .values)) in
     let n = length-operations (now (a .codes)) (now (a .values)) (c .before .before .before .before .before .before .before .before .before .before .before .before .before .before .before .before .before .before .pre .0 .1) in
-    let s = slots (now (a .table)) (a .b) (digits 16 8 (a .deltas)) [] xs (a .at) in
     let u = c .before .before .before .before .before .before .before .before .r .given in
-    let d = got length s _ _ (sym (c .before .before .before .before .before .before .before .before .before .before .decode-groups .ensures .0) ∙ u .1) in
-    let l = held _ s _ _ (d .is) (c .before .before .before .before .before .before .before .before .before .before .decode-groups .ensures .1) in
+    let d = found-by (c .before .before .before .before .before .before .before .before .before .before .decode-groups .ensures) (u .1) in
     let p = sym (c .before .before .before .before .before .before .padding-right .ensures xs (codes-operations _ _ (c .before .before .before .before .before .before .before .before .before .before .before .before .before .before .before .before .before .before .pre .0 .1))) ∙ not-false _ (c .before .before .before .before .before .if2 .left) in
     rw (way-good (now (a .table)) xs (a .at) (a .b) (a .deltas) (a .flags) (omega arith) _ _ (d .is) (rw (← d .number) at p))
-    (ap (λ (m : ℕ). Found m (u .0 .1 .0)) (sym (d .number)), (made-stored (a .deltas) (a .flags) (d .item) _ _ _ _ _ (l .0) (d .number) (c .before .before .put-record .ensures), made-size (a .deltas) (a .flags) (d .item), l .2))
+    (record {
+      reply = ap (λ (m : ℕ). Found m (u .0 .1 .0)) (sym (d .number));
+      left = (made-stored (a .deltas) (a .flags) (d .item) _ _ _ _ _ (d .holds .0) (d .number) (c .before .before .put-record .ensures), made-size (a .deltas) (a .flags) (d .item), d .holds .2);
+    })
 
 pub decode-batch-spec : {M : Type 1} → statement M
 decode-batch-spec =

@@ -1,14 +1,13 @@
-use mathlib.Core.Path.{refl, sym, ap, _∙_}
+use mathlib.Core.Path.{refl, sym, ap}
 use Prim.Native.Nat.{ℕ, _+_}
 use native.Mathlib.Omega.{arith}
 use borrow.Author.Needs.{needs}
 use denote.Ref.{now}
-use lib.ListN.{length}
 use Rattle.rules.specs.Operations.{operations}
-use Rattle.rules.specs.Bytes.{nibblesAt}
 use Rattle.rules.proofs.Operations.{length-operations}
 use Rattle.wire.specs.declared.CountRead.the-variants.{Found}
-use Rattle.decoder.proofs.Stages.{got, lost, held}
+use Rattle.decoder.proofs.Sizes.{sized-by}
+use Rattle.decoder.proofs.Stages.{found-by, refused-by}
 use Rattle.decoder.proofs.Blocks as B
 use Rattle.decoder.proofs.decode_batches.Statement.{statement}
 use Rattle.decoder.proofs.decode_batches.Tie as tie
@@ -26,14 +25,12 @@ returns : tie.Need-returns
 returns c =
     let a = c .before .before .before .before .before .before .before .before .args in
     let u = c .enum-told .given in
-    rw (B.records-6 (now (a .table)) (now (a .s)) (operations (now (a .codes)) (now (a .values))) (a .k) (a .at) _ _ (lost length (nibblesAt 8 (now (a .s)) (a .k) (a .at) 0) _ _ (sym (c .before .before .nibbles-right .ensures) ∙ u .1))) (u .1, tt)
+    rw (B.records-6 (now (a .table)) (now (a .s)) (operations (now (a .codes)) (now (a .values))) (a .k) (a .at) _ _ (refused-by (sized-by (c .before .before .nibbles-right .ensures)) (u .1))) (record { reply = u .1; left = tt })
 
 decode-each-requires : tie.Need-decode-each-requires
 decode-each-requires c κs =
-    let a = c .before .before .before .before .before .before .before .before .before .before in
-    let g = got length (nibblesAt 8 (now (a .args .s)) (a .args .k) (a .args .at) 0) _ _ (sym (c .before .before .before .before .nibbles-right .ensures) ∙ c .before .before .n .given .1) in
-    let z = B.sized (now (a .args .table)) (now (a .args .s)) (operations (now (a .args .codes)) (now (a .args .values))) (a .args .k) (a .args .at) _ _ (g .is) in
-    (a .pre .0, ((omega arith, omega (arith, z .to), omega arith), z .small))
+    let z = found-by (sized-by (c .before .before .before .before .nibbles-right .ensures)) (c .before .before .n .given .1) .holds in
+    (c .before .before .before .before .before .before .before .before .before .before .pre .0, ((omega arith, omega (arith, z .to), omega arith), z .small))
 
 enum-known-r : tie.Need-enum-known-r
 enum-known-r c = search needs
@@ -47,11 +44,10 @@ same-length c = search needs
 returns-2 : tie.Need-returns-2
 returns-2 c =
     let a = c .before .before .before .before .before .before .before .before .before .before .before .before .before .before .before .args in
-    let g = got length (nibblesAt 8 (now (a .s)) (a .k) (a .at) 0) _ _ (sym (c .before .before .before .before .before .before .before .before .before .nibbles-right .ensures) ∙ c .before .before .before .before .before .before .before .n .given .1) in
+    let g = found-by (sized-by (c .before .before .before .before .before .before .before .before .before .nibbles-right .ensures)) (c .before .before .before .before .before .before .before .n .given .1) in
     let u = c .enum-told2 .given in
-    let t = now (a .table) in
-    let xs = operations (now (a .codes)) (now (a .values)) in
-    rw (B.records-lost t (now (a .s)) xs (a .k) (a .at) _ _ (g .is) _ _ (lost length (B.each t (now (a .s)) xs (a .k) (a .at) _ _ (g .is)) _ _ (sym (c .before .before .before .before .decode-each .ensures .0) ∙ u .1))) (u .1, tt)
+    rw (B.records-lost (now (a .table)) (now (a .s)) (operations (now (a .codes)) (now (a .values))) (a .k) (a .at) _ _ (g .is) (g .holds) _ _ (refused-by (c .before .before .before .before .decode-each .ensures) (u .1)))
+    (record { reply = u .1; left = tt })
 
 same-length-2 : tie.Need-same-length-2
 same-length-2 c = search needs
@@ -59,19 +55,13 @@ same-length-2 c = search needs
 returns-3 : tie.Need-returns-3
 returns-3 c =
     let a = c .before .before .before .before .before .before .before .before .before .before .before .before .before .before .before .before .before .args in
-    let g = got length (nibblesAt 8 (now (a .s)) (a .k) (a .at) 0) _ _ (sym (c .before .before .before .before .before .before .before .before .before .before .before .nibbles-right .ensures) ∙ c .before .before .before .before .before .before .before .before .before .n .given .1) in
-    let t = now (a .table) in
-    let xs = operations (now (a .codes)) (now (a .values)) in
-    let r = got length (B.each t (now (a .s)) xs (a .k) (a .at) _ _ (g .is)) _ _ (sym (c .before .before .before .before .before .before .decode-each .ensures .0) ∙ c .before .before .r .given .1) in
+    let g = found-by (sized-by (c .before .before .before .before .before .before .before .before .before .before .before .nibbles-right .ensures)) (c .before .before .before .before .before .before .before .before .before .n .given .1) in
+    let r = found-by (c .before .before .before .before .before .before .decode-each .ensures) (c .before .before .r .given .1) in
     let n = length-operations (now (a .codes)) (now (a .values)) (c .before .before .before .before .before .before .before .before .before .before .before .before .before .before .before .before .before .pre .0 .1) in
-    rw (B.records-11 t (now (a .s)) xs (a .k) (a .at) _ _ (g .is) _ _ (r .is) (omega arith)) (refl, tt)
+    rw (B.records-11 (now (a .table)) (now (a .s)) (operations (now (a .codes)) (now (a .values))) (a .k) (a .at) _ _ (g .is) (g .holds) _ _ (r .is) (omega arith)) (record { reply = refl; left = tt })
 
 add-t15 : tie.Need-add-t15
-add-t15 c =
-    let a = c .before .before .before .before .before .before .before .before .before .before .before .before .before .before .before .before .before .args in
-    let g = got length (nibblesAt 8 (now (a .s)) (a .k) (a .at) 0) _ _ (sym (c .before .before .before .before .before .before .before .before .before .before .before .nibbles-right .ensures) ∙ c .before .before .before .before .before .before .before .before .before .n .given .1) in
-    let z = B.sized (now (a .table)) (now (a .s)) (operations (now (a .codes)) (now (a .values))) (a .k) (a .at) _ _ (g .is) in
-    omega (arith, z .to)
+add-t15 c = omega (arith, found-by (sized-by (c .before .before .before .before .before .before .before .before .before .before .before .nibbles-right .ensures)) (c .before .before .before .before .before .before .before .before .before .n .given .1) .holds .to)
 
 same-length-3 : tie.Need-same-length-3
 same-length-3 c = search needs
@@ -80,15 +70,11 @@ returns-4 : tie.Need-returns-4
 returns-4 c =
     let a = c .before .before .before .before .before .before .before .before .before .before .before .before .before .before .before .before .before .args in
     let u = c .before .before .before .before .before .before .before .before .before .n .given in
-    let g = got length (nibblesAt 8 (now (a .s)) (a .k) (a .at) 0) _ _ (sym (c .before .before .before .before .before .before .before .before .before .before .before .nibbles-right .ensures) ∙ u .1) in
-    let t = now (a .table) in
-    let xs = operations (now (a .codes)) (now (a .values)) in
-    let z = B.sized t (now (a .s)) xs (a .k) (a .at) _ _ (g .is) in
-    let d = B.each t (now (a .s)) xs (a .k) (a .at) _ _ (g .is) in
-    let r = got length d _ _ (sym (c .before .before .before .before .before .before .decode-each .ensures .0) ∙ c .before .before .r .given .1) in
+    let g = found-by (sized-by (c .before .before .before .before .before .before .before .before .before .before .before .nibbles-right .ensures)) (u .1) in
+    let r = found-by (c .before .before .before .before .before .before .decode-each .ensures) (c .before .before .r .given .1) in
     let n = length-operations (now (a .codes)) (now (a .values)) (c .before .before .before .before .before .before .before .before .before .before .before .before .before .before .before .before .before .pre .0 .1) in
-    rw (B.records-good t (now (a .s)) xs (a .k) (a .at) _ _ (g .is) _ _ (r .is) (omega arith))
-    (ap (λ (m : ℕ). Found m (u .0 .1 .0 + a .k)) (sym (r .number)), (held _ d _ _ (r .is) (c .before .before .before .before .before .before .decode-each .ensures .1), omega (arith, z .to)))
+    rw (B.records-good (now (a .table)) (now (a .s)) (operations (now (a .codes)) (now (a .values))) (a .k) (a .at) _ _ (g .is) (g .holds) _ _ (r .is) (omega arith))
+    (record { reply = ap (λ (m : ℕ). Found m (u .0 .1 .0 + a .k)) (sym (r .number)); left = (r .holds, omega (arith, g .holds .to)) })
 
 pub decode-batches-spec : {M : Type 1} → statement M
 decode-batches-spec =

@@ -3,14 +3,12 @@ use Prim.Native.Nat.{ℕ, _-_}
 use native.Mathlib.Omega.{arith}
 use borrow.Author.Needs.{needs}
 use denote.Ref.{now}
-use lib.ListN.{length}
 use lib.Seq.{length-take-le}
-use Rattle.rules.specs.Block.{Head}
 use Rattle.rules.specs.Bytes.{countAt}
 use Rattle.rules.specs.Functions.{arena, roomIn}
 use Rattle.decoder.specs.declared.Decoded.the-variants.{Made}
-use Rattle.decoder.specs.Replies.{handCount, itemsAt, recordsAt}
-use Rattle.decoder.proofs.Stages.{got, lost, held, count-found, count-lost}
+use Rattle.decoder.specs.Replies.{handCount}
+use Rattle.decoder.proofs.Stages.{found-by, refused-by, held, count-found, count-lost}
 use Rattle.decoder.proofs.Ops.{items-in, count-on}
 use Rattle.decoder.proofs.Blocks as B
 use Rattle.decoder.proofs.decode_block.Statement.{statement}
@@ -33,7 +31,7 @@ returns c =
     let a = c .before .before .before .before .before .before .before .before .before .args in
     let u = c .before .enum-told .given in
     rw (B.block-uncounted (now (a .table)) (now (a .s)) (a .at) (roomIn (arena (now (a .out-codes)) (now (a .out-values)) (now (a .records)))) _ _ (count-lost (countAt (now (a .s)) (a .at)) _ _ (sym (c .before .before .before .read-count .ensures) ∙ u .1)))
-    (c .not-counted .ensures ∙ ap handCount (u .1), tt)
+    (record { reply = c .not-counted .ensures ∙ ap handCount (u .1); left = tt })
 
 returns-2 : tie.Need-returns-2
 unfolding roomIn
@@ -41,7 +39,7 @@ returns-2 c =
     let a = c .before .before .before .before .before .before .before .before .before .before .args in
     let u = c .before .before .c .given in
     let n = count-found (countAt (now (a .s)) (a .at)) _ _ (sym (c .before .before .before .before .read-count .ensures) ∙ u .1) in
-    rw (B.block-codes (now (a .table)) (now (a .s)) (a .at) (roomIn (arena (now (a .out-codes)) (now (a .out-values)) (now (a .records)))) _ _ n (c .if1 .taken)) (refl, tt)
+    rw (B.block-codes (now (a .table)) (now (a .s)) (a .at) (roomIn (arena (now (a .out-codes)) (now (a .out-values)) (now (a .records)))) _ _ n (c .if1 .taken)) (record { reply = refl; left = tt })
 
 returns-3 : tie.Need-returns-3
 unfolding roomIn
@@ -49,7 +47,7 @@ returns-3 c =
     let a = c .before .before .before .before .before .before .before .before .before .before .before .args in
     let u = c .before .before .before .c .given in
     let n = count-found (countAt (now (a .s)) (a .at)) _ _ (sym (c .before .before .before .before .before .read-count .ensures) ∙ u .1) in
-    rw (B.block-values (now (a .table)) (now (a .s)) (a .at) (roomIn (arena (now (a .out-codes)) (now (a .out-values)) (now (a .records)))) _ _ n (c .before .if1 .left) (c .if2 .taken)) (refl, tt)
+    rw (B.block-values (now (a .table)) (now (a .s)) (a .at) (roomIn (arena (now (a .out-codes)) (now (a .out-values)) (now (a .records)))) _ _ n (c .before .if1 .left) (c .if2 .taken)) (record { reply = refl; left = tt })
 
 read-items-requires : tie.Need-read-items-requires
 read-items-requires c κs = search needs
@@ -75,9 +73,8 @@ returns-4 c =
     let a = c .before .before .before .before .before .before .before .before .before .before .before .before .before .before .before .before .before .before .before .before .before .args in
     let n = count-found (countAt (now (a .s)) (a .at)) _ _ (sym (c .before .before .before .before .before .before .before .before .before .before .before .before .before .before .before .read-count .ensures) ∙ c .before .before .before .before .before .before .before .before .before .before .before .before .before .c .given .1) in
     let u = c .before .enum-told2 .given in
-    let i = lost (λ (h : Head). h .batches) (itemsAt (now (a .table)) (now (a .s)) _ _ _) _ _ (sym (c .before .before .before .before .before .before .before .read-items .ensures .0) ∙ u .1) in
-    rw (B.block-items (now (a .table)) (now (a .s)) (a .at) (roomIn (arena (now (a .out-codes)) (now (a .out-values)) (now (a .records)))) _ _ n (c .before .before .before .before .before .before .before .before .before .before .before .if1 .left) (c .before .before .before .before .before .before .before .before .before .before .if2 .left) _ _ i)
-    (c .not-counted2 .ensures ∙ ap handCount (u .1), tt)
+    rw (B.block-items (now (a .table)) (now (a .s)) (a .at) (roomIn (arena (now (a .out-codes)) (now (a .out-values)) (now (a .records)))) _ _ n (c .before .before .before .before .before .before .before .before .before .before .before .if1 .left) (c .before .before .before .before .before .before .before .before .before .before .if2 .left) _ _ (refused-by (c .before .before .before .before .before .before .before .read-items .ensures) (u .1)))
+    (record { reply = c .not-counted2 .ensures ∙ ap handCount (u .1); left = tt })
 
 slice-reshare-prefix-decode-batches : tie.Need-slice-reshare-prefix-decode-batches
 slice-reshare-prefix-decode-batches c = search needs
@@ -93,10 +90,8 @@ slice-aggregate-decode-batches-2 c = sym (length-take-le _ _ (omega (arith, c .b
 
 decode-batches-requires : tie.Need-decode-batches-requires
 decode-batches-requires c κs =
-    let a = c .before .before .before .before .before .before .before .before .before .before .before .before .before .before .before .before .before .before .before .before .before .before .before .before in
-    let w = c .before .before .before .before .before .before .before .before .before .before .read-items in
-    let i = items-in (now (a .args .table)) (now (a .args .s)) _ _ _ _ _ _ _ (sym (w .ensures .0) ∙ c .before .before .before .before .i .given .1) (w .ensures .1) in
-    ((a .pre, i .even, i .coded), (i .bytes, omega (arith, i .records)))
+    let i = items-in _ _ _ _ _ _ _ _ _ (c .before .before .before .before .before .before .before .before .before .before .read-items .ensures) (c .before .before .before .before .i .given .1) in
+    ((c .before .before .before .before .before .before .before .before .before .before .before .before .before .before .before .before .before .before .before .before .before .before .before .before .pre, i .even, i .coded), (i .bytes, omega (arith, i .records)))
 
 enum-known-r : tie.Need-enum-known-r
 enum-known-r c = search needs
@@ -121,22 +116,18 @@ unfolding roomIn
 returns-5 c =
     let a = c .before .before .before .before .before .before .before .before .before .before .before .before .before .before .before .before .before .before .before .before .before .before .before .before .before .before .before .before .before .before .args in
     let n = count-found (countAt (now (a .s)) (a .at)) _ _ (sym (c .before .before .before .before .before .before .before .before .before .before .before .before .before .before .before .before .before .before .before .before .before .before .before .before .read-count .ensures) ∙ c .before .before .before .before .before .before .before .before .before .before .before .before .before .before .before .before .before .before .before .before .before .before .c .given .1) in
-    let w = c .before .before .before .before .before .before .before .before .before .before .before .before .before .before .before .before .read-items in
-    let i = items-in (now (a .table)) (now (a .s)) _ _ _ _ _ _ _ (sym (w .ensures .0) ∙ c .before .before .before .before .before .before .before .before .before .before .i .given .1) (w .ensures .1) in
+    let i = items-in _ _ _ _ _ _ _ _ _ (c .before .before .before .before .before .before .before .before .before .before .before .before .before .before .before .before .read-items .ensures) (c .before .before .before .before .before .before .before .before .before .before .i .given .1) in
     let u = c .before .enum-told3 .given in
-    let r = lost length (recordsAt (now (a .table)) (now (a .s)) _ _ _) _ _ (sym (c .before .before .before .before .before .decode-batches .ensures .0) ∙ u .1) in
-    rw (B.block-lost (now (a .table)) (now (a .s)) (a .at) (roomIn (arena (now (a .out-codes)) (now (a .out-values)) (now (a .records)))) _ _ n (c .before .before .before .before .before .before .before .before .before .before .before .before .before .before .before .before .before .before .before .before .if1 .left) (c .before .before .before .before .before .before .before .before .before .before .before .before .before .before .before .before .before .before .before .if2 .left) _ _ (i .is) _ _ r)
-    (c .not-counted3 .ensures ∙ ap handCount (u .1), tt)
+    rw (B.block-lost (now (a .table)) (now (a .s)) (a .at) (roomIn (arena (now (a .out-codes)) (now (a .out-values)) (now (a .records)))) _ _ n (c .before .before .before .before .before .before .before .before .before .before .before .before .before .before .before .before .before .before .before .before .if1 .left) (c .before .before .before .before .before .before .before .before .before .before .before .before .before .before .before .before .before .before .before .if2 .left) _ _ (i .is) _ _ (refused-by (c .before .before .before .before .before .decode-batches .ensures) (u .1)))
+    (record { reply = c .not-counted3 .ensures ∙ ap handCount (u .1); left = tt })
 
 sub-used : tie.Need-sub-used
 sub-used c =
     let a = c .before .before .before .before .before .before .before .before .before .before .before .before .before .before .before .before .before .before .before .before .before .before .before .before .before .before .before .before .before .before .args in
     let n = count-found (countAt (now (a .s)) (a .at)) _ _ (sym (c .before .before .before .before .before .before .before .before .before .before .before .before .before .before .before .before .before .before .before .before .before .before .before .before .read-count .ensures) ∙ c .before .before .before .before .before .before .before .before .before .before .before .before .before .before .before .before .before .before .before .before .before .before .c .given .1) in
-    let w = c .before .before .before .before .before .before .before .before .before .before .before .before .before .before .before .before .read-items in
-    let i = items-in (now (a .table)) (now (a .s)) _ _ _ _ _ _ _ (sym (w .ensures .0) ∙ c .before .before .before .before .before .before .before .before .before .before .i .given .1) (w .ensures .1) in
-    let d = recordsAt (now (a .table)) (now (a .s)) _ _ _ in
-    let r = got length d _ _ (sym (c .before .before .before .before .before .decode-batches .ensures .0) ∙ c .before .r .given .1) in
-    omega (arith, held _ _ _ _ n (count-on (now (a .s)) (a .at)), i .on, held _ d _ _ (r .is) (c .before .before .before .before .before .decode-batches .ensures .1) .1)
+    let i = items-in _ _ _ _ _ _ _ _ _ (c .before .before .before .before .before .before .before .before .before .before .before .before .before .before .before .before .read-items .ensures) (c .before .before .before .before .before .before .before .before .before .before .i .given .1) in
+    let r = found-by (c .before .before .before .before .before .decode-batches .ensures) (c .before .r .given .1) in
+    omega (arith, held _ _ _ _ n (count-on (now (a .s)) (a .at)), i .on, r .holds .1)
 
 same-length-6 : tie.Need-same-length-6
 same-length-6 c = search needs
@@ -152,13 +143,11 @@ unfolding roomIn
 returns-6 c =
     let a = c .before .before .before .before .before .before .before .before .before .before .before .before .before .before .before .before .before .before .before .before .before .before .before .before .before .before .before .before .before .before .args in
     let n = count-found (countAt (now (a .s)) (a .at)) _ _ (sym (c .before .before .before .before .before .before .before .before .before .before .before .before .before .before .before .before .before .before .before .before .before .before .before .before .read-count .ensures) ∙ c .before .before .before .before .before .before .before .before .before .before .before .before .before .before .before .before .before .before .before .before .before .before .c .given .1) in
-    let w = c .before .before .before .before .before .before .before .before .before .before .before .before .before .before .before .before .read-items in
-    let i = items-in (now (a .table)) (now (a .s)) _ _ _ _ _ _ _ (sym (w .ensures .0) ∙ c .before .before .before .before .before .before .before .before .before .before .i .given .1) (w .ensures .1) in
-    let d = recordsAt (now (a .table)) (now (a .s)) _ _ _ in
+    let i = items-in _ _ _ _ _ _ _ _ _ (c .before .before .before .before .before .before .before .before .before .before .before .before .before .before .before .before .read-items .ensures) (c .before .before .before .before .before .before .before .before .before .before .i .given .1) in
     let u = c .before .r .given in
-    let r = got length d _ _ (sym (c .before .before .before .before .before .decode-batches .ensures .0) ∙ u .1) in
+    let r = found-by (c .before .before .before .before .before .decode-batches .ensures) (u .1) in
     rw (B.block-good (now (a .table)) (now (a .s)) (a .at) (roomIn (arena (now (a .out-codes)) (now (a .out-values)) (now (a .records)))) _ _ n (c .before .before .before .before .before .before .before .before .before .before .before .before .before .before .before .before .before .before .before .before .if1 .left) (c .before .before .before .before .before .before .before .before .before .before .before .before .before .before .before .before .before .before .before .if2 .left) _ _ (i .is) _ _ (r .is))
-    (ap₂ (λ (k m : ℕ). Made k m (u .0 .1 .0 - a .at)) (sym (r .number)) (sym (i .many)), (i .ops, held _ d _ _ (r .is) (c .before .before .before .before .before .decode-batches .ensures .1) .0))
+    (record { reply = ap₂ (λ (k m : ℕ). Made k m (u .0 .1 .0 - a .at)) (sym (r .number)) (sym (i .many)); left = (i .ops, r .holds .0) })
 
 pub decode-block-spec : {M : Type 1} → statement M
 decode-block-spec =

@@ -11,7 +11,7 @@ use Rattle.decoder.proofs.decode_checked.Tie as tie
 returns : tie.Need-returns
 returns c =
     let a = c .before .before .before .before .before .before .args in
-    rw (B.decoded-3 (now (a .table)) (now (a .s)) (a .at) _ (omega arith)) (refl, tt)
+    rw (B.decoded-3 (now (a .table)) (now (a .s)) (a .at) _ (omega arith)) (record { reply = refl; left = tt })
 
 good-table-requires : tie.Need-good-table-requires
 good-table-requires c κs = search needs
@@ -19,12 +19,12 @@ good-table-requires c κs = search needs
 returns-2 : tie.Need-returns-2
 returns-2 c =
     let a = c .before .before .before .before .before .before .before .before .args in
-    rw (B.decoded-14 (now (a .table)) (now (a .s)) (a .at) _ (omega arith) (sym (c .before .good-table .ensures) ∙ not-true _ (c .if2 .taken))) (refl, tt)
+    rw (B.decoded-14 (now (a .table)) (now (a .s)) (a .at) _ (omega arith) (sym (c .before .good-table .ensures) ∙ not-true _ (c .if2 .taken))) (record { reply = refl; left = tt })
 
 returns-3 : tie.Need-returns-3
 returns-3 c =
     let a = c .before .before .before .before .before .before .before .before .before .args in
-    rw (B.decoded-1 (now (a .table)) (now (a .s)) (a .at) _ (omega arith) (sym (c .before .before .good-table .ensures) ∙ not-false _ (c .before .if2 .left)) (omega arith)) (refl, tt)
+    rw (B.decoded-1 (now (a .table)) (now (a .s)) (a .at) _ (omega arith) (sym (c .before .before .good-table .ensures) ∙ not-false _ (c .before .if2 .left)) (omega arith)) (record { reply = refl; left = tt })
 
 decode-block-requires : tie.Need-decode-block-requires
 decode-block-requires c κs = table-128 _ (sym (c .before .before .before .before .before .good-table .ensures) ∙ not-false _ (c .before .before .before .before .if2 .left))

@@ -2,12 +2,10 @@ use mathlib.Core.Path.{_≡_, refl, sym, ap, _∙_}
 use Prim.Native.Nat.{ℕ, _-_, _≤_}
 use native.Mathlib.Omega.{arith}
 use borrow.Author.Needs.{needs}
-use denote.Ref.{now}
 use lib.ListN.{length}
 use Rattle.rules.specs.Operations.{operations}
-use Rattle.rules.specs.Record.{Record}
 use Rattle.wire.specs.declared.CountRead.the-variants.{Found}
-use Rattle.decoder.proofs.Stages.{got, lost, held}
+use Rattle.decoder.proofs.Stages.{found-by, refused-by}
 use Rattle.decoder.proofs.Batches as B
 use Rattle.decoder.proofs.decode_each.Statement.{statement}
 use Rattle.decoder.proofs.decode_each.Tie as tie
@@ -54,12 +52,9 @@ same-length c = c .before .before .before .before .decode-batch .kept .1 .1 .1 .
 
 returns : tie.Need-returns Inv-loop μ-loop
 returns c =
-    let a = c .before .before .before .before .before .before .before .before .before .before .before .before .before .before .before .args in
     let l = c .before .before .before .before .before .before .before .before .before .loop in
     let u = c .enum-told .given in
-    let one = B.one (now (a .table)) (operations (now (a .codes)) (now (a .values))) (now (a .s)) (a .sizes) (a .flags) (a .k) (l .records) (l .b) (l .from) (l .inv .3) (omega arith) _ (c .before .before .before .before .before .before .before .le4 .ensures .0) in
-    let r = lost (λ (r : Record). r .count) one _ _ (sym (c .before .before .before .before .decode-batch .ensures .0) ∙ u .1) in
-    rw (B.stop _ _ _ _ _ _ _ _ _ (l .inv .3) (omega arith) _ (c .before .before .before .before .before .before .before .le4 .ensures .0) _ _ r) (u .1, tt)
+    rw (B.stop _ _ _ _ _ _ _ _ _ (l .inv .3) (omega arith) _ (c .before .before .before .before .before .before .before .le4 .ensures .0) _ _ (refused-by (c .before .before .before .before .decode-batch .ensures) (u .1))) (record { reply = u .1; left = tt })
 
 add-b : tie.Need-add-b Inv-loop μ-loop
 add-b c = search needs
@@ -69,12 +64,10 @@ loop-less c = search needs
 
 loop-again : tie.Need-loop-again Inv-loop μ-loop
 loop-again c =
-    let a = c .before .before .before .before .before .before .before .before .before .before .before .before .before .before .before .before .args in
     let l = c .before .before .before .before .before .before .before .before .before .before .loop in
     let w = c .before .before .before .before .before .decode-batch in
-    let one = B.one (now (a .table)) (operations (now (a .codes)) (now (a .values))) (now (a .s)) (a .sizes) (a .flags) (a .k) (l .records) (l .b) (l .from) (l .inv .3) (omega arith) _ (c .before .before .before .before .before .before .before .before .le4 .ensures .0) in
-    let r = got (λ (r : Record). r .count) one _ _ (sym (w .ensures .0) ∙ c .before .r .given .1) in
-    let q = held _ one _ _ (r .is) (w .ensures .1) in (
+    let r = found-by (w .ensures) (c .before .r .given .1) in
+    let q = r .holds in (
       omega arith,
       q .2,
       w .kept .1 .1 .1 .1 .1 .1 .1 .0 ∙ l .inv .2,
@@ -90,7 +83,7 @@ returns-2 c =
     let l = c .before .loop in
     let g = l .inv .3 in
     let e : a .k ≡ l .b = omega arith in
-    rw (B.done _ _ _ _ _ _ _ _ _ g (omega arith)) (ap (λ (n : ℕ). Found n (l .from)) (e ∙ sym (g .many)), (rw (g .size) (g .bytes), g .size ∙ rw (g .many)))
+    rw (B.done _ _ _ _ _ _ _ _ _ g (omega arith)) (record { reply = ap (λ (n : ℕ). Found n (l .from)) (e ∙ sym (g .many)); left = (rw (g .size) (g .bytes), g .size ∙ rw (g .many)) })
 
 pub decode-each-spec : {M : Type 1} → statement M
 decode-each-spec =

@@ -96,7 +96,7 @@ returns c =
     let a = c .before .before .before .before .before .before .before .before .before .before .before .before .before .before in
     let l = c .before .before .before .before .before .before .before .before .before .before .loop in
     let u = c .enum-told .given in
-    rw (G.walk-refused _ _ _ _ _ _ _ _ _ _ _ (l .inv) (omega arith) _ (c .before .before .before .before .before .before .group-number .ensures) (c .before .before .before .before .before .before .before .before .if1 .left) (a .pre .0 .1) _ _ (rw (u .1) at (c .before .before .place-immediates .ensures))) (u .1, tt)
+    rw (G.walk-refused _ _ _ _ _ _ _ _ _ _ _ (l .inv) (omega arith) _ (c .before .before .before .before .before .before .group-number .ensures) (c .before .before .before .before .before .before .before .before .if1 .left) (a .pre .0 .1) _ _ (rw (u .1) at (c .before .before .place-immediates .ensures))) (record { reply = u .1; left = tt })
 
 loop-less-2 : tie.Need-loop-less-2 Inv-loop μ-loop
 loop-less-2 c = omega (arith, (rw (c .before .r .given .1) at (c .before .before .before .place-immediates .ensures)) .up)
@@ -114,7 +114,7 @@ returns-2 c =
     let w = l .inv in
     let k = length-take-le (l .count) (l .groups) (omega (arith, w .up, w .under, G.eight _ _ (w .numbers))) in
     rw (w .walk ∙ G.done (now (a .table)) (a .b) _ (take (l .count) (l .groups)) (take (l .g) (l .groups)) (l .g) (l .left) (l .from) (omega arith))
-    (ap (λ n. Found n (l .from)) (sym k), (w .numbers, omega (arith, w .up, w .under), omega (arith, w .room)))
+    (record { reply = ap (λ n. Found n (l .from)) (sym k); left = (w .numbers, omega (arith, w .up, w .under), omega (arith, w .room)) })
 
 pub decode-groups-spec : {M : Type 1} → statement M
 decode-groups-spec =

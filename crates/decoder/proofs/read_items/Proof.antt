@@ -1,9 +1,8 @@
 use mathlib.Core.Path.{refl, sym, _∙_}
 use borrow.Author.Needs.{needs}
 use denote.Ref.{now}
-use lib.ListN.{length}
-use Rattle.rules.specs.Bytes.{opsAt, batchCountAt}
-use Rattle.decoder.proofs.Stages.{got, lost, held, count-found, count-lost}
+use Rattle.rules.specs.Bytes.{batchCountAt}
+use Rattle.decoder.proofs.Stages.{found-by, refused-by, count-found, count-lost}
 use Rattle.decoder.proofs.Ops.{items-lost, items-uncounted, items-13, items-good}
 use Rattle.decoder.proofs.read_items.Statement.{statement}
 use Rattle.decoder.proofs.read_items.Tie as tie
@@ -27,8 +26,7 @@ returns : tie.Need-returns
 returns c =
     let a = c .before .before .before .before .before .before .before .before .before .before .before .before .before .args in
     let t = c .enum-told .given in
-    let o = lost length (opsAt (now (a .table)) (now (a .s)) (a .n) (a .at) 0) (t .0 .0) (t .0 .1 .0) (sym (c .before .before .before .before .before .before .read-ops .ensures .0) ∙ t .1) in
-    rw (items-lost (now (a .table)) (now (a .s)) (a .n) (a .at) (a .room) _ _ o) (t .1, tt)
+    rw (items-lost (now (a .table)) (now (a .s)) (a .n) (a .at) (a .room) _ _ (refused-by (c .before .before .before .before .before .before .read-ops .ensures) (t .1))) (record { reply = t .1; left = tt })
 
 read-batch-count-requires : tie.Need-read-batch-count-requires
 read-batch-count-requires c κs = search needs
@@ -48,11 +46,10 @@ same-length-4 c = search needs
 returns-2 : tie.Need-returns-2
 returns-2 c =
     let a = c .before .before .before .before .before .before .before .before .before .before .before .before .before .before .before .before .before .args in
-    let t = c .before .before .before .before .r .given in
-    let o = got length (opsAt (now (a .table)) (now (a .s)) (a .n) (a .at) 0) (t .0 .0) (t .0 .1 .0) (sym (c .before .before .before .before .before .before .before .before .before .before .read-ops .ensures .0) ∙ t .1) in
+    let o = found-by (c .before .before .before .before .before .before .before .before .before .before .read-ops .ensures) (c .before .before .before .before .r .given .1) in
     let u = c .enum-told2 .given in
-    let k = count-lost (batchCountAt (now (a .s)) (t .0 .1 .0)) (u .0 .0) (u .0 .1 .0) (sym (c .before .before .read-batch-count .ensures) ∙ u .1) in
-    rw (items-uncounted (now (a .table)) (now (a .s)) (a .n) (a .at) (a .room) _ _ (o .is) _ _ k) (u .1, tt)
+    let k = count-lost (batchCountAt (now (a .s)) _) _ _ (sym (c .before .before .read-batch-count .ensures) ∙ u .1) in
+    rw (items-uncounted (now (a .table)) (now (a .s)) (a .n) (a .at) (a .room) _ _ (o .is) _ _ k) (record { reply = u .1; left = tt })
 
 same-length-5 : tie.Need-same-length-5
 same-length-5 c = search needs
@@ -63,11 +60,9 @@ same-length-6 c = search needs
 returns-3 : tie.Need-returns-3
 returns-3 c =
     let a = c .before .before .before .before .before .before .before .before .before .before .before .before .before .before .before .before .before .before .before .args in
-    let t = c .before .before .before .before .before .before .r .given in
-    let o = got length (opsAt (now (a .table)) (now (a .s)) (a .n) (a .at) 0) (t .0 .0) (t .0 .1 .0) (sym (c .before .before .before .before .before .before .before .before .before .before .before .before .read-ops .ensures .0) ∙ t .1) in
-    let u = c .before .before .c .given in
-    let k = count-found (batchCountAt (now (a .s)) (t .0 .1 .0)) (u .0 .0) (u .0 .1 .0) (sym (c .before .before .before .before .read-batch-count .ensures) ∙ u .1) in
-    rw (items-13 (now (a .table)) (now (a .s)) (a .n) (a .at) (a .room) _ _ (o .is) _ _ k (c .if1 .taken)) (refl, tt)
+    let o = found-by (c .before .before .before .before .before .before .before .before .before .before .before .before .read-ops .ensures) (c .before .before .before .before .before .before .r .given .1) in
+    let k = count-found (batchCountAt (now (a .s)) _) _ _ (sym (c .before .before .before .before .read-batch-count .ensures) ∙ c .before .before .c .given .1) in
+    rw (items-13 (now (a .table)) (now (a .s)) (a .n) (a .at) (a .room) _ _ (o .is) _ _ k (c .if1 .taken)) (record { reply = refl; left = tt })
 
 same-length-7 : tie.Need-same-length-7
 same-length-7 c = search needs
@@ -78,13 +73,9 @@ same-length-8 c = search needs
 returns-4 : tie.Need-returns-4
 returns-4 c =
     let a = c .before .before .before .before .before .before .before .before .before .before .before .before .before .before .before .before .before .before .before .args in
-    let t = c .before .before .before .before .before .before .r .given in
-    let d = opsAt (now (a .table)) (now (a .s)) (a .n) (a .at) 0 in
-    let o = got length d (t .0 .0) (t .0 .1 .0) (sym (c .before .before .before .before .before .before .before .before .before .before .before .before .read-ops .ensures .0) ∙ t .1) in
-    let u = c .before .before .c .given in
-    let k = count-found (batchCountAt (now (a .s)) (t .0 .1 .0)) (u .0 .0) (u .0 .1 .0) (sym (c .before .before .before .before .read-batch-count .ensures) ∙ u .1) in
-    rw (items-good (now (a .table)) (now (a .s)) (a .n) (a .at) (a .room) _ _ (o .is) _ _ k (c .if1 .left))
-    (refl, held _ d _ _ (o .is) (c .before .before .before .before .before .before .before .before .before .before .before .before .read-ops .ensures .1))
+    let o = found-by (c .before .before .before .before .before .before .before .before .before .before .before .before .read-ops .ensures) (c .before .before .before .before .before .before .r .given .1) in
+    let k = count-found (batchCountAt (now (a .s)) _) _ _ (sym (c .before .before .before .before .read-batch-count .ensures) ∙ c .before .before .c .given .1) in
+    rw (items-good (now (a .table)) (now (a .s)) (a .n) (a .at) (a .room) _ _ (o .is) _ _ k (c .if1 .left)) (record { reply = refl; left = o .holds })
 
 pub read-items-spec : {M : Type 1} → statement M
 read-items-spec =

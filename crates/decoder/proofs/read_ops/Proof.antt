@@ -52,7 +52,7 @@ returns c =
     let t = c .before .enum-told .given in
     let o = op-lost (opAt (now (a .table)) (now (a .s)) (l .from) (l .i)) (t .0 .0) (t .0 .1 .0) (sym (c .before .before .before .read-op .ensures) ∙ t .1) in
     rw (sym (l .inv .3) ∙ stop (now (a .table)) (now (a .s)) (a .n) (l .from) (l .i) (operations (take (l .i) (l .out-codes)) (take (l .i) (l .out-values))) (t .0 .0) (t .0 .1 .0) (omega arith) o)
-    (c .not-read .ensures ∙ ap handOp (t .1), tt)
+    (record { reply = c .not-read .ensures ∙ ap handOp (t .1); left = tt })
 
 slice-write-out-codes : tie.Need-slice-write-out-codes Inv-loop μ-loop
 slice-write-out-codes c = search needs
@@ -98,7 +98,7 @@ returns-2 c =
     let n : length (operations cs vs) ≡ a .n = length-operations cs vs q ∙ omega arith in
     let m : a .n ≡ l .i = omega arith in
     rw (sym (l .inv .3) ∙ done (now (a .table)) (now (a .s)) (a .n) (l .from) (l .i) (operations cs vs) (omega arith))
-    (rw n, (rw (n, codes-operations cs vs q, m), rw (n, values-operations cs vs q, m)))
+    (record { reply = rw n; left = (rw (n, codes-operations cs vs q, m), rw (n, values-operations cs vs q, m)) })
 
 pub read-ops-spec : {M : Type 1} → statement M
 read-ops-spec =
