@@ -15,7 +15,7 @@ use Rattle.rules.specs.Operations.{Op}
 use Rattle.rules.specs.Record.{Record, startsFrom, recordBy, wordBytes, recordBytes, recordsBytes}
 use Rattle.rules.specs.Block.{cut, slots, paddingRight, batchAt, batchesAt}
 use Rattle.rules.proofs.Runs.{fitted-length}
-use Rattle.decoder.specs.Replies.{sizesFrom, flagsFrom}
+use Rattle.decoder.specs.Stages.{sizesFrom, flagsFrom}
 use Rattle.decoder.proofs.Stages.{onto, onto-nil, onto-then, onto-found}
 use Rattle.decoder.proofs.Stores.{record-size, length-digits}
 

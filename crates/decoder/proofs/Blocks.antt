@@ -11,7 +11,7 @@ use Rattle.rules.specs.Record.{Record, Block}
 use Rattle.rules.specs.Bytes.{countAt, nibblesAt}
 use Rattle.rules.specs.Block.{Head, Layout, Room, headAt, layoutAt, batchesAt, batchesBy, blockAt}
 use Rattle.rules.specs.Functions.{decoded}
-use Rattle.decoder.specs.Replies.{itemsAt, recordsAt, sizesFrom, flagsFrom}
+use Rattle.decoder.specs.Stages.{itemsAt, recordsAt, sizesFrom, flagsFrom}
 use Rattle.decoder.proofs.Sizes.{Sized, flags-found}
 
 -- ---- items 4 and 5, and the records

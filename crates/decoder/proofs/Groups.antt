@@ -20,7 +20,7 @@ use Rattle.rules.specs.Block.{part, immediates, emptyBefore, slots}
 use Rattle.rules.proofs.Operations.{kind-at, operations-turn, operations-end, true-left, true-right}
 use Rattle.rules.proofs.Runs.{fitted-set, fitted-length}
 use Rattle.wire.proofs.Laws.{digits-turn, digits-end}
-use Rattle.decoder.specs.Replies.{Coded, glue, behind, onward, Placed}
+use Rattle.decoder.specs.Stages.{Coded, glue, behind, onward, Placed}
 use Rattle.decoder.proofs.Ops.{codes-operations, part-operations}
 
 -- ---- a group's number, from its last opcode on

@@ -8,7 +8,8 @@ use Rattle.rules.specs.Operations.{codes, values}
 use Rattle.rules.specs.Record.{Block, noBlock, recordsBytes}
 use Rattle.rules.specs.Functions.{Arena, filled, readLeft}
 use Rattle.rules.proofs.Runs.{zeroed}
-use Rattle.decoder.specs.Replies.{OpsIn, RecordsIn, Reading, decodedOf, tailless}
+use Rattle.decoder.specs.Replies.{decodedOf}
+use Rattle.decoder.specs.Stages.{OpsIn, RecordsIn, Reading, tailless}
 use Rattle.decoder.specs.declared.Decoded.{Decoded}
 use Rattle.decoder.specs.declared.Decoded.the-variants as whole
 use Rattle.decoder.proofs.Ops.{length-codes, length-values}

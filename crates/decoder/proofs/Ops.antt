@@ -19,7 +19,7 @@ use Rattle.rules.specs.Block.{Head, part}
 use Rattle.rules.proofs.Operations.{op, true-left, codes-back}
 use Rattle.wire.specs.declared.CountRead.{CountRead}
 use Rattle.wire.specs.declared.CountRead.the-variants as count
-use Rattle.decoder.specs.Replies.{IfFound, Staged, OpsIn, Coded, itemsAt}
+use Rattle.decoder.specs.Stages.{IfFound, Staged, OpsIn, Coded, itemsAt}
 use Rattle.decoder.proofs.Stages.{onto, onto-then, onto-found, if-then, if-refuse, held, found-by}
 
 -- ---- the operations of two runs

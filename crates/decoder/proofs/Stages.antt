@@ -13,7 +13,7 @@ use Rattle.wire.specs.Replies.{countReadOf, opReadOf}
 use Rattle.wire.specs.declared.CountRead.{CountRead}
 use Rattle.wire.specs.declared.CountRead.the-variants as count
 use Rattle.wire.specs.declared.OpRead.the-variants as one
-use Rattle.decoder.specs.Replies.{counted, IfFound, Staged}
+use Rattle.decoder.specs.Stages.{counted, IfFound, Staged}
 
 pub record Got {A : Type 0} (f : A → ℕ) (P : A → ℕ → Type 0) (d : Read A) (v next : ℕ) : Type 0 where
   pub item : A

@@ -12,8 +12,9 @@ ghost use Rattle.rules.specs.Record.{Record, Block, startsFrom, wordBytes, reco
 ghost use Rattle.rules.specs.Bytes.{opsAt, nibblesAt, upTo};
 ghost use Rattle.rules.specs.Block.{Head, immediates, slots, batchAt, batchesAt, blockAt};
 ghost use Rattle.rules.specs.Functions.{arena, roomIn, decoded};
-ghost use Rattle.decoder.specs.Replies.{counted, Staged, Reading, Decodes, handOp, handCount, tailless};
-ghost use Rattle.decoder.specs.Replies.{OpsIn, RecordsIn, Coded, itemsAt, recordsAt, sizesFrom, flagsFrom, Placing, PaddingRight};
+ghost use Rattle.decoder.specs.Replies.{Decodes};
+ghost use Rattle.decoder.specs.Stages.{counted, Staged, Reading, handOp, handCount, tailless};
+ghost use Rattle.decoder.specs.Stages.{OpsIn, RecordsIn, Coded, itemsAt, recordsAt, sizesFrom, flagsFrom, Placing, PaddingRight};
 use wire::CountRead;
 use wire::OpRead;
 

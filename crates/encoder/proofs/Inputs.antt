@@ -17,7 +17,7 @@ use Rattle.rules.proofs.Operations.{true-left, true-right}
 use Rattle.checks.specs.Batch.{Apt}
 use Rattle.checks.proofs.Walk.{equal-lengths, few-records}
 use Rattle.checks.proofs.Passed.{andThen, refuse-then, first-then, structureStage, admissibleStage, Structured, structured, apt}
-use Rattle.encoder.specs.Replies.{inputsChecked}
+use Rattle.encoder.specs.Parts.{inputsChecked}
 
 -- ---- the ways that the checks end
 

@@ -22,7 +22,7 @@ use Rattle.rules.proofs.Digits.{split, length-leBytes, sets-append}
 use Rattle.rules.proofs.Operations.{op, kind-at, length-operations, operations-turn, operations-end, true-left, true-right}
 use Rattle.wire.proofs.Laws.{more-0, more-1, more-2}
 use Rattle.checks.proofs.Walk.{records-turn, records-end}
-use Rattle.encoder.specs.Replies.{opsSize}
+use Rattle.encoder.specs.Parts.{opsSize}
 
 -- one list stored after another
 next : (l : List ℕ) (at : ℕ) (xs : List ℕ) (k : ℕ) (ys : List ℕ) → k ≡ at + length xs → sets (sets l at xs) k ys ≡ sets l at (xs ++ ys)

@@ -10,7 +10,8 @@ ghost use Rattle.rules.specs.Block.{blockBytes};
 ghost use Rattle.rules.specs.Functions.{arena, blockIn};
 ghost use Rattle.operation.specs.Verdict.{verdictOf};
 ghost use Rattle.checks.specs.Batch.{Apt};
-ghost use Rattle.encoder.specs.Replies.{Encodes, handVerdict, inputsChecked, opsSize, Right};
+ghost use Rattle.encoder.specs.Replies.{Encodes};
+ghost use Rattle.encoder.specs.Parts.{handVerdict, inputsChecked, opsSize, Right};
 use op_batch::RECORD;
 use operation::Verdict;
 

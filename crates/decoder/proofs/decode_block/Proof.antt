@@ -7,7 +7,7 @@ use lib.Seq.{length-take-le}
 use Rattle.rules.specs.Bytes.{countAt}
 use Rattle.rules.specs.Functions.{arena, roomIn}
 use Rattle.decoder.specs.declared.Decoded.the-variants.{Made}
-use Rattle.decoder.specs.Replies.{handCount}
+use Rattle.decoder.specs.Stages.{handCount}
 use Rattle.decoder.proofs.Stages.{found-by, refused-by, held, count-found, count-lost}
 use Rattle.decoder.proofs.Ops.{items-in, count-on}
 use Rattle.decoder.proofs.Blocks as B

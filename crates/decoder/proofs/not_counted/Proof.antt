@@ -1,6 +1,6 @@
 use mathlib.Core.Path.{sym, ap}
 use borrow.Author.Needs.{needs}
-use Rattle.decoder.specs.Replies.{handCount}
+use Rattle.decoder.specs.Stages.{handCount}
 use Rattle.decoder.proofs.not_counted.Statement.{statement}
 use Rattle.decoder.proofs.not_counted.Tie as tie
 

@@ -1,6 +1,6 @@
 use mathlib.Core.Path.{sym, ap}
 use borrow.Author.Needs.{needs}
-use Rattle.decoder.specs.Replies.{handOp}
+use Rattle.decoder.specs.Stages.{handOp}
 use Rattle.decoder.proofs.not_read.Statement.{statement}
 use Rattle.decoder.proofs.not_read.Tie as tie
 

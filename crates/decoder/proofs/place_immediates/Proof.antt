@@ -6,7 +6,7 @@ use denote.Ref.{now}
 use lib.ListN.{length}
 use Rattle.rules.specs.Operations.{operations}
 use Rattle.rules.specs.Block.{immediates}
-use Rattle.decoder.specs.Replies.{Placed}
+use Rattle.decoder.specs.Stages.{Placed}
 use Rattle.decoder.proofs.Groups as G
 use Rattle.decoder.proofs.place_immediates.Statement.{statement}
 use Rattle.decoder.proofs.place_immediates.Tie as tie

@@ -5,7 +5,8 @@ use denote.Ref.{now}
 use lib.ListN.{length}
 use Rattle.rules.specs.Functions.{arena, written}
 use Rattle.checks.proofs.Passed.{was-good, was-refused}
-use Rattle.encoder.specs.Replies.{encodedOf, inputsChecked, handVerdict}
+use Rattle.encoder.specs.Replies.{encodedOf}
+use Rattle.encoder.specs.Parts.{inputsChecked, handVerdict}
 use Rattle.encoder.specs.declared.Encoded.the-variants.{Written}
 use Rattle.encoder.proofs.Items.{long}
 use Rattle.encoder.proofs.Inputs.{inputs-good, encoded-refused, encoded-13, encoded-good}

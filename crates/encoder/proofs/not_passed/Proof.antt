@@ -1,6 +1,6 @@
 use mathlib.Core.Path.{sym, ap}
 use borrow.Author.Needs.{needs}
-use Rattle.encoder.specs.Replies.{handVerdict}
+use Rattle.encoder.specs.Parts.{handVerdict}
 use Rattle.encoder.proofs.not_passed.Statement.{statement}
 use Rattle.encoder.proofs.not_passed.Tie as tie
 

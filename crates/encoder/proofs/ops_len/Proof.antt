@@ -5,7 +5,7 @@ use native.Mathlib.Omega.{arith}
 use borrow.Author.Needs.{needs}
 use denote.Ref.{now}
 use lib.ListN.{length, drop}
-use Rattle.encoder.specs.Replies.{opsSize}
+use Rattle.encoder.specs.Parts.{opsSize}
 use Rattle.encoder.proofs.Items.{size-plain, size-valued, size-end}
 use Rattle.encoder.proofs.ops_len.Statement.{statement}
 use Rattle.encoder.proofs.ops_len.Tie as tie
