@@ -3,7 +3,7 @@
 // stored by not being stored: the runs come in all zero.
 ghost use mathlib.Core.Path.{_≡_};
 ghost use mathlib.Core.Bool.{true};
-ghost use Prim.Native.Nat.{ℕ, _+_, _*_, _-_, _≤_, _<_, _^_};
+ghost use Prim.Native.Nat.{_+_, _*_, _-_, _≤_, _<_, _^_};
 ghost use lib.ListN.{length, getD, set};
 ghost use Rattle.rules.specs.Batching.{target};
 ghost use Rattle.rules.specs.Record.{noBlock};
@@ -137,7 +137,7 @@ impl OpBatchAccumulator {
         let pad = self.padding();
         let cur = self.cur;
         let total = self.total + pad;
-        word::fill8(records, at + cur + 1, BATCH_SIZE - cur, total);
+        word::fill_few(records, at + cur + 1, BATCH_SIZE - cur, total);
         word::store8(records, at + FLAGS + cur, pad);
         word::store_le8(records, at + NUMBERS + 8 * cur, self.number);
         total

@@ -117,6 +117,32 @@ pub fn fill8(out: &mut [u8], at: usize, n: usize, v: u8)
     }
 }
 
+// Up to eight copies of a byte, by two stores that may overlap: no loop has to foresee how many there are.
+pub fn fill_few(out: &mut [u8], at: usize, n: usize, v: u8)
+    requires { ⌜ (at < 2 ^ 62) × (n ≤ 8) ⌝ }
+    ensures { λ _. ⌜ now (out .exit) ≡ sets (now (out .entry)) at (replicate n v) ⌝ }
+{
+    if out.len() < at + n {
+        fill8(out, at, n, v);
+        return;
+    }
+    if 4 <= n {
+        let same = wide(v) * 16843009;
+        put4(out, at, same);
+        put4(out, at + n - 4, same);
+        return;
+    }
+    if 2 <= n {
+        let same = wide(v) * 257;
+        put2(out, at, same);
+        put2(out, at + n - 2, same);
+        return;
+    }
+    if n == 1 {
+        out[at] = v;
+    }
+}
+
 // ---- zeroed tails: what the run begins with stays, up to index k
 
 pub fn zero_bytes(out: &mut [u8], k: usize)

@@ -11,17 +11,17 @@ padding-requires c κs = search needs
 add-total : tie.Need-add-total
 add-total c = search needs
 
-add-fill8 : tie.Need-add-fill8
-add-fill8 c = search needs
+add-fill-few : tie.Need-add-fill-few
+add-fill-few c = search needs
 
-add-fill8-2 : tie.Need-add-fill8-2
-add-fill8-2 c = search needs
+add-fill-few-2 : tie.Need-add-fill-few-2
+add-fill-few-2 c = search needs
 
-sub-fill8 : tie.Need-sub-fill8
-sub-fill8 c = search needs
+sub-fill-few : tie.Need-sub-fill-few
+sub-fill-few c = search needs
 
-fill8-requires : tie.Need-fill8-requires
-fill8-requires c κs = search needs
+fill-few-requires : tie.Need-fill-few-requires
+fill-few-requires c κs = search needs
 
 add-store8 : tie.Need-add-store8
 add-store8 c = search needs
@@ -51,7 +51,7 @@ returns : tie.Need-returns
 unfolding closedRun
 returns c =
     let e = c .before .before .before .before .before .before .before .before .before .before .before .before .before .padding .ensures .0 in
-    (ap (λ (k : ℕ). c .before .before .before .before .before .before .before .before .before .before .before .before .before .before .before .args .self .total + k) e, c .before .before .store-le8 .ensures ∙ rw (c .before .before .before .before .before .before .store8 .ensures, c .before .before .before .before .before .before .before .before .before .before .fill8 .ensures, e))
+    (ap (λ (k : ℕ). c .before .before .before .before .before .before .before .before .before .before .before .before .before .before .before .args .self .total + k) e, c .before .before .store-le8 .ensures ∙ rw (c .before .before .before .before .before .before .store8 .ensures, c .before .before .before .before .before .before .before .before .before .before .fill-few .ensures, e))
 
 pub close-spec : {M : Type 1} → statement M
 close-spec =
@@ -59,10 +59,10 @@ close-spec =
     (tie.spec
     padding-requires
     add-total
-    add-fill8
-    add-fill8-2
-    sub-fill8
-    fill8-requires
+    add-fill-few
+    add-fill-few-2
+    sub-fill-few
+    fill-few-requires
     add-store8
     add-store8-2
     store8-requires
