@@ -318,10 +318,10 @@ fn step(
 
 // ---- the fast path
 //
-// Nearly every operation closes nothing: it joins the current group, and its immediate, if it has one, takes the next free slot. `join_ops`
-// takes such operations one after the other and does with each what `step` does. It has in hand only what they change, so that all of it
-// stays in registers; it looks for room in the lent runs once; and it keeps a plain operation's value too, which is 0, in the next free slot,
-// which is 0, so that no branch depends on whether an operation has an immediate: that is what a processor cannot foresee.
+// The original has no counterpart to this. Nearly every operation closes nothing: it joins the current group, and its immediate, if it has
+// one, takes the next free slot. `join_ops` takes such operations one after the other and does with each what `step` does. It has in hand only
+// what they change, so that all of it stays in registers; it looks for room in the lent runs once; and it keeps a plain operation's value too,
+// which is 0, in the next free slot, which is 0, so that no branch depends on whether an operation has an immediate: no processor foresees it.
 
 // Operations that have joined: the work with them, and the place of the first that has not.
 struct Taken {
@@ -342,7 +342,7 @@ fn slots(table: &[u8], code: u8, v: u64, next: usize, left: usize) -> usize
     if 1 < kind {
         return 2;
     }
-    // the greatest value is 0 for kind 0, and below the field's size for kind 1
+    // the greatest value, 0 for kind 0 and below the field's size for kind 1, by a product where `value_right` has a branch
     if word::wide(kind) * (operation::FIELD - 1) < v {
         return 2;
     }
@@ -391,7 +391,7 @@ fn most(inside: usize, i: usize, len: usize) -> usize
     GROUP_SIZE - inside
 }
 
-// Whether the last of n operations has an immediate.
+// Whether the last of n operations has an immediate: looked up once they have joined, so that the loop has one thing less in hand.
 fn last_imm(table: &[u8], codes: &[u8], before: bool, i: usize, n: usize) -> bool
     requires { ⌜ (length (now table) ≡ 128) × (i + n ≤ length (now codes)) × (0 < n → getD (now codes) (i + n - 1) 0 < 128) ⌝ }
     ensures { λ r. ⌜ r ≡ lastImm (now (table .entry)) (now (codes .entry)) before i n ⌝ }
