@@ -99,7 +99,8 @@ pub record Numbers : Type 0 where
   pub at-end : read p2 20 ≡ refused 2 20
   pub past-end : read p2 21 ≡ refused 1 0
   pub four-left : read (1 ∷ 1 ∷ 0 ∷ 0 ∷ 0 ∷ 0 ∷ 0 ∷ 0 ∷ 0 ∷ []) 0 ≡ refused 5 0
-  -- what those leave open: the greedy rule's bounds, two batches' bytes, 5 before 3
+  -- what those leave open: the place of 2 where a value is cut short, the greedy rule's bounds, two batches' bytes, 5 before 3
+  pub value-cut : read (3 ∷ 1 ∷ 5 ∷ []) 0 ≡ refused 2 1
   pub plain-72 : build (twos 72) ≡ good (block (twos 72) (is (0 ∷ 9 ∷ 18 ∷ 27 ∷ 36 ∷ 45 ∷ 54 ∷ 63 ∷ 72 ∷ []) (replicate 8 0) (replicate 8 145249953336295682) 8 ∷ []))
   pub plain-73 : batchesIn (build (twos 73)) ≡ 2
   pub seven-and-two : batchesIn (build (pushes 7 ++ twos 2)) ≡ 1
@@ -151,6 +152,7 @@ numbers =
       at-end = refl;
       past-end = refl;
       four-left = refl;
+      value-cut = refl;
       plain-72 = refl;
       plain-73 = refl;
       seven-and-two = refl;
