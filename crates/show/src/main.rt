@@ -120,6 +120,13 @@ fn show_file(path: &[u8], at: usize) {
         os::fail(path);
         return;
     }
+    // a folder opens like a file, and only a read says that it is none
+    let mut nothing = [0u8; 0];
+    if libc::read(fd, &mut nothing) < 0 {
+        os::fail(path);
+        libc::close(fd);
+        return;
+    }
     let mut bytes = file_room();
     let n = io::read_full(fd, &mut bytes);
     libc::close(fd);
@@ -132,19 +139,24 @@ fn show_file(path: &[u8], at: usize) {
 
 // The offset that the second argument names; 0 where there is none.
 fn offset() -> Number {
-    let mut text = io::buffer();
-    let n = os::arg(2, &mut text);
-    if n == 0 {
+    if os::arg_count() < 3 {
         return Number::Is(0);
     }
+    let mut text = io::buffer();
+    let n = os::arg(2, &mut text);
     decimal(&text[..n])
 }
 
 fn main() {
+    let count = os::arg_count();
+    if count < 2 || 3 < count {
+        listing::say(b"usage: show FILE [OFFSET]\n");
+        return;
+    }
     let mut path = io::buffer();
     let n = os::arg(1, &mut path);
     if os::errno() != 0 {
-        listing::say(b"usage: show FILE [OFFSET]\n");
+        listing::say(b"show: the name of the file is too long\n");
         return;
     }
     let at = offset();
