@@ -11,3 +11,4 @@ pub mod Arena
 pub mod Again
 pub mod Demand3
 pub mod Passes
+pub mod Demand1

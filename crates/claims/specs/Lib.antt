@@ -1,3 +1,4 @@
 pub mod Shape
 pub mod Demand3
 pub mod Passes
+pub mod Demand1

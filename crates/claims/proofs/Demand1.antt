@@ -1,0 +1,401 @@
+-- Demand 1: every answer is a result or one of document 01's refusals, and a refusal leaves nothing behind. Assumes nothing.
+use mathlib.Core.Path.{_≡_, refl, sym, ap, _∙_, subst}
+use mathlib.Core.Logic.{_⊎_, inl, inr}
+use mathlib.Core.List.{List, [], _∷_, _++_, map}
+use mathlib.Core.Bool.{Bool, true, false, cond, not, _&&_, _||_}
+use Prim.Native.Nat.{ℕ, zero, suc, _+_, _-_, _/_, _≤_, _<_, _^_}
+use native.Mathlib.Omega.{arith}
+use borrow.Author.Tests.{ltb-false, leb-false}
+use lib.ListN.{length, getD, take, drop, replicate, length-map}
+use lib.Dec.{leb, ltb, eqb}
+use lib.Count.{trailingZeros}
+use Rattle.rules.specs.Lists.{total, fitted}
+use Rattle.rules.specs.Digits.{digits, leAt}
+use Rattle.rules.specs.Answer.{Answer, good, refused, Item, Read, found, refuse, refuseFirst, _then_}
+use Rattle.rules.specs.Operations.{Op, operations, field, assigned, valued, admissible, opFault, goodTable, codes, values}
+use Rattle.rules.specs.Batching.{batchesOf}
+use Rattle.rules.specs.Record.{Record, Block, noBlock, codesNumber, recordBy, blockOf, recordsBytes}
+use Rattle.rules.specs.Bytes.{least, countBy, countAt, valueAt, opAt, opsAt, batchCountAt, upTo, sizesAt, nibblesAt, bitsAt, flagsAt}
+use Rattle.rules.specs.Block.{Room, Head, Layout, blockBytes, part, cut, immediates, emptyBefore, slots, paddingRight, batchAt, batchesAt, headAt, layoutAt, batchesBy, blockAt}
+use Rattle.rules.specs.Checks.{Held, ninth, recordRight, structureFaults, heldFrom, held, paddingFault, paddingFaults, underCount, placingFault, begins, orElse, groupsFault, emptyZero, commitmentFault, commitmentFaults}
+use Rattle.rules.specs.Lookups.{groupOf, nextGroup}
+use Rattle.rules.specs.Functions.{Arena, arena, blockIn, within, filled, roomFor, built, blockLeft, encoded, written, decoded, readLeft, structureChecked, paddingChecked, commitmentChecked, tableOf, tableLeft, groupLookup, nextLookup}
+use Rattle.rules.proofs.Answer.{first-append}
+use Rattle.rules.proofs.Runs.{zeros-fitted}
+use Rattle.claims.specs.Demand1.{Refusal, _of_, OneOf, Replies, zeros, ops, batches, buildRefusals, encodeRefusals, decodeRefusals, structureRefusals, paddingRefusals, commitmentRefusals, tableRefusals, lookupRefusals, Demand1}
+
+-- ---- answers whose results have one property, and whose refusals another
+
+module _ (P : ℕ → ℕ → Type 0) where
+  abbrev Holds : {A : Type 0} → (A → Type 0) → Answer A → Type 0
+  Holds Q (good a) = Q a
+  Holds Q (refused n p) = P n p
+
+  module _ {A : Type 0} (Q : A → Type 0) where
+    by-refuse : (b : Bool) (n p : ℕ) (r : Answer A) → P n p → (b ≡ false → Holds Q r) → Holds Q (refuse b n p r)
+    by-refuse true n p r h k = h
+    by-refuse false n p r h k = k refl
+
+  by-then : {A B : Type 0} (Q : Item A → Type 0) (R : B → Type 0) (r : Read A) (f : A → ℕ → Answer B) → Holds Q r → ((i : Item A) → Q i → Holds R (f (i .item) (i .next))) → Holds R (r then f)
+  by-then Q R (good i) f h k = k i h
+  by-then Q R (refused n p) f h k = h
+
+  -- no fault, or one that may refuse with this place
+  abbrev Fault : ℕ → ℕ → Type 0
+  Fault n p = (n ≡ 0) ⊎ P n p
+
+  by-cond : (b : Bool) (n p : ℕ) → P n p → Fault (cond b 0 n) p
+  by-cond true n p h = inl refl
+  by-cond false n p h = inr h
+
+  by-first : {A B : Type 0} (Q : A → Type 0) (f : B → ℕ) (n : ℕ) → ((x : B) (p : ℕ) → p < n → Fault (f x) p) → (i : ℕ) (xs : List B) (r : Answer A) → i + length xs ≤ n → Holds Q r → Holds Q (refuseFirst i (map f xs) r)
+  unfolding refuseFirst
+  by-first Q f n h i [] r l k = k
+  by-first Q f n h i (x ∷ xs) r l k = go (f x) (h x i (omega arith)) (by-first Q f n h (i + 1) xs r (omega arith) k)
+    where
+      go : (m : ℕ) → Fault m i → Holds Q (refuseFirst (i + 1) (map f xs) r) → Holds Q (refuseFirst i (m ∷ map f xs) r)
+      go zero g ih = ih
+      go (suc m) (inl e) ih = absurd (omega arith)
+      go (suc m) (inr g) ih = g
+
+  -- ---- the checks' faults
+
+  -- "15": a batch, or the batch total
+  by-structure : {A : Type 0} (Q : A → Type 0) (w : ℕ) (b : Block) (r : Answer A) → ((p : ℕ) → p < length (b .records) + 1 → P 15 p) → Holds Q r → Holds Q (refuseFirst 0 (structureFaults w b) r)
+  unfolding structureFaults
+  by-structure Q w b r h k =
+      let f : Record → ℕ = λ (x : Record). cond (recordRight w x) 0 15 in
+      let c = eqb (total (map ninth (b .records))) (length (b .ops)) in
+      subst (Holds Q) (sym (first-append 0 (map f (b .records)) (cond c 0 15 ∷ []) r))
+      (by-first Q f (length (b .records) + 1) (λ x p l. by-cond (recordRight w x) 15 p (h p l)) 0 (b .records) (refuseFirst (0 + length (map f (b .records))) (cond c 0 15 ∷ []) r) (omega arith)
+      (by-first Q (λ (z : Bool). cond z 0 15) (length (b .records) + 1) (λ z p l. by-cond z 15 p (h p l)) (0 + length (map f (b .records))) (c ∷ []) r (omega (arith, length-map (b .records) f)) k))
+
+  by-ops : {A : Type 0} (Q : A → Type 0) (t : List ℕ) (xs : List Op) (r : Answer A) → ((p : ℕ) → p < length xs → P 4 p) → Holds Q r → Holds Q (refuseFirst 0 (map (opFault t) xs) r)
+  unfolding opFault
+  by-ops Q t xs r h k = by-first Q (opFault t) (length xs) (λ x p l. by-cond (admissible t x) 4 p (h p l)) 0 xs r (omega arith) k
+
+  by-orElse : (m n p : ℕ) → Fault m p → Fault n p → Fault (orElse m n) p
+  by-orElse zero n p h k = k
+  by-orElse (suc m) n p h k = h
+
+  by-placing : (k : ℕ) (gs : List (List Op)) (p : ℕ) → P 8 p → P 9 p → Fault (placingFault k gs) p
+  unfolding placingFault
+  by-placing zero gs p h₈ h₉ = inl refl
+  by-placing (suc k) [] p h₈ h₉ = inr h₈
+  by-placing (suc k) ([] ∷ gs) p h₈ h₉ = by-placing k gs p h₈ h₉
+  by-placing (suc k) ((x ∷ xs) ∷ gs) p h₈ h₉ = inr h₉
+
+  by-groups : (t : List ℕ) (gs : List (List Op)) (ns : List ℕ) (p : ℕ) → P 8 p → P 9 p → P 16 p → Fault (groupsFault t gs ns) p
+  unfolding groupsFault
+  by-groups t [] ns p h₈ h₉ h = inl refl
+  by-groups t (g ∷ gs) [] p h₈ h₉ h = inl refl
+  by-groups t ([] ∷ gs) (n ∷ ns) p h₈ h₉ h = by-groups t gs ns p h₈ h₉ h
+  by-groups t ((x ∷ xs) ∷ gs) (n ∷ ns) p h₈ h₉ h =
+      let vs = immediates t (x ∷ xs) in
+      by-orElse _ _ p (by-cond (eqb n (codesNumber (x ∷ xs))) 16 p h)
+      (by-orElse _ _ p (by-placing (length vs) gs p h₈ h₉)
+      (by-orElse _ _ p (by-cond (begins ns vs) 16 p h) (by-groups t gs ns p h₈ h₉ h)))
+
+  by-commitment : (t : List ℕ) (x : Held) (p : ℕ) → P 8 p → P 9 p → P 16 p → Fault (commitmentFault t x) p
+  unfolding commitmentFault
+  by-commitment t x p h₈ h₉ h =
+      by-orElse _ _ p (by-groups t (underCount x) (x .batch .numbers) p h₈ h₉ h) (by-cond (emptyZero t 0 (underCount x) (x .batch .numbers)) 16 p h)
+
+  -- ---- decode's stages
+
+  abbrev Any : {A : Type 0} → A → Type 0
+  Any a = Unit {0}
+
+  module _ (t : List ℕ) (b : ℕ) (h₈ : P 8 b) (h₉ : P 9 b) where
+    by-slots : (ns due : List ℕ) (xs : List Op) (at : ℕ) → Holds Any (slots t b ns due xs at)
+    unfolding slots
+    by-slots [] [] xs at = tt
+    by-slots [] (v ∷ due) xs at = h₈
+    by-slots (zero ∷ ns) [] xs at = by-then Any Any (slots t b ns [] xs at) _ (by-slots ns [] xs at) (λ i q. tt)
+    by-slots (zero ∷ ns) (v ∷ due) xs at = by-then Any Any (slots t b ns due xs at) _ (by-slots ns due xs at) (λ i q. tt)
+    by-slots (suc n ∷ ns) [] xs at = by-then Any Any (slots t b ns (immediates t (part (suc n) xs at)) xs (at + suc n)) _ (by-slots ns (immediates t (part (suc n) xs at)) xs (at + suc n)) (λ i q. tt)
+    by-slots (suc n ∷ ns) (v ∷ due) xs at = h₉
+
+  module _ (s : List ℕ) (two : (p : ℕ) → p ≤ length s → P 2 p) (three : P 3 0) (four : (p : ℕ) → p < 65535 → P 4 p) (five : P 5 0) (thirteen : P 13 0) where
+    -- the place after an item is in the buffer, or its end
+    abbrev Inside : {A : Type 0} → Item A → Type 0
+    Inside i = i .next ≤ length s
+
+    abbrev Counted : ℕ → Item ℕ → Type 0
+    Counted m i = (i .item ≤ m) × Inside i
+
+    by-count : (at : ℕ) → at ≤ length s → Holds (Counted 65535) (countAt s at)
+    unfolding countAt countBy
+    by-count at l = by-refuse (Counted 65535) (leb (length s) at) 2 at _ (two at l) (λ e. go (trailingZeros 8 (getD s at 0)))
+      where
+        go : (z : ℕ) → Holds (Counted 65535) (countBy z s at)
+        go z =
+            let v = leAt (z + 1) s at / 2 ^ (z + 1) in
+            by-refuse (Counted 65535) (ltb 2 z) 3 0 _ three λ e₁.
+            by-refuse (Counted 65535) (ltb (length s) (at + z + 1)) 2 at _ (two at l) λ e₂.
+            by-refuse (Counted 65535) (ltb v (least z)) 3 0 _ three λ e₃.
+            by-refuse (Counted 65535) (ltb 65535 v) 3 0 _ three λ e₄.
+            (ltb-false 65535 v e₄, ltb-false (length s) (at + z + 1) e₂)
+
+    by-op : (t : List ℕ) (at i : ℕ) → at ≤ length s → i < 65535 → Holds Inside (opAt t s at i)
+    unfolding opAt valueAt
+    by-op t at i l k =
+        by-refuse Inside (leb (length s) at) 2 at _ (two at l) λ e.
+        by-refuse Inside (not (assigned t (getD s at 0))) 4 i _ (four i k) λ e₁. go (valued t (getD s at 0)) (leb-false (length s) at e)
+      where
+        go : (v : Bool) → at < length s → Holds Inside (cond v (valueAt s at i (getD s at 0)) (found (record { code = getD s at 0; value = 0 }) (at + 1)))
+        go true m =
+            by-refuse Inside (ltb (length s) (at + 9)) 2 at _ (two at l) λ e.
+            by-refuse Inside (not (ltb (leAt 8 s (at + 1)) field)) 4 i _ (four i k) λ e₁. ltb-false (length s) (at + 9) e
+        go false m = omega arith
+
+    by-opsAt : (t : List ℕ) (n at i : ℕ) → at ≤ length s → i + n ≤ 65535 → Holds Inside (opsAt t s n at i)
+    unfolding opsAt
+    by-opsAt t zero at i l k = l
+    by-opsAt t (suc n) at i l k =
+        by-then Inside Inside (opAt t s at i) _ (by-op t at i l (omega arith)) λ x m.
+        by-then Inside Inside (opsAt t s n (x .next) (i + 1)) _ (by-opsAt t n (x .next) (i + 1) m (omega arith)) λ xs m₁. m₁
+
+    by-batchCount : (at : ℕ) → at ≤ length s → Holds (Counted 16384) (batchCountAt s at)
+    unfolding batchCountAt
+    by-batchCount at l =
+        by-refuse (Counted 16384) (ltb (length s) (at + 4)) 2 at _ (two at l) λ e.
+        by-refuse (Counted 16384) (ltb ((length s - (at + 4)) / 5) (leAt 4 s at)) 5 0 _ five λ e₁.
+        by-refuse (Counted 16384) (ltb 16384 (leAt 4 s at)) 3 0 _ three λ e₂. (ltb-false 16384 (leAt 4 s at) e₂, ltb-false (length s) (at + 4) e)
+
+    abbrev Batches : Item Head → Type 0
+    Batches h = h .item .batches ≤ 16384
+
+    by-head : (t : List ℕ) (at : ℕ) (room : Room) → at ≤ length s → Holds Batches (headAt t s at room)
+    unfolding headAt
+    by-head t at room l =
+        by-then (Counted 65535) Batches (countAt s at) _ (by-count at l) λ n q₁.
+        by-refuse Batches (not (leb (n .item) (room .codes) && leb (n .item) (room .values))) 13 0 _ thirteen λ e₁.
+        by-then Inside Batches (opsAt t s (n .item) (n .next) 0) _ (by-opsAt t (n .item) (n .next) 0 (q₁ .1) (omega (arith, q₁ .0))) λ xs q₂.
+        by-then (Counted 16384) Batches (batchCountAt s (xs .next)) _ (by-batchCount (xs .next) q₂) λ k q₃.
+        by-refuse Batches (ltb (room .records) (k .item)) 13 0 _ thirteen λ e₂. q₃ .0
+
+  module _ (s : List ℕ) (batch : (p : ℕ) → p < 16384 → P 6 p × P 7 p × P 8 p × P 9 p × P 10 p) (eleven : P 11 0) where
+    abbrev Length : ℕ → Item (List (List ℕ)) → Type 0
+    Length k i = length (i .item) ≡ k
+
+    by-nibbles : (w k at b : ℕ) → b + k ≤ 16384 → Holds (Length k) (nibblesAt w s k at b)
+    unfolding nibblesAt sizesAt
+    by-nibbles w zero at b l = refl
+    by-nibbles w (suc k) at b l =
+        let ns = digits 16 8 (leAt 4 s at) in
+        by-then Any (Length (suc k)) (sizesAt w s at b) _
+        (by-refuse Any (not (upTo 9 ns)) 6 b _ (batch b (omega arith) .0) λ e₁. by-refuse Any (not (upTo 0 (drop w ns))) 6 b _ (batch b (omega arith) .0) λ e₂. tt) λ i q.
+        by-then (Length k) (Length (suc k)) (nibblesAt w s k (i .next) (b + 1)) _ (by-nibbles w k (i .next) (b + 1) (omega arith)) λ j r. ap suc r
+
+    by-flags : (w k at b : ℕ) → b + k ≤ 16384 → Holds Any (flagsAt w s k at b)
+    unfolding flagsAt bitsAt
+    by-flags w zero at b l = tt
+    by-flags w (suc k) at b l =
+        by-then Any Any (bitsAt w s at b) _ (by-refuse Any (not (upTo 0 (drop w (digits 2 8 (getD s at 0))))) 6 b _ (batch b (omega arith) .0) λ e. tt) λ i q.
+        by-then Any Any (flagsAt w s k (i .next) (b + 1)) _ (by-flags w k (i .next) (b + 1) (omega arith)) λ j r. tt
+
+    abbrev Few : Item Layout → Type 0
+    Few l = length (l .item .sizes) ≤ 16384
+
+    by-layout : (w k at : ℕ) → k ≤ 16384 → Holds Few (layoutAt w s k at)
+    unfolding layoutAt
+    by-layout w k at l =
+        by-then (Length k) Few (nibblesAt w s k at 0) _ (by-nibbles w k at 0 (omega arith)) λ i q.
+        by-then Any Few (flagsAt w s k (i .next) 0) _ (by-flags w k (i .next) 0 (omega arith)) λ j r. omega (arith, q)
+
+    module _ (w : ℕ) (t : List ℕ) (xs : List Op) where
+      by-batch : (at b : ℕ) (ns fs : List ℕ) → b < 16384 → Holds Any (batchAt w t xs at b ns fs)
+      unfolding batchAt
+      by-batch at b ns fs l =
+          let h = batch b l in
+          by-refuse Any (ltb (length xs) (at + total ns)) 7 b _ (h .1) λ e₁.
+          by-then Any Any (slots t b (take w ns) [] xs at) _ (by-slots t b (h .2) (h .3) (take w ns) [] xs at) λ i q.
+          by-refuse Any (not (paddingRight (take (length (i .item)) (cut ns xs at)) fs)) 10 b _ (h .4) λ e₂. tt
+
+      by-batches : (nss fss : List (List ℕ)) (at b : ℕ) → b + length nss ≤ 16384 → Holds Any (batchesAt w t xs at b nss fss)
+      unfolding batchesAt
+      by-batches [] fss at b l = tt
+      by-batches (ns ∷ nss) [] at b l = tt
+      by-batches (ns ∷ nss) (fs ∷ fss) at b l =
+          by-then Any Any (batchAt w t xs at b ns fs) _ (by-batch at b ns fs (omega arith)) λ i q.
+          by-then Any Any (batchesAt w t xs (i .next) (b + 1) nss fss) _ (by-batches nss fss (i .next) (b + 1) (omega arith)) λ j r. tt
+
+      by-records : (l : Layout) → length (l .sizes) ≤ 16384 → Holds Any (batchesBy w t xs l)
+      unfolding batchesBy
+      by-records l k =
+          by-then Any Any (batchesAt w t xs 0 0 (l .sizes) (l .flags)) _ (by-batches (l .sizes) (l .flags) 0 0 (omega arith)) λ i q.
+          by-refuse Any (ltb (i .next) (length xs)) 11 0 _ eleven λ e. tt
+
+-- ---- the theorem
+
+module _ {A : Type 0} where
+  replies : (rs : List Refusal) (Q : A → Type 0) (d : Answer A) → Holds (OneOf rs) Q d → Replies rs d
+  replies rs Q (good a) h = tt
+  replies rs Q (refused n p) h = h
+
+filled-none : (a : Arena) → filled a noBlock ≡ zeros a
+unfolding filled noBlock codes values recordsBytes
+filled-none a = λ j. arena (sym (zeros-fitted (length (a .codes))) j) (sym (zeros-fitted (length (a .values))) j) (sym (zeros-fitted (length (a .records))) j)
+
+lists-same : (cs vs : List ℕ) → length (operations cs vs) ≤ length cs
+unfolding operations
+lists-same [] vs = omega arith
+lists-same (c ∷ cs) [] = omega arith
+lists-same (c ∷ cs) (v ∷ vs) = omega (arith, lists-same cs vs)
+
+-- the k-th of some refusals; past them one that has no place
+pick : ℕ → List Refusal → Refusal
+pick k [] = 0 of 0
+pick zero (r ∷ rs) = r
+pick (suc k) (r ∷ rs) = pick k rs
+
+listed : (k : ℕ) (rs : List Refusal) (p : ℕ) → p < pick k rs .places → OneOf rs (pick k rs .number) p
+unfolding pick
+listed k [] p l = absurd (omega arith)
+listed zero (r ∷ rs) p l = inl (refl, l)
+listed (suc k) (r ∷ rs) p l = inr (listed k rs p l)
+
+as-many : (rs : List Record) (xs : List Op) (at : ℕ) → length (heldFrom rs xs at) ≡ length rs
+unfolding heldFrom
+as-many [] xs at = refl
+as-many (r ∷ rs) xs at = ap suc (as-many rs xs (at + ninth r))
+
+module _ (w : ℕ) where
+  build : (t cs vs : List ℕ) (room : Room) → Replies (buildRefusals (length cs)) (built w t cs vs room)
+  unfolding built pick
+  build t cs vs room =
+      let rs = buildRefusals (length cs) in
+      let P = OneOf rs in
+      let Q : Block → Type 0 = Any P in
+      let b = blockOf (batchesOf w t (operations cs vs)) in
+      let l = lists-same cs vs in
+      replies rs Q (built w t cs vs room)
+      (by-refuse P Q (not (eqb (length cs) (length vs)) || ltb 16384 (length cs)) 3 0 _ (listed 0 rs 0 (omega arith)) λ e₁.
+      by-refuse P Q (not (goodTable t)) 14 0 _ (listed 1 rs 0 (omega arith)) λ e₂.
+      by-refuse P Q (eqb (length cs) 0) 12 0 _ (listed 2 rs 0 (omega arith)) λ e₃.
+      by-ops P Q t (operations cs vs) _ (λ p k. listed 3 rs p (omega arith))
+      (by-refuse P Q (not (roomFor b room)) 13 0 _ (listed 4 rs 0 (omega arith)) λ e₄. tt))
+
+  encode : (t : List ℕ) (a : Arena) (size at : ℕ) → Replies (encodeRefusals (ops a) (batches a)) (encoded w t a size at)
+  unfolding encoded pick
+  encode t a size at =
+      let rs = encodeRefusals (ops a) (batches a) in
+      let P = OneOf rs in
+      let Q : List ℕ → Type 0 = Any P in
+      let b = blockIn a in
+      replies rs Q (encoded w t a size at)
+      (by-refuse P Q (not (within a) || ltb 1048576 size) 3 0 _ (listed 0 rs 0 (omega arith)) λ e₁.
+      by-refuse P Q (not (goodTable t)) 14 0 _ (listed 1 rs 0 (omega arith)) λ e₂.
+      by-refuse P Q (ltb size at) 1 0 _ (listed 2 rs 0 (omega arith)) λ e₃.
+      by-structure P Q w b _ (λ p k. listed 3 rs p k)
+      (by-ops P Q t (b .ops) _ (λ p k. listed 4 rs p k)
+      (by-refuse P Q (ltb size (at + length (blockBytes t b))) 13 0 _ (listed 5 rs 0 (omega arith)) λ e₄. tt)))
+
+  decode : (t s : List ℕ) (at : ℕ) (room : Room) → Replies (decodeRefusals (length s)) (decoded w t s at room)
+  unfolding decoded blockAt pick
+  decode t s at room =
+      let rs = decodeRefusals (length s) in
+      let P = OneOf rs in
+      let Q : Item Block → Type 0 = Any P in
+      let two : (p : ℕ) → p ≤ length s → P 2 p = λ p l. listed 3 rs p (omega arith) in
+      let three : P 3 0 = listed 0 rs 0 (omega arith) in
+      let four : (p : ℕ) → p < 65535 → P 4 p = λ p l. listed 5 rs p l in
+      let batch : (p : ℕ) → p < 16384 → P 6 p × P 7 p × P 8 p × P 9 p × P 10 p = λ p l. (listed 7 rs p l, listed 8 rs p l, listed 9 rs p l, listed 10 rs p l, listed 11 rs p l) in
+      let eleven : P 11 0 = listed 12 rs 0 (omega arith) in
+      replies rs Q (decoded w t s at room)
+      (by-refuse P Q (ltb 1048576 (length s)) 3 0 _ three λ e₁.
+      by-refuse P Q (not (goodTable t)) 14 0 _ (listed 1 rs 0 (omega arith)) λ e₂.
+      by-refuse P Q (ltb (length s) at) 1 0 _ (listed 2 rs 0 (omega arith)) λ e₃.
+      by-then P _ Q (headAt t s at room) _ (by-head P s two three four (listed 6 rs 0 (omega arith)) (listed 4 rs 0 (omega arith)) t at room (ltb-false (length s) at e₃)) λ h q₁.
+      by-then P _ Q (layoutAt w s (h .item .batches) (h .next)) _ (by-layout P s batch eleven w (h .item .batches) (h .next) q₁) λ l q₂.
+      by-then P _ Q (batchesBy w t (h .item .ops) (l .item)) _ (by-records P s batch eleven w t (h .item .ops) (l .item) q₂) λ r q₃. tt)
+
+  structure : (a : Arena) → Replies (structureRefusals (batches a)) (structureChecked w a)
+  unfolding structureChecked pick
+  structure a =
+      let rs = structureRefusals (batches a) in
+      let P = OneOf rs in
+      let Q : Unit {0} → Type 0 = Any P in
+      replies rs Q (structureChecked w a) (by-refuse P Q (not (within a)) 3 0 _ (listed 0 rs 0 (omega arith)) λ e. by-structure P Q w (blockIn a) _ (λ p k. listed 1 rs p k) tt)
+
+  -- the padding check's faults, for the padding check and the tables
+  by-padding : (P : ℕ → ℕ → Type 0) {A : Type 0} (Q : A → Type 0) (b : Block) (r : Answer A) → ((p : ℕ) → p < length (b .records) → P 10 p) → Holds P Q r → Holds P Q (refuseFirst 0 (paddingFaults b) r)
+  unfolding paddingFaults paddingFault held
+  by-padding P Q b r h k =
+      by-first P Q paddingFault (length (b .records)) (λ x p l. by-cond P (paddingRight (underCount x) (x .batch .flags)) 10 p (h p l)) 0 (held b) r (omega (arith, as-many (b .records) (b .ops) 0)) k
+
+  padding : (a : Arena) → Replies (paddingRefusals (batches a)) (paddingChecked w a)
+  unfolding paddingChecked pick
+  padding a =
+      let rs = paddingRefusals (batches a) in
+      let P = OneOf rs in
+      let Q : Unit {0} → Type 0 = Any P in
+      replies rs Q (paddingChecked w a)
+      (by-refuse P Q (not (within a)) 3 0 _ (listed 0 rs 0 (omega arith)) λ e.
+      by-structure P Q w (blockIn a) _ (λ p k. listed 1 rs p k) (by-padding P Q (blockIn a) _ (λ p k. listed 2 rs p k) tt))
+
+  commitment : (t : List ℕ) (a : Arena) → Replies (commitmentRefusals (ops a) (batches a)) (commitmentChecked w t a)
+  unfolding commitmentChecked commitmentFaults held pick
+  commitment t a =
+      let rs = commitmentRefusals (ops a) (batches a) in
+      let P = OneOf rs in
+      let Q : Unit {0} → Type 0 = Any P in
+      let b = blockIn a in
+      replies rs Q (commitmentChecked w t a)
+      (by-refuse P Q (not (within a)) 3 0 _ (listed 0 rs 0 (omega arith)) λ e₁.
+      by-refuse P Q (not (goodTable t)) 14 0 _ (listed 1 rs 0 (omega arith)) λ e₂.
+      by-structure P Q w b _ (λ p k. listed 2 rs p k)
+      (by-ops P Q t (b .ops) _ (λ p k. listed 3 rs p k)
+      (by-first P Q (commitmentFault t) (batches a) (λ x p k. by-commitment P t x p (listed 5 rs p k) (listed 6 rs p k) (listed 4 rs p k)) 0 (held b) _ (omega (arith, as-many (b .records) (b .ops) 0)) tt)))
+
+  table : (entries : Block → List ℕ) (a : Arena) (room : ℕ) → Replies (tableRefusals (batches a)) (tableOf entries w a room)
+  unfolding tableOf pick
+  table entries a room =
+      let rs = tableRefusals (batches a) in
+      let P = OneOf rs in
+      let Q : List ℕ → Type 0 = Any P in
+      replies rs Q (tableOf entries w a room)
+      (by-refuse P Q (not (within a)) 3 0 _ (listed 0 rs 0 (omega arith)) λ e₁.
+      by-structure P Q w (blockIn a) _ (λ p k. listed 1 rs p k)
+      (by-padding P Q (blockIn a) _ (λ p k. listed 2 rs p k)
+      (by-refuse P Q (ltb room (length (entries (blockIn a)))) 13 0 _ (listed 3 rs 0 (omega arith)) λ e₂. tt)))
+
+  module _ {A : Type 0} where
+    lookup : (b : Bool) (a : A) → Replies lookupRefusals (refuse b 15 0 (good a))
+    lookup true a = inl (refl, omega arith)
+    lookup false a = tt
+
+  group : (r : Record) (i : ℕ) → Replies lookupRefusals (groupLookup w r i)
+  unfolding groupLookup
+  group r i = lookup (not (recordRight w r)) (groupOf r i)
+
+  next : (r : Record) (g : ℕ) → Replies lookupRefusals (nextLookup w r g)
+  unfolding nextLookup
+  next r g = lookup (not (recordRight w r)) (nextGroup r g)
+
+  table-zeroes : (out : List ℕ) (n p : ℕ) → tableLeft out (refused n p) ≡ replicate (length out) 0
+  unfolding tableLeft
+  table-zeroes out n p = sym (zeros-fitted (length out))
+
+  nothing-written : (out : List ℕ) (at n p : ℕ) → written out at (refused n p) ≡ out
+  unfolding written
+  nothing-written out at n p = refl
+
+  pub demand1 : Demand1 w
+  demand1 =
+      record {
+        build = build;
+        encode = encode;
+        decode = decode;
+        structure = structure;
+        padding = padding;
+        commitment = commitment;
+        table = table;
+        group = group;
+        next = next;
+        build-zeroes = λ a n p. filled-none a;
+        decode-zeroes = λ a n p. filled-none a;
+        table-zeroes = table-zeroes;
+        encode-changes-nothing = nothing-written;
+      }
