@@ -1,18 +1,18 @@
 -- What decoding takes passes every check of encoding, and lies in an arena as it is. Assumes nothing.
 use mathlib.Core.Path.{_≡_, refl, sym, ap, _∙_}
-use mathlib.Core.List.{List, [], _∷_, _++_, map}
-use mathlib.Core.Bool.{Bool, true, false, cond, not, _&&_}
-use Prim.Native.Nat.{ℕ, zero, suc, _+_, _-_, _*_, _/_, _%_, _^_, _≤_, _<_, zero-le}
-use native.Mathlib.Nat.{zero-add, pow-zero, pow-succ', mul-suc, mul-le-mul-left, pow-le-pow-right}
+use mathlib.Core.List.{List, [], _∷_, map}
+use mathlib.Core.Bool.{Bool, true, false, cond, not}
+use Prim.Native.Nat.{ℕ, zero, suc, _+_, _-_, _/_, _%_, _^_, _≤_, _<_, zero-le}
+use native.Mathlib.Nat.{zero-add, pow-le-pow-right}
 use native.Mathlib.Omega.{arith}
-use borrow.Author.Tests.{ltb-false, leb-true, leb-false, lt-ltb, le-leb, eq-eqb, not-false}
-use lib.ListN.{length, getD, take, drop, length-take, length-drop, length-map}
+use borrow.Author.Tests.{ltb-false, leb-true, le-leb, eq-eqb, not-false}
+use lib.ListN.{length, getD, take, drop, length-take, length-map}
 use lib.Dec.{leb, ltb, eqb}
 use lib.Count.{trailingZeros}
-use Rattle.rules.specs.Lists.{fitted, total, every}
+use Rattle.rules.specs.Lists.{total, every}
 use Rattle.rules.specs.Digits.{digits, number, leAt}
-use Rattle.rules.specs.Answer.{Read, found, refused, _then_, refuse}
-use Rattle.rules.specs.Operations.{Op, codes, field, kindOf, assigned, valued, hasImmediate, valueRight, goodTable, admissible}
+use Rattle.rules.specs.Answer.{found}
+use Rattle.rules.specs.Operations.{Op, codes, field, assigned, valued, hasImmediate, valueRight, goodTable, admissible}
 use Rattle.rules.specs.Record.{Record, Block, startsFrom, codesNumber, recordBy}
 use Rattle.rules.specs.Bytes.{countBy, countAt, valueAt, opAt, opsAt, batchCountAt, upTo, sizesAt, bitsAt, nibblesAt, flagsAt}
 use Rattle.rules.specs.Block.{Room, part, emptyBefore, slots, cut, paddingRight, batchAt, batchesAt, immediates}
@@ -21,9 +21,8 @@ use Rattle.rules.specs.Functions.{decoded}
 use Rattle.rules.proofs.Answer.{item, settle}
 use Rattle.rules.proofs.Digits.{length-digits}
 use Rattle.rules.proofs.Runs.{fitted-length}
-use Rattle.rules.proofs.Operations.{Admissible, to-admissible, true-left, true-right}
+use Rattle.rules.proofs.Operations.{to-admissible, true-left, true-right}
 use Rattle.claims.specs.Shape.{All}
-use Rattle.claims.proofs.Lists.{all-append, all-left}
 use Rattle.claims.proofs.Found.{clash, passed, came, Found, stages}
 use Rattle.claims.proofs.Arena.{Sized}
 use Rattle.claims.proofs.Back.{number-small, all-fitted}
@@ -77,14 +76,14 @@ total-split zero ks = zero-add (total ks)
 total-split (suc j) [] = refl
 total-split (suc j) (k ∷ ks) = omega (arith, total-split j ks)
 
-start-at : (j n : ℕ) (ks : List ℕ) → j ≤ length ks → getD (startsFrom n ks) j 0 ≡ n + total (take j ks)
+pub start-at : (j n : ℕ) (ks : List ℕ) → j ≤ length ks → getD (startsFrom n ks) j 0 ≡ n + total (take j ks)
 unfolding startsFrom total
 start-at zero n [] h = omega arith
 start-at (suc j) n [] h = absurd (omega arith)
 start-at zero n (k ∷ ks) h = omega arith
 start-at (suc j) n (k ∷ ks) h = start-at j (n + k) ks (omega arith) ∙ omega arith
 
-take-total : (ks : List ℕ) (n : ℕ) → length ks ≡ n → total (take n ks) ≡ total ks
+pub take-total : (ks : List ℕ) (n : ℕ) → length ks ≡ n → total (take n ks) ≡ total ks
 unfolding total
 take-total [] zero h = refl
 take-total [] (suc n) h = absurd (omega arith)
@@ -123,7 +122,7 @@ unfolding recordBy
 ninth-is w ns fs vs z = let m = z .many in omega (arith, start-at 8 0 ns (omega arith), take-total ns 8 m)
 
 -- a batch laid in the front of sizes that are 0 after it
-laid-front : (w : ℕ) (ns : List ℕ) (at : ℕ) (vs : List ℕ) (end : ℕ) → total (drop w ns) ≡ 0 → Laid (take w ns) at vs end → Laid ns at vs end
+pub laid-front : (w : ℕ) (ns : List ℕ) (at : ℕ) (vs : List ℕ) (end : ℕ) → total (drop w ns) ≡ 0 → Laid (take w ns) at vs end → Laid ns at vs end
 laid-front w ns at vs end z l =
     let a = l .rest in
     let b = l .after in

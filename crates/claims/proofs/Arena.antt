@@ -1,8 +1,8 @@
 -- A block that lies in an arena is read as it was written. Assumes nothing.
 use mathlib.Core.Path.{_≡_, refl, sym, ap, ap₂, _∙_}
 use mathlib.Core.List.{List, [], _∷_, _++_, append-assoc, append-nil, map}
-use mathlib.Core.Bool.{Bool, true, false, _&&_}
-use Prim.Native.Nat.{ℕ, zero, suc, _+_, _-_, _*_, _/_, _%_, _^_, _≤_, _<_}
+use mathlib.Core.Bool.{true, _&&_}
+use Prim.Native.Nat.{ℕ, zero, suc, _+_, _*_, _/_, _%_, _^_, _≤_, _<_}
 use native.Mathlib.Omega.{arith}
 use borrow.Author.Tests.{eq-eqb, le-leb, leb-true}
 use lib.ListN.{length, getD, take, length-append, length-map}
@@ -10,10 +10,10 @@ use lib.Seq.{append-snoc, getD-append-seam}
 use lib.Dec.{leb}
 use Rattle.rules.specs.Lists.{fitted}
 use Rattle.rules.specs.Digits.{leAt, leBytes}
-use Rattle.rules.specs.Operations.{Op, operations, codes, values}
+use Rattle.rules.specs.Operations.{Op, codes, values}
 use Rattle.rules.specs.Record.{Record, Block, wordBytes, recordBytes, recordsBytes, bytesAt, wordsAt, recordAt, recordsFrom, recordsIn}
 use Rattle.rules.specs.Block.{Room}
-use Rattle.rules.specs.Functions.{Arena, arena, blockIn, within, roomIn, filled, roomFor}
+use Rattle.rules.specs.Functions.{Arena, blockIn, within, roomIn, filled, roomFor}
 use Rattle.rules.proofs.Digits.{leAt-back, length-leBytes}
 use Rattle.rules.proofs.Operations.{codes-back, true-left, true-right}
 use Rattle.claims.specs.Shape.{All}
@@ -120,6 +120,19 @@ lent-within b h few less =
       le-leb (82 * length (b .records) / 82) 16384 (omega arith),
     )
 
+-- ---- room for a block
+
+pub roomed : (b : Block) (room : Room) → roomFor b room ≡ true → (length (b .ops) ≤ room .codes) × (length (b .ops) ≤ room .values) × (length (b .records) ≤ room .records)
+unfolding roomFor
+roomed b room h =
+    let n = length (b .ops) in
+    let k = length (b .records) in
+    let rest = true-right (leb n (room .codes)) (leb n (room .values) && leb k (room .records)) h in (
+      leb-true n (room .codes) (true-left (leb n (room .codes)) (leb n (room .values) && leb k (room .records)) h),
+      leb-true n (room .values) (true-left (leb n (room .values)) (leb k (room .records)) rest),
+      leb-true k (room .records) (true-right (leb n (room .values)) (leb k (room .records)) rest),
+    )
+
 -- ---- what a function leaves in lent runs, cut at the lengths that it replies, is the block
 
 fitted-front : (n : ℕ) (xs : List ℕ) → length xs ≤ n → take (length xs) (fitted n xs) ≡ xs
@@ -132,18 +145,16 @@ front-at : (n k : ℕ) (xs : List ℕ) → length xs ≡ k → k ≤ n → take 
 front-at n k xs e h = rw (sym e) (fitted-front n xs (omega arith))
 
 pub front-lent : (a : Arena) (b : Block) → All Sized (b .records) → roomFor b (roomIn a) ≡ true → front b (filled a b) ≡ lent b
-unfolding roomFor roomIn filled codes values
+unfolding roomIn filled codes values
 front-lent a b h r =
     let n = length (b .ops) in
     let k = length (b .records) in
     let c : length (map (λ (x : Op). x .code) (b .ops)) ≡ n = length-map (b .ops) (λ (x : Op). x .code) in
     let v : length (map (λ (x : Op). x .value) (b .ops)) ≡ n = length-map (b .ops) (λ (x : Op). x .value) in
-    let r₁ = leb-true n (length (a .codes)) (true-left (leb n (length (a .codes))) (leb n (length (a .values)) && leb k (length (a .records) / 82)) r) in
-    let rest = true-right (leb n (length (a .codes))) (leb n (length (a .values)) && leb k (length (a .records) / 82)) r in
-    let r₂ = leb-true n (length (a .values)) (true-left (leb n (length (a .values))) (leb k (length (a .records) / 82)) rest) in
-    let r₃ = leb-true k (length (a .records) / 82) (true-right (leb n (length (a .values))) (leb k (length (a .records) / 82)) rest) in
+    let fits = roomed b (roomIn a) r in
+    let enough : k ≤ length (a .records) / 82 = fits .2 in
     λ j. record {
-      codes = front-at (length (a .codes)) n (map (λ (x : Op). x .code) (b .ops)) c r₁ j;
-      values = front-at (length (a .values)) n (map (λ (x : Op). x .value) (b .ops)) v r₂ j;
+      codes = front-at (length (a .codes)) n (map (λ (x : Op). x .code) (b .ops)) c (fits .0) j;
+      values = front-at (length (a .values)) n (map (λ (x : Op). x .value) (b .ops)) v (fits .1) j;
       records = front-at (length (a .records)) (82 * k) (recordsBytes (b .records)) (records-length (b .records) h) (omega arith) j;
     }

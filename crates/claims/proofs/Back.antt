@@ -1,27 +1,24 @@
 -- Decoding the bytes written for batches gives their records and operations. Assumes nothing.
 use mathlib.Core.Path.{_≡_, refl, sym, ap, _∙_}
 use mathlib.Core.List.{List, [], _∷_, _++_, append-assoc, append-nil, map}
-use mathlib.Core.Bool.{Bool, true, false, cond, not, _&&_}
-use Prim.Native.Nat.{ℕ, zero, suc, _+_, _-_, _*_, _/_, _%_, _^_, _≤_, _<_}
+use mathlib.Core.Bool.{true, false}
+use Prim.Native.Nat.{ℕ, zero, suc, _+_, _-_, _*_, _^_, _≤_, _<_}
 use native.Mathlib.Nat.{add-zero, add-assoc, zero-add, pow-zero, pow-succ', mul-suc, mul-le-mul-left}
-use native.Mathlib.Numerals.{add-one}
 use native.Mathlib.Omega.{arith}
-use borrow.Author.Tests.{eq-eqb, ne-eqb, lt-leb, le-leb, lt-ltb, le-ltb, eqb-true}
-use lib.ListN.{length, getD, take, drop, replicate, length-append, length-map, length-replicate}
+use borrow.Author.Tests.{eq-eqb, le-leb, le-ltb}
+use lib.ListN.{length, getD, take, drop, replicate, length-append, length-map}
 use lib.Seq.{getD-append-seam, append-snoc, take-append-seam, drop-append-seam, take-append-add, drop-append-add}
-use lib.Dec.{leb, ltb, eqb}
 use Rattle.rules.specs.Lists.{fitted, total, every}
-use Rattle.rules.specs.Digits.{digits, number, leAt, leBytes}
-use Rattle.rules.specs.Answer.{Read, found, refused, _then_, refuse}
-use Rattle.rules.specs.Operations.{Op, noop, hasImmediate, goodTable}
+use Rattle.rules.specs.Digits.{digits, number, leBytes}
+use Rattle.rules.specs.Answer.{found}
+use Rattle.rules.specs.Operations.{Op, noop, goodTable}
 use Rattle.rules.specs.Batching.{Group, ops, imm}
 use Rattle.rules.specs.Record.{Record, opsIn, opsOf, paddedOf, sizeOf, flagOf, codesNumber, numberOf, startsFrom, recordBy, recordOf, Block, blockOf, differences}
 use Rattle.rules.specs.Bytes.{countAt, countBytes, opsAt, opsBytes, batchCountAt, nibbleBytes, flagBytes, upTo, sizesAt, bitsAt, nibblesAt, flagsAt}
 use Rattle.rules.specs.Block.{Room, blockBytes, part, emptyBefore, slots, cut, endsInNoop, paddingRight, batchAt, batchesAt, headAt, layoutAt, batchesBy, blockAt, immediates}
 use Rattle.rules.specs.Functions.{decoded}
-use Rattle.claims.specs.Shape.{All, EndsInNoop, RightOps, RightGroup, Follow, RightBatch}
+use Rattle.claims.specs.Shape.{All, EndsInNoop, RightGroup, Follow}
 use Rattle.rules.proofs.Runs.{fitted-length, zeros-fitted}
-use Rattle.claims.proofs.Lists.{split, all-append}
 use Rattle.claims.proofs.Stands.{Stands, here, first-of, rest-of, stands-fits}
 use Rattle.claims.proofs.Bytes.{digits-number, count-back, ops-back, batchCount-stands}
 use Rattle.rules.proofs.Digits.{length-digits, leAt-back}
@@ -328,15 +325,16 @@ module _ (w : ℕ) (w8 : w ≤ 8) where
         le-ltb (length xs) (length xs) (omega arith),
       )
 
-  pub block-back : (t : List ℕ) (bs : List (List Group)) (s : List ℕ) (at : ℕ) (room : Room)
-      → All (Writable t) bs → All (Admissible t) (paddedOf bs) → length (paddedOf bs) ≤ 65535 → length bs ≤ 16384
-      → Stands (blockBytes t (blockOf bs)) s at → Enough t s at room (length (paddedOf bs)) (length bs)
-      → decoded w t s at room ≡ found (blockOf bs) (at + length (blockBytes t (blockOf bs)))
-  unfolding blockBytes blockOf
-  block-back t bs s at room wr ok few less st h =
-      let xs = paddedOf bs in
-      let rs = map recordOf bs in
-      let k : length rs ≡ length bs = length-map bs recordOf in
+  -- the bytes of a block whose batches are read as `out`
+  pub read-back : (t : List ℕ) (blk : Block) (out : List Record) (s : List ℕ) (at : ℕ) (room : Room)
+      → All Wire (blk .records) → All (Admissible t) (blk .ops) → length (blk .ops) ≤ 65535 → length (blk .records) ≤ 16384
+      → batchesAt w t (blk .ops) 0 0 (map sizesOf (blk .records)) (map (λ r. r .flags) (blk .records)) ≡ found out (length (blk .ops))
+      → Stands (blockBytes t blk) s at → Enough t s at room (length (blk .ops)) (length (blk .records))
+      → decoded w t s at room ≡ found (record { ops = blk .ops; records = out }) (at + length (blockBytes t blk))
+  unfolding blockBytes
+  read-back t blk out s at room wr ok few less e₆ st h =
+      let xs = blk .ops in
+      let rs = blk .records in
       let c = countBytes (length xs) in
       let o = opsBytes t xs in
       let b = leBytes 4 (length rs) in
@@ -356,10 +354,18 @@ module _ (w : ℕ) (w8 : w ≤ 8) where
       let fits = stands-fits f s a₄ s₄ in
       let e₁ : countAt s at ≡ found (length xs) a₁ = here (λ s at. countAt s at ≡ found (length xs) (at + length c)) c s at (first-of c (o ++ (b ++ (m ++ f))) s at st) (λ p q. count-back (length xs) p q few) in
       let e₂ : opsAt t s (length xs) a₁ 0 ≡ found xs a₂ = here (λ s at. opsAt t s (length xs) at 0 ≡ found xs (at + length o)) o s a₁ (first-of o (b ++ (m ++ f)) s a₁ s₁) (λ p q. ops-back t p q xs 0 ok) in
-      let e₃ : batchCountAt s a₂ ≡ found (length rs) a₃ = batchCount-stands (length rs) s a₂ (first-of b (m ++ f) s a₂ s₂) (omega arith) (omega arith) in
-      let e₄ : nibblesAt w s (length rs) a₃ 0 ≡ found (map sizesOf rs) a₄ = here (λ s at. nibblesAt w s (length rs) at 0 ≡ found (map sizesOf rs) (at + length m)) m s a₃ (first-of m f s a₃ s₃) (λ p q. nibbles-back rs p q 0 (wires t bs wr)) in
-      let e₅ : flagsAt w s (length rs) a₄ 0 ≡ found (map (λ r. r .flags) rs) (a₄ + length f) = here (λ s at. flagsAt w s (length rs) at 0 ≡ found (map (λ r. r .flags) rs) (at + length f)) f s a₄ s₄ (λ p q. flags-back rs p q 0 (wires t bs wr)) in
-      let e₆ : batchesAt w t xs 0 0 (map sizesOf rs) (map (λ r. r .flags) rs) ≡ found rs (length xs) = rw (append-nil xs, zero-add) at (batches-back t bs 0 [] [] wr) in
+      let e₃ : batchCountAt s a₂ ≡ found (length rs) a₃ = batchCount-stands (length rs) s a₂ (first-of b (m ++ f) s a₂ s₂) less (omega arith) in
+      let e₄ : nibblesAt w s (length rs) a₃ 0 ≡ found (map sizesOf rs) a₄ = here (λ s at. nibblesAt w s (length rs) at 0 ≡ found (map sizesOf rs) (at + length m)) m s a₃ (first-of m f s a₃ s₃) (λ p q. nibbles-back rs p q 0 wr) in
+      let e₅ : flagsAt w s (length rs) a₄ 0 ≡ found (map (λ r. r .flags) rs) (a₄ + length f) = here (λ s at. flagsAt w s (length rs) at 0 ≡ found (map (λ r. r .flags) rs) (at + length f)) f s a₄ s₄ (λ p q. flags-back rs p q 0 wr) in
       let l : a₄ + length f ≡ at + length (c ++ (o ++ (b ++ (m ++ f)))) = simp length-append (omega arith) in
-      way t s at room (length xs) a₁ a₂ (length rs) a₃ a₄ (a₄ + length f) xs (map sizesOf rs) (map (λ r. r .flags) rs) rs (rw (sym k) at h) e₁ e₂ e₃ e₄ e₅ e₆
-      ∙ ap (found (record { ops = xs; records = rs })) l
+      way t s at room (length xs) a₁ a₂ (length rs) a₃ a₄ (a₄ + length f) xs (map sizesOf rs) (map (λ r. r .flags) rs) out h e₁ e₂ e₃ e₄ e₅ e₆
+      ∙ ap (found (record { ops = xs; records = out })) l
+
+  pub block-back : (t : List ℕ) (bs : List (List Group)) (s : List ℕ) (at : ℕ) (room : Room)
+      → All (Writable t) bs → All (Admissible t) (paddedOf bs) → length (paddedOf bs) ≤ 65535 → length bs ≤ 16384
+      → Stands (blockBytes t (blockOf bs)) s at → Enough t s at room (length (paddedOf bs)) (length bs)
+      → decoded w t s at room ≡ found (blockOf bs) (at + length (blockBytes t (blockOf bs)))
+  unfolding blockOf
+  block-back t bs s at room wr ok few less st h =
+      let k : length (map recordOf bs) ≡ length bs = length-map bs recordOf in
+      read-back t (blockOf bs) (map recordOf bs) s at room (wires t bs wr) ok few (omega arith) (rw (append-nil (paddedOf bs), zero-add) at (batches-back t bs 0 [] [] wr)) st (rw (sym k) at h)

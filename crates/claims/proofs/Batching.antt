@@ -2,15 +2,12 @@
 use mathlib.Core.Path.{_≡_, refl, sym, ap, _∙_}
 use mathlib.Core.List.{List, [], _∷_, _++_, append-assoc, append-nil, map}
 use mathlib.Core.Bool.{Bool, true, false, cond}
-use Prim.Native.Nat.{ℕ, zero, suc, _+_, _-_, _≤_, _<_}
-use native.Mathlib.Omega.{arith}
-use lib.ListN.{length, length-append}
+use Prim.Native.Nat.{ℕ, zero, suc}
 use lib.Seq.{append-snoc}
 use Rattle.rules.specs.Lists.{butLast}
-use Rattle.rules.specs.Operations.{Op, hasImmediate, noop}
-use Rattle.rules.specs.Batching.{Group, ops, imm, Batch, empty, nextFree, fits, wantsNoop, closeGroup, groups, turned, full, ready, joined, added, target, turnedTimes, ended, Work, start, endBatch, room, step, steps, batchesOf}
-use Rattle.rules.specs.Record.{opsIn}
-use Rattle.claims.specs.Shape.{All, rawIn, raw, raws}
+use Rattle.rules.specs.Operations.{Op, noop}
+use Rattle.rules.specs.Batching.{Group, ops, imm, Batch, empty, fits, wantsNoop, closeGroup, groups, turned, full, ready, joined, added, turnedTimes, ended, Work, start, endBatch, room, step, steps, batchesOf}
+use Rattle.claims.specs.Shape.{rawIn, raw, raws}
 
 -- ---- dropping the flagged padding gives the list back
 

@@ -1,17 +1,16 @@
 -- What is written is read back: numbers, counts, operations, the batch count. Assumes nothing.
 use mathlib.Core.Path.{_≡_, refl, sym, ap, _∙_}
-use mathlib.Core.List.{List, [], _∷_, _++_, append-assoc, map}
-use mathlib.Core.Bool.{Bool, true, false, cond}
+use mathlib.Core.List.{List, [], _∷_, _++_, append-assoc}
 use Prim.Native.Nat.{ℕ, zero, suc, _+_, _-_, _*_, _/_, _%_, _^_, _≤_, _<_}
 use native.Mathlib.Nat.{add-zero, add-assoc, pow-zero, pow-suc, mod-add-div, div-lt-iff-lt-mul, add-mul-mod-self-left, add-mul-div-left, mod-eq-of-lt, div-eq-of-lt, zero-add}
 use native.Mathlib.Numerals.{add-one}
 use native.Mathlib.Omega.{arith}
-use borrow.Author.Tests.{eq-eqb, ne-eqb, lt-leb, le-leb, lt-ltb, le-ltb}
+use borrow.Author.Tests.{eq-eqb, ne-eqb, lt-leb, lt-ltb, le-ltb}
 use lib.ListN.{length, getD, length-append}
 use lib.Seq.{getD-append-seam, append-snoc}
 use lib.Count.{trailingZeros}
 use Rattle.rules.specs.Digits.{digits, number, leAt, leBytes}
-use Rattle.rules.specs.Answer.{Read, found, refused, _then_, refuse}
+use Rattle.rules.specs.Answer.{found}
 use Rattle.rules.specs.Operations.{Op, field, kindOf, assigned, valued}
 use Rattle.rules.specs.Bytes.{least, countBy, countAt, more, countBytes, valueAt, opAt, opsAt, opBytes, opsBytes, batchCountAt}
 use Rattle.claims.specs.Shape.{All}

@@ -1,12 +1,10 @@
 -- Laws of `slots`: document 01's sentence on the count, the place after the batch, and that nothing stands past the count. Assumes nothing.
 use mathlib.Core.Path.{_≡_, refl, sym, ap, _∙_}
-use mathlib.Core.List.{List, [], _∷_, _++_}
-use mathlib.Core.Bool.{Bool, true, false, cond}
-use Prim.Native.Nat.{ℕ, zero, suc, _+_, _-_, _≤_, _<_}
+use mathlib.Core.List.{List, [], _∷_}
+use Prim.Native.Nat.{ℕ, zero, suc, _+_, _≤_}
 use native.Mathlib.Omega.{arith}
-use lib.ListN.{length, drop}
-use Rattle.rules.specs.Lists.{total}
-use Rattle.rules.specs.Answer.{Read, found, refused, _then_}
+use lib.ListN.{length}
+use Rattle.rules.specs.Answer.{found}
 use Rattle.rules.specs.Operations.{Op}
 use Rattle.rules.specs.Record.{codesNumber}
 use Rattle.rules.specs.Block.{part, emptyBefore, slots, immediates}

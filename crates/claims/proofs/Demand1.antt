@@ -1,7 +1,7 @@
 -- Demand 1: every answer is a result or one of document 01's refusals, and a refusal leaves nothing behind. Assumes nothing.
-use mathlib.Core.Path.{_≡_, refl, sym, ap, _∙_, subst}
+use mathlib.Core.Path.{_≡_, refl, sym, ap, subst}
 use mathlib.Core.Logic.{_⊎_, inl, inr}
-use mathlib.Core.List.{List, [], _∷_, _++_, map}
+use mathlib.Core.List.{List, [], _∷_, map}
 use mathlib.Core.Bool.{Bool, true, false, cond, not, _&&_, _||_}
 use Prim.Native.Nat.{ℕ, zero, suc, _+_, _-_, _/_, _≤_, _<_, _^_}
 use native.Mathlib.Omega.{arith}
@@ -9,17 +9,17 @@ use borrow.Author.Tests.{ltb-false, leb-false}
 use lib.ListN.{length, getD, take, drop, replicate, length-map}
 use lib.Dec.{leb, ltb, eqb}
 use lib.Count.{trailingZeros}
-use Rattle.rules.specs.Lists.{total, fitted}
+use Rattle.rules.specs.Lists.{total}
 use Rattle.rules.specs.Digits.{digits, leAt}
 use Rattle.rules.specs.Answer.{Answer, good, refused, Item, Read, found, refuse, refuseFirst, _then_}
 use Rattle.rules.specs.Operations.{Op, operations, field, assigned, valued, admissible, opFault, goodTable, codes, values}
 use Rattle.rules.specs.Batching.{batchesOf}
-use Rattle.rules.specs.Record.{Record, Block, noBlock, codesNumber, recordBy, blockOf, recordsBytes}
+use Rattle.rules.specs.Record.{Record, Block, noBlock, codesNumber, blockOf, recordsBytes}
 use Rattle.rules.specs.Bytes.{least, countBy, countAt, valueAt, opAt, opsAt, batchCountAt, upTo, sizesAt, nibblesAt, bitsAt, flagsAt}
-use Rattle.rules.specs.Block.{Room, Head, Layout, blockBytes, part, cut, immediates, emptyBefore, slots, paddingRight, batchAt, batchesAt, headAt, layoutAt, batchesBy, blockAt}
+use Rattle.rules.specs.Block.{Room, Head, Layout, blockBytes, part, cut, immediates, slots, paddingRight, batchAt, batchesAt, headAt, layoutAt, batchesBy, blockAt}
 use Rattle.rules.specs.Checks.{Held, ninth, recordRight, structureFaults, heldFrom, held, paddingFault, paddingFaults, underCount, placingFault, begins, orElse, groupsFault, emptyZero, commitmentFault, commitmentFaults}
 use Rattle.rules.specs.Lookups.{groupOf, nextGroup}
-use Rattle.rules.specs.Functions.{Arena, arena, blockIn, within, filled, roomFor, built, blockLeft, encoded, written, decoded, readLeft, structureChecked, paddingChecked, commitmentChecked, tableOf, tableLeft, groupLookup, nextLookup}
+use Rattle.rules.specs.Functions.{Arena, arena, blockIn, within, filled, roomFor, built, encoded, written, decoded, structureChecked, paddingChecked, commitmentChecked, tableOf, tableLeft, groupLookup, nextLookup}
 use Rattle.rules.proofs.Answer.{first-append}
 use Rattle.rules.proofs.Runs.{zeros-fitted}
 use Rattle.claims.specs.Demand1.{Refusal, _of_, OneOf, Replies, zeros, ops, batches, buildRefusals, encodeRefusals, decodeRefusals, structureRefusals, paddingRefusals, commitmentRefusals, tableRefusals, lookupRefusals, Demand1}

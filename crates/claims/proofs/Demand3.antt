@@ -1,37 +1,39 @@
 -- Demand 3, whole, for a good table and at most 16,384 admissible operations; and no two byte strings for one block. Assumes nothing.
 use mathlib.Core.Path.{_≡_, refl, sym, ap, _∙_}
 use mathlib.Core.List.{List, [], _∷_, _++_, append-assoc, append-nil, map}
-use mathlib.Core.Bool.{Bool, true, false, cond, not, _&&_, _||_}
-use Prim.Native.Nat.{ℕ, zero, suc, _+_, _-_, _*_, _≤_, _<_}
+use mathlib.Core.Bool.{Bool, true, false, cond, not}
+use Prim.Native.Nat.{ℕ, suc, _+_, _-_, _*_, _≤_, _<_}
 use native.Mathlib.Omega.{arith}
-use borrow.Author.Tests.{le-ltb, eq-eqb, ne-eqb, leb-true}
+use borrow.Author.Tests.{le-ltb, eq-eqb, ne-eqb}
 use lib.ListN.{length, getD, length-append, length-map, take, drop}
 use lib.Seq.{take-append-seam, drop-append-seam}
-use lib.Dec.{leb, ltb, eqb}
+use lib.Dec.{ltb, eqb}
 use Rattle.rules.specs.Lists.{total, every, butLast}
 use Rattle.rules.specs.Digits.{leBytes}
-use Rattle.rules.specs.Answer.{Answer, good, Read, found, refuse, refuseFirst}
+use Rattle.rules.specs.Answer.{Answer, good, found, refuse, refuseFirst}
 use Rattle.rules.specs.Operations.{Op, codes, values, noop, hasImmediate, goodTable, valued, admissible, opFault}
-use Rattle.rules.specs.Batching.{Group, ops, imm, Batch, empty, ended, Work, start, endBatch, steps, batchesOf}
+use Rattle.rules.specs.Batching.{Group, ops, imm, ended, Work, start, endBatch, steps, batchesOf}
 use Rattle.rules.specs.Record.{Record, Block, opsIn, opsOf, paddedOf, recordOf, blockOf}
 use Rattle.rules.specs.Bytes.{more, opBytes, opsBytes}
 use Rattle.rules.specs.Block.{Room, blockBytes}
 use Rattle.rules.specs.Checks.{ninth, recordRight, structureFaults}
-use Rattle.rules.specs.Functions.{Arena, blockIn, within, roomIn, filled, roomFor, built, encoded, decoded}
+use Rattle.rules.specs.Functions.{Arena, blockIn, within, roomFor, built, encoded, decoded}
+use Rattle.rules.specs.Examples.{tableT, op}
+use Rattle.rules.specs.Open.{document}
 use Rattle.rules.proofs.Answer.{first-turn, first-append, first-done}
 use Rattle.rules.proofs.Operations.{Admissible, to-admissible, fault-none, noop-kind, noop-plain, codes-back, true-left, true-right}
 use Rattle.rules.proofs.Digits.{length-digits}
-use Rattle.claims.specs.Shape.{All, rawIn, raw, raws, EndsInNoop, RightOps, RightGroup, Follow, PowerOfTwo, is1, is2, is4, is8, RightBatch, RightBatches}
-use Rattle.claims.specs.Demand3.{lent, front, Premises, Demand3}
-use Rattle.claims.proofs.Lists.{all-append, all-left, split}
+use Rattle.claims.specs.Shape.{All, rawIn, raw, raws, EndsInNoop, RightGroup, PowerOfTwo, is1, is2, is4, is8, RightBatch, RightBatches}
+use Rattle.claims.specs.Demand3.{lent, Premises, Demand3}
+use Rattle.claims.proofs.Lists.{all-append, all-left}
 use Rattle.claims.proofs.Batching.{list-back, raws-append}
-use Rattle.claims.proofs.Right.{Width, width-8, Whole, whole-batches, right-batches}
+use Rattle.claims.proofs.Right.{Width, Whole, whole-batches, right-batches}
 use Rattle.claims.proofs.Bytes.{length-count}
-use Rattle.claims.proofs.Stands.{Stands, Taken}
+use Rattle.claims.proofs.Stands.{Taken}
 use Rattle.claims.proofs.Once.{block-taken}
-use Rattle.claims.proofs.Arena.{Sized, block-in, lent-within, front-lent}
+use Rattle.claims.proofs.Arena.{block-in, lent-within, roomed, front-lent}
 use Rattle.claims.proofs.Again.{Encodable, encodable}
-use Rattle.claims.proofs.Back.{Writable, Enough, block-back, length-nibbles, length-flags}
+use Rattle.claims.proofs.Back.{Writable, block-back, length-nibbles, length-flags}
 
 noop-admissible : (t : List ℕ) → goodTable t ≡ true → Admissible t noop
 unfolding noop
@@ -205,20 +207,28 @@ module _ {A : Type 0} (r : Answer A) where
       ∙ (none-first f 0 (b .records) _ (all-map (λ x k. rw k) (b .records) h)
       ∙ (first-turn _ _ [] r (rw (eq-eqb (total (map ninth (b .records))) (length (b .ops)) e)) ∙ first-done _ r))
 
--- what can be encoded is
-pub written : (w : ℕ) (t : List ℕ) (blk : Block) (size at : ℕ) → Encodable w t blk → size ≤ 1048576 → at + length (blockBytes t blk) ≤ size → encoded w t (lent blk) size at ≡ good (blockBytes t blk)
+-- what passes every check of encoding is encoded
+pub written-in : (w : ℕ) (t : List ℕ) (a : Arena) (size at : ℕ) → within a ≡ true → goodTable t ≡ true
+    → All (λ r. recordRight w r ≡ true) (blockIn a .records) → total (map ninth (blockIn a .records)) ≡ length (blockIn a .ops) → All (λ x. admissible t x ≡ true) (blockIn a .ops)
+    → size ≤ 1048576 → at + length (blockBytes t (blockIn a)) ≤ size → encoded w t a size at ≡ good (blockBytes t (blockIn a))
 unfolding encoded
-written w t blk size at e l h =
+written-in w t a size at inside table right sum allowed l h =
+    let b = blockIn a in
+    let room : Answer (List ℕ) = refuse (ltb size (at + length (blockBytes t b))) 13 0 (good (blockBytes t b)) in
     rw (
-      lent-within blk (e .sized) (e .few) (e .less),
+      inside,
       le-ltb 1048576 size l,
-      e .table,
+      table,
       le-ltb size at (omega arith),
-      block-in blk (e .sized),
-      structure-passes (refuseFirst 0 (map (opFault t) (blk .ops)) (refuse (ltb size (at + length (blockBytes t blk))) 13 0 (good (blockBytes t blk)))) w blk (e .right) (e .sum),
-      ops-pass (refuse (ltb size (at + length (blockBytes t blk))) 13 0 (good (blockBytes t blk))) t (blk .ops) (e .allowed),
-      le-ltb size (at + length (blockBytes t blk)) h,
+      structure-passes (refuseFirst 0 (map (opFault t) (b .ops)) room) w b right sum,
+      ops-pass room t (b .ops) allowed,
+      le-ltb size (at + length (blockBytes t b)) h,
     )
+
+pub written : (w : ℕ) (t : List ℕ) (blk : Block) (size at : ℕ) → Encodable w t blk → size ≤ 1048576 → at + length (blockBytes t blk) ≤ size → encoded w t (lent blk) size at ≡ good (blockBytes t blk)
+written w t blk size at e l h =
+    let here = block-in blk (e .sized) in
+    rw here at (written-in w t (lent blk) size at (lent-within blk (e .sized) (e .few) (e .less)) (e .table) (rw here (e .right)) (rw here (e .sum)) (rw here (e .allowed)) l (rw here h))
 
 -- ---- demand 3
 
@@ -259,15 +269,8 @@ module _ (w : ℕ) (width : Width w) (t : List ℕ) (xs : List Op) (h : Premises
       padded-all t (Admissible t) (noop-admissible t (h .table)) w batches r (rw (sym (list-back t w xs)) at (all-map (to-admissible t) xs allowed))
 
   room-parts : (room : Room) → roomFor block room ≡ true → (length (paddedOf batches) ≤ room .codes) × (length (paddedOf batches) ≤ room .values) × (length batches ≤ room .records)
-  unfolding roomFor blockOf
-  room-parts room e =
-      let n = length (paddedOf batches) in
-      let k = length (map recordOf batches) in
-      let a = true-right (leb n (room .codes)) (leb n (room .values) && leb k (room .records)) e in (
-        leb-true n (room .codes) (true-left (leb n (room .codes)) (leb n (room .values) && leb k (room .records)) e),
-        leb-true n (room .values) (true-left (leb n (room .values)) (leb k (room .records)) a),
-        rw (length-map batches recordOf) at (leb-true k (room .records) (true-right (leb n (room .values)) (leb k (room .records)) a)),
-      )
+  unfolding blockOf
+  room-parts room e = let r = roomed block room e in (r .0, r .1, rw (length-map batches recordOf) at (r .2))
 
   read-within : (p q : List ℕ) (room : Room) → length (p ++ (bytes ++ q)) ≤ 1048576 → length (paddedOf batches) ≤ room .codes → length (paddedOf batches) ≤ room .values → length batches ≤ room .records
       → decoded w t (p ++ (bytes ++ q)) (length p) room ≡ found block (length p + length bytes)
@@ -314,6 +317,11 @@ module _ (w : ℕ) (width : Width w) (t : List ℕ) (xs : List Op) (h : Premises
         few = few-block;
         short = short;
       }
+
+-- the premises can be met: P1 meets them under document 01's table T
+pub met : Premises tableT (op 1 5 ∷ [])
+unfolding document
+met = record { table = refl; some = omega arith; most = omega arith; admitted = refl }
 
 -- ---- and the other way: no two byte strings for one block
 

@@ -12,3 +12,4 @@ pub mod Again
 pub mod Demand3
 pub mod Passes
 pub mod Demand1
+pub mod Settled

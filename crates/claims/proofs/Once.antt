@@ -1,30 +1,28 @@
 -- No two byte strings for one block: whatever decoding takes is what encoding writes. Assumes nothing.
 use mathlib.Core.Path.{_≡_, refl, sym, ap, _∙_}
-use mathlib.Core.List.{List, [], _∷_, _++_, append-assoc, append-nil, map}
-use mathlib.Core.Bool.{Bool, true, false, cond, not, _&&_}
+use mathlib.Core.List.{List, [], _∷_, _++_}
+use mathlib.Core.Bool.{Bool, true, false, cond, not}
 use Prim.Native.Nat.{ℕ, zero, suc, _+_, _-_, _*_, _/_, _%_, _^_, _≤_, _<_}
-use native.Mathlib.Nat.{pow-succ', mul-suc, add-zero, zero-add, mod-lt}
-use native.Mathlib.Numerals.{add-one}
+use native.Mathlib.Nat.{pow-succ'}
 use native.Mathlib.Omega.{arith}
-use borrow.Author.Tests.{ltb-true, ltb-false, leb-true, leb-false, lt-ltb}
-use lib.ListN.{length, getD, take, drop, length-append, length-map}
-use lib.Dec.{leb, ltb, eqb}
+use borrow.Author.Tests.{ltb-false, leb-false}
+use lib.ListN.{length, getD, take, drop, length-append}
+use lib.Dec.{leb, ltb}
 use lib.Count.{trailingZeros, under}
 use Rattle.rules.specs.Lists.{total}
 use Rattle.rules.specs.Digits.{digits, number, leAt, leBytes}
-use Rattle.rules.specs.Answer.{Read, found, refused, _then_, refuse}
-use Rattle.rules.specs.Operations.{Op, field, kindOf, assigned, valued, goodTable}
-use Rattle.rules.specs.Record.{Record, recordBy, Block, differences}
+use Rattle.rules.specs.Answer.{found}
+use Rattle.rules.specs.Operations.{Op, field, assigned, valued}
+use Rattle.rules.specs.Record.{Record, recordBy, Block}
 use Rattle.rules.specs.Bytes.{least, countBy, countAt, more, countBytes, valueAt, opAt, opsAt, opBytes, opsBytes, batchCountAt, nibbleBytes, flagBytes, upTo, sizesAt, bitsAt, nibblesAt, flagsAt}
 use Rattle.rules.specs.Block.{Room, blockBytes, slots, cut, paddingRight, batchAt, batchesAt}
 use Rattle.rules.specs.Functions.{decoded}
-use Rattle.claims.specs.Shape.{All}
 use Rattle.claims.proofs.Stands.{Stands, Taken, join, none, single, and-then, stands-fits, taken-fits}
 use Rattle.claims.proofs.Bytes.{number-digits, more-0, more-1, more-2}
 use Rattle.rules.proofs.Digits.{length-digits}
 use Rattle.rules.proofs.Answer.{item, settle}
 use Rattle.rules.proofs.Answer as L
-use Rattle.claims.proofs.Found.{clash, passed, came, Found, stages}
+use Rattle.claims.proofs.Found.{passed, came, Found, stages}
 use Rattle.claims.proofs.Back.{sizesOf, differences-starts}
 
 module _ (s : List ℕ) (bytes : (i : ℕ) → getD s i 0 < 256) where

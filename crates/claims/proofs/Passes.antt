@@ -1,36 +1,36 @@
 -- What decoding takes passes structure, padding and commitment, and so does what build makes. Assumes nothing.
 use mathlib.Core.Path.{_≡_, refl, sym, ap, _∙_, subst}
 use mathlib.Core.List.{List, [], _∷_, _++_, append-nil, map}
-use mathlib.Core.Bool.{Bool, true, false, cond, not, _&&_}
+use mathlib.Core.Bool.{true, not}
 use Prim.Native.Nat.{ℕ, zero, suc, _+_, _-_, _≤_}
 use native.Mathlib.Nat.{add-zero}
 use native.Mathlib.Omega.{arith}
 use borrow.Author.Tests.{ltb-false, le-leb, eq-eqb, not-false}
 use lib.ListN.{length, take, drop, replicate, length-take, length-drop}
-use lib.Dec.{ltb, eqb}
+use lib.Dec.{ltb}
 use Rattle.rules.specs.Lists.{fitted, total}
-use Rattle.rules.specs.Answer.{Answer, good, Read, found, refuse, refuseFirst, _then_}
+use Rattle.rules.specs.Answer.{Answer, good, found, refuseFirst}
 use Rattle.rules.specs.Operations.{Op, opFault, admissible}
 use Rattle.rules.specs.Batching.{batchesOf}
-use Rattle.rules.specs.Record.{Record, Block, startsFrom, differences, codesNumber, recordBy, blockOf}
+use Rattle.rules.specs.Record.{Record, Block, differences, codesNumber, recordBy, blockOf}
 use Rattle.rules.specs.Block.{Room, blockBytes, part, cut, immediates, emptyBefore, slots, paddingRight, batchAt, batchesAt}
-use Rattle.rules.specs.Checks.{ninth, structureFaults, Held, heldFrom, held, underCount, paddingFault, paddingFaults, placingFault, begins, orElse, groupsFault, emptyZero, commitmentFault, commitmentFaults}
-use Rattle.rules.specs.Functions.{blockIn, within, roomFor, decoded, structureChecked, paddingChecked, commitmentChecked}
+use Rattle.rules.specs.Checks.{Held, heldFrom, held, paddingFault, paddingFaults, placingFault, begins, groupsFault, emptyZero, commitmentFault, commitmentFaults}
+use Rattle.rules.specs.Functions.{roomFor, decoded, structureChecked, paddingChecked, commitmentChecked}
 use Rattle.rules.proofs.Answer.{settle}
 use Rattle.claims.specs.Shape.{All}
-use Rattle.claims.specs.Demand3.{lent, Premises}
+use Rattle.claims.specs.Demand3.{Premises}
 use Rattle.claims.specs.Passes.{Passes}
 use Rattle.claims.proofs.Right.{Width}
 use Rattle.claims.proofs.Found.{clash, passed, came, Found, stages}
 use Rattle.claims.proofs.Arena.{block-in, lent-within}
 use Rattle.claims.proofs.Back.{differences-starts, fitted-is}
-use Rattle.claims.proofs.Again.{Encodable, encodable, Sizes, Bits, nibbles-made, flags-made, ops-allowed, Read-batch, batch-made, total-split, Laid, laid}
+use Rattle.claims.proofs.Again.{Encodable, encodable, Sizes, Bits, nibbles-made, flags-made, ops-allowed, batch-made, total-split, laid}
 use Rattle.claims.proofs.Demand3.{none-first, ops-pass, structure-passes, demand3}
 
 -- ---- the numbers that the walk over the slots finds are those that the check wants
 
 -- a group that lies within the operations is not empty
-part-some : (n : ℕ) (xs : List Op) (at : ℕ) → at + suc n ≤ length xs → 1 ≤ length (part (suc n) xs at)
+pub part-some : (n : ℕ) (xs : List Op) (at : ℕ) → at + suc n ≤ length xs → 1 ≤ length (part (suc n) xs at)
 part-some n xs at h = omega (arith, length-take (suc n) (drop at xs), length-drop at xs)
 
 begins-same : (v : ℕ) (vs : List ℕ) (ns : List ℕ) → begins ns vs ≡ true → begins (v ∷ ns) (v ∷ vs) ≡ true
@@ -39,11 +39,11 @@ begins-same v vs ns h = rw (eq-eqb v v refl) h
 
 module _ (t : List ℕ) (b : ℕ) where
   -- groups, their numbers, and the immediates that the first of the groups hold
-  record Right (due : List ℕ) (gs : List (List Op)) (ns : List ℕ) : Type 0 where
-    groups : groupsFault t gs ns ≡ 0
-    zeros : emptyZero t (length due) gs ns ≡ true
-    values : begins ns due ≡ true
-    placed : placingFault (length due) gs ≡ 0
+  pub record Right (due : List ℕ) (gs : List (List Op)) (ns : List ℕ) : Type 0 where
+    pub groups : groupsFault t gs ns ≡ 0
+    pub zeros : emptyZero t (length due) gs ns ≡ true
+    pub values : begins ns due ≡ true
+    pub placed : placingFault (length due) gs ≡ 0
 
   right-none : (zs : List ℕ) → Right [] [] zs
   unfolding groupsFault emptyZero begins placingFault
@@ -106,7 +106,7 @@ cut-front (suc j) (suc w) [] xs at h = refl
 cut-front (suc j) (suc w) (n ∷ ns) xs at h = ap (λ (l : List (List Op)). part n xs at ∷ l) (cut-front j w ns xs (at + n) (omega arith))
 
 -- a batch with its groups
-abbrev here : Record → List Op → ℕ → Held
+abbrev pub here : Record → List Op → ℕ → Held
 here r xs at = record { batch = r; groups = cut (differences (r .starts)) xs at }
 
 module _ (w : ℕ) (t : List ℕ) (xs : List Op) where
@@ -152,7 +152,7 @@ module _ (w : ℕ) (t : List ℕ) (xs : List Op) where
 
 -- ---- a block
 
-all-of : {A : Type 0} {P Q : A → Type 0} → ((x : A) → P x → Q x) → (xs : List A) → All P xs → All Q xs
+pub all-of : {A : Type 0} {P Q : A → Type 0} → ((x : A) → P x → Q x) → (xs : List A) → All P xs → All Q xs
 all-of f [] h = tt
 all-of f (x ∷ xs) h = (f x (h .0), all-of f xs (h .1))
 

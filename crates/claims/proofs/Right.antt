@@ -1,19 +1,18 @@
 -- Demand 3: every group and every batch is as document 01 says. Assumes nothing.
 use mathlib.Core.Path.{_≡_, refl, sym, ap, _∙_}
-use mathlib.Core.List.{List, [], _∷_, _++_, append-assoc, append-nil, map}
+use mathlib.Core.List.{List, [], _∷_, _++_, map}
 use mathlib.Core.Bool.{Bool, true, false, cond}
-use Prim.Native.Nat.{ℕ, zero, suc, _+_, _-_, _≤_, _<_}
+use Prim.Native.Nat.{ℕ, zero, suc, _+_, _-_, _≤_}
 use native.Mathlib.Omega.{arith}
-use borrow.Author.Tests.{lt-ltb, le-ltb, le-leb, lt-leb, ltb-true, ltb-false, leb-true, leb-false}
+use borrow.Author.Tests.{lt-ltb, le-ltb, le-leb, lt-leb, ltb-true, ltb-false, leb-true}
 use lib.ListN.{length, length-append, length-map}
 use lib.Dec.{leb, ltb}
 use Rattle.rules.specs.Operations.{Op, hasImmediate, noop}
 use Rattle.rules.specs.Batching.{Group, ops, imm, Batch, empty, nextFree, fits, wantsNoop, closeGroup, groups, turned, full, ready, joined, added, target, turnedTimes, ended, Work, start, endBatch, room, step, steps, batchesOf}
-use Rattle.rules.specs.Record.{opsIn}
 use Rattle.rules.specs.Block.{immediates}
-use Rattle.claims.specs.Shape.{All, raw, EndsInNoop, RightOps, RightGroup, Follow, PowerOfTwo, is1, is2, is4, is8, RightBatch, RightBatches}
+use Rattle.claims.specs.Shape.{All, raw, EndsInNoop, RightGroup, Follow, PowerOfTwo, is1, is2, is4, is8, RightBatch, RightBatches}
 use Rattle.claims.proofs.Lists.{all-append, split}
-use Rattle.claims.proofs.Batching.{given, raw-groups, raw-ended}
+use Rattle.claims.proofs.Batching.{raw-groups, raw-ended}
 
 -- ---- the target
 

@@ -7,7 +7,7 @@ use lib.ListN.{length, take}
 use Rattle.rules.specs.Lists.{every}
 use Rattle.rules.specs.Answer.{good, found}
 use Rattle.rules.specs.Operations.{Op, codes, values, goodTable, admissible}
-use Rattle.rules.specs.Batching.{Group, batchesOf}
+use Rattle.rules.specs.Batching.{Group}
 use Rattle.rules.specs.Record.{Block, blockOf, recordSize, recordsBytes}
 use Rattle.rules.specs.Block.{Room, blockBytes}
 use Rattle.rules.specs.Functions.{Arena, arena, roomFor, filled, roomIn, built, encoded, decoded}

@@ -1,0 +1,506 @@
+-- What passes the three checks, encoded and decoded. Assumes nothing.
+use mathlib.Core.Path.{_≡_, refl, sym, ap, ap₂, _∙_}
+use mathlib.Core.List.{List, [], _∷_, _++_, map}
+use mathlib.Core.Bool.{Bool, true, false, cond, not}
+use Prim.Native.Nat.{ℕ, zero, suc, _+_, _-_, _*_, _/_, _%_, _≤_, _<_}
+use native.Mathlib.Nat.{add-zero, zero-add}
+use native.Mathlib.Omega.{arith}
+use borrow.Author.Tests.{le-ltb, leb-true, eqb-true, not-false}
+use lib.ListN.{length, getD, take, drop, length-take, length-append}
+use lib.Dec.{leb, eqb}
+use Rattle.rules.specs.Lists.{fitted, total, every}
+use Rattle.rules.specs.Answer.{Answer, good, found, refuseFirst}
+use Rattle.rules.specs.Operations.{Op, goodTable, opFault, admissible}
+use Rattle.rules.specs.Record.{Record, Block, startsFrom, differences, codesNumber, recordBy, bytesAt, wordsAt, recordAt, recordsFrom, recordsIn}
+use Rattle.rules.specs.Bytes.{upTo}
+use Rattle.rules.specs.Block.{blockBytes, part, cut, immediates, emptyBefore, slots, endsInNoop, paddingRight, batchAt, batchesAt}
+use Rattle.rules.specs.Checks.{ninth, startsRight, recordRight, structureFaults, heldFrom, held, paddingFault, paddingFaults, placingFault, begins, orElse, groupsFault, emptyZero, commitmentFault, commitmentFaults}
+use Rattle.rules.specs.Functions.{Arena, blockIn, within, paddingChecked, commitmentChecked}
+use Rattle.rules.specs.Open.{document}
+use Rattle.rules.proofs.Answer.{clash, passed, first-append}
+use Rattle.rules.proofs.Operations.{true-left, true-right, true-both, length-operations, to-admissible}
+use Rattle.claims.specs.Shape.{All}
+use Rattle.claims.specs.Settled.{before, counted, settled, settledBlock, Settled, Returns, Needed}
+use Rattle.claims.proofs.Back.{sizesOf, Wire, read-back}
+use Rattle.claims.proofs.Arena.{roomed}
+use Rattle.claims.proofs.Demand3.{written-in}
+use Rattle.claims.proofs.Again.{start-at, take-total, total-split, laid, laid-front}
+use Rattle.claims.proofs.Passes.{part-some, Right, here, all-of}
+
+-- ---- the slots that the commitment check found right are those that decoding takes
+
+or-first : (m n : ℕ) → orElse m n ≡ 0 → (m ≡ 0) × (n ≡ 0)
+or-first zero n h = (refl, h)
+or-first (suc m) n h = absurd (omega arith)
+
+no-cond : (b : Bool) (n : ℕ) → cond b 0 (suc n) ≡ 0 → b ≡ true
+no-cond true n h = refl
+no-cond false n h = absurd (omega arith)
+
+module _ (t : List ℕ) (b : ℕ) where
+  -- where nothing has operations and nothing is due, nothing counts
+  none-counted : (ns : List ℕ) (xs : List Op) (at : ℕ) → total ns ≡ 0 → counted t 0 (cut ns xs at) ≡ 0
+  unfolding counted cut total
+  none-counted [] xs at h = refl
+  none-counted (zero ∷ ns) xs at h = ap before (none-counted ns xs (at + 0) (omega arith))
+  none-counted (suc n ∷ ns) xs at h = absurd (omega arith)
+
+  no-slots : (ns : List ℕ) (xs : List Op) (at : ℕ) → total ns ≡ 0 → slots t b ns [] xs at ≡ found [] at
+  unfolding slots total emptyBefore
+  no-slots [] xs at h = refl
+  no-slots (zero ∷ ns) xs at h = rw (no-slots ns xs at (omega arith))
+  no-slots (suc n ∷ ns) xs at h = absurd (omega arith)
+
+  before-is : (k : ℕ) (vs : List ℕ) → k ≤ length vs → emptyBefore (take k vs) ≡ take (before k) (0 ∷ vs)
+  unfolding emptyBefore
+  before-is zero vs h = refl
+  before-is (suc k) [] h = absurd (omega arith)
+  before-is (suc k) (v ∷ vs) h = refl
+
+  counted-most : (k : ℕ) (gs : List (List Op)) → counted t k gs ≤ length gs
+  unfolding counted
+  counted-most k [] = omega arith
+  counted-most zero ([] ∷ gs) = go (counted t 0 gs) (counted-most 0 gs)
+    where
+      go : (n : ℕ) → n ≤ length gs → before n ≤ suc (length gs)
+      go zero h = omega arith
+      go (suc n) h = omega arith
+  counted-most (suc k) ([] ∷ gs) = omega (arith, counted-most k gs)
+  counted-most zero ((x ∷ xs) ∷ gs) = omega (arith, counted-most (length (immediates t (x ∷ xs))) gs)
+  counted-most (suc k) ((x ∷ xs) ∷ gs) = omega (arith, counted-most (length (immediates t (x ∷ xs))) gs)
+
+  length-cut : (ns : List ℕ) (xs : List Op) (at : ℕ) → length (cut ns xs at) ≡ length ns
+  unfolding cut
+  length-cut [] xs at = refl
+  length-cut (n ∷ ns) xs at = ap suc (length-cut ns xs (at + n))
+
+  -- a check that passed, taken apart one group further on
+
+  after-gap : (gs : List (List Op)) (n : ℕ) (ns : List ℕ) → Right t b [] ([] ∷ gs) (n ∷ ns) → (n ≡ 0) × Right t b [] gs ns
+  unfolding groupsFault emptyZero begins placingFault
+  after-gap gs n ns r =
+      (eqb-true n 0 (true-left (eqb n 0) _ (r .zeros)), record { groups = r .groups; zeros = true-right (eqb n 0) _ (r .zeros); values = refl; placed = refl })
+
+  after-slot : (v : ℕ) (due : List ℕ) (gs : List (List Op)) (n : ℕ) (ns : List ℕ) → Right t b (v ∷ due) ([] ∷ gs) (n ∷ ns) → (n ≡ v) × Right t b due gs ns
+  unfolding groupsFault emptyZero begins placingFault
+  after-slot v due gs n ns r =
+      (eqb-true n v (true-left (eqb n v) _ (r .values)), record { groups = r .groups; zeros = r .zeros; values = true-right (eqb n v) _ (r .values); placed = r .placed })
+
+  after-group : (g : List Op) (gs : List (List Op)) (n : ℕ) (ns : List ℕ) → 1 ≤ length g → Right t b [] (g ∷ gs) (n ∷ ns) → (n ≡ codesNumber g) × Right t b (immediates t g) gs ns
+  unfolding groupsFault emptyZero
+  after-group [] gs n ns l r = absurd (omega arith)
+  after-group (x ∷ g) gs n ns l r =
+      let h₁ = or-first _ _ (r .groups) in
+      let h₂ = or-first _ _ (h₁ .1) in
+      let h₃ = or-first _ _ (h₂ .1) in
+      (eqb-true n (codesNumber (x ∷ g)) (no-cond _ 15 (h₁ .0)), record { groups = h₃ .1; zeros = r .zeros; values = no-cond _ 15 (h₃ .0); placed = h₂ .0 })
+
+  -- an immediate that is due has an empty group under the count to go to
+  no-room : (v : ℕ) (due ns : List ℕ) → Right t b (v ∷ due) [] ns → ⊥
+  unfolding placingFault
+  no-room v due ns r = let z = r .placed in omega arith
+
+  in-the-way : (v : ℕ) (due : List ℕ) (g : List Op) (gs : List (List Op)) (ns : List ℕ) → 1 ≤ length g → Right t b (v ∷ due) (g ∷ gs) ns → ⊥
+  unfolding placingFault
+  in-the-way v due [] gs ns l r = omega arith
+  in-the-way v due (x ∷ g) gs ns l r = let z = r .placed in omega arith
+
+  counted-group : (k : ℕ) (g : List Op) (gs : List (List Op)) → 1 ≤ length g → counted t k (g ∷ gs) ≡ suc (counted t (length (immediates t g)) gs)
+  unfolding counted
+  counted-group k [] gs l = absurd (omega arith)
+  counted-group zero (x ∷ g) gs l = refl
+  counted-group (suc k) (x ∷ g) gs l = refl
+
+  slots-read : (w : ℕ) (ns due : List ℕ) (xs : List Op) (at c : ℕ) (nums : List ℕ) → c ≤ w → Right t b due (take c (cut ns xs at)) nums → total (drop c ns) ≡ 0 → length ns ≤ length nums → at + total ns ≤ length xs
+      → slots t b (take w ns) due xs at ≡ found (take (counted t (length due) (cut ns xs at)) nums) (at + total ns)
+  unfolding slots cut total counted emptyBefore
+  slots-read zero ns due xs at (suc c) nums k r z l i = absurd (omega arith)
+  slots-read zero ns [] xs at zero nums k r z l i = rw (none-counted ns xs at z) (ap (found []) (omega arith))
+  slots-read zero ns (v ∷ due) xs at zero nums k r z l i = absurd (no-room v due nums r)
+  slots-read (suc w) [] [] xs at c nums k r z l i = ap (found []) (omega arith)
+  slots-read (suc w) [] (v ∷ due) xs at zero nums k r z l i = absurd (no-room v due nums r)
+  slots-read (suc w) [] (v ∷ due) xs at (suc c) nums k r z l i = absurd (no-room v due nums r)
+  slots-read (suc w) (n ∷ ns) due xs at c [] k r z l i = absurd (omega arith)
+  slots-read (suc w) (zero ∷ ns) [] xs at zero (m ∷ nums) k r z l i =
+      rw (no-slots (take w ns) xs at (omega (arith, total-split w ns)), ap before (none-counted ns xs (at + 0) (omega arith))) (ap (found []) (omega arith))
+  slots-read (suc w) (zero ∷ ns) [] xs at (suc c) (m ∷ nums) k r z l i =
+      let gs = cut ns xs at in
+      let a = after-gap (take c gs) m nums (rw (add-zero at) at r) in
+      let ih = slots-read w ns [] xs at c nums (omega arith) (a .1) z (omega arith) (omega arith) in
+      let j : counted t 0 gs ≤ length nums = omega (arith, counted-most 0 gs, length-cut ns xs at) in
+      rw (add-zero at, zero-add (total ns), ih, before-is (counted t 0 gs) nums j, a .0)
+  slots-read (suc w) (zero ∷ ns) (v ∷ due) xs at zero (m ∷ nums) k r z l i = absurd (no-room v due (m ∷ nums) r)
+  slots-read (suc w) (zero ∷ ns) (v ∷ due) xs at (suc c) (m ∷ nums) k r z l i =
+      let a = after-slot v due (take c (cut ns xs at)) m nums (rw (add-zero at) at r) in
+      rw (add-zero at, zero-add (total ns), slots-read w ns due xs at c nums (omega arith) (a .1) z (omega arith) (omega arith), a .0)
+  slots-read (suc w) (suc n ∷ ns) [] xs at zero (m ∷ nums) k r z l i = absurd (omega arith)
+  slots-read (suc w) (suc n ∷ ns) [] xs at (suc c) (m ∷ nums) k r z l i =
+      let g = part (suc n) xs at in
+      let gs = cut ns xs (at + suc n) in
+      let some = part-some n xs at (omega arith) in
+      let a = after-group g (take c gs) m nums some r in
+      let ih = slots-read w ns (immediates t g) xs (at + suc n) c nums (omega arith) (a .1) z (omega arith) (omega arith) in
+      rw (ih, counted-group 0 g gs some, a .0) (ap (found (codesNumber g ∷ take (counted t (length (immediates t g)) gs) nums)) (omega arith))
+  slots-read (suc w) (suc n ∷ ns) (v ∷ due) xs at zero (m ∷ nums) k r z l i = absurd (no-room v due (m ∷ nums) r)
+  slots-read (suc w) (suc n ∷ ns) (v ∷ due) xs at (suc c) (m ∷ nums) k r z l i = absurd (in-the-way v due (part (suc n) xs at) (take c (cut ns xs (at + suc n))) (m ∷ nums) (part-some n xs at (omega arith)) r)
+
+-- ---- flags
+
+take-none : (j : ℕ) → take {A = List Op} j [] ≡ []
+take-none zero = refl
+take-none (suc j) = refl
+
+flag-none : (b : Bool) → cond b true false ≡ true → b ≡ true
+flag-none true h = refl
+flag-none false h = h
+
+-- groups that are empty from some place on may be left out, or more of them taken in
+other-groups : (ns : List ℕ) (xs : List Op) (at j c : ℕ) (fs : List ℕ) → total (drop j ns) ≡ 0 → paddingRight (take c (cut ns xs at)) fs ≡ true → paddingRight (take j (cut ns xs at)) fs ≡ true
+unfolding cut total paddingRight endsInNoop
+other-groups ns xs at j c [] z h = refl
+other-groups [] xs at j c (f ∷ fs) z h = rw (take-none j) (rw (take-none c) at h)
+other-groups (n ∷ ns) xs at zero zero (f ∷ fs) z h = h
+other-groups (zero ∷ ns) xs at zero (suc c) (f ∷ fs) z h =
+    let one = cond (eqb f 0) true false in
+    let rest = paddingRight (take c (cut ns xs (at + 0))) fs in
+    true-both (eqb f 0) (paddingRight [] fs) (flag-none (eqb f 0) (true-left one rest h)) (other-groups ns xs (at + 0) 0 c fs (omega arith) (true-right one rest h))
+other-groups (suc n ∷ ns) xs at zero (suc c) (f ∷ fs) z h = absurd (omega arith)
+other-groups (n ∷ ns) xs at (suc j) zero (f ∷ fs) z h = rw (true-left (eqb f 0) _ h) (other-groups ns xs (at + n) j 0 fs z (true-right (eqb f 0) _ h))
+other-groups (n ∷ ns) xs at (suc j) (suc c) (f ∷ fs) z h =
+    let one = cond (eqb f 0) true (endsInNoop (part n xs at)) in
+    let rest = paddingRight (take c (cut ns xs (at + n))) fs in
+    true-both one (paddingRight (take j (cut ns xs (at + n))) fs) (true-left one rest h) (other-groups ns xs (at + n) j c fs z (true-right one rest h))
+
+-- ---- a record that passed the structure check is made of its sizes
+
+starts-back : (a : ℕ) (s : List ℕ) → startsRight (a ∷ s) ≡ true → startsFrom a (differences (a ∷ s)) ≡ a ∷ s
+unfolding startsFrom differences startsRight
+starts-back a [] h = refl
+starts-back a (b ∷ s) h =
+    let up = leb-true a b (true-left (leb a b) _ h) in
+    let e : a + (b - a) ≡ b = omega arith in
+    rw e (ap (λ (l : List ℕ). a ∷ l) (starts-back b s (true-right (leb b (a + 9)) _ (true-right (leb a b) _ h))))
+
+sizes-small : (a : ℕ) (s : List ℕ) → startsRight (a ∷ s) ≡ true → All (λ n. n ≤ 9) (differences (a ∷ s))
+unfolding differences startsRight
+sizes-small a [] h = tt
+sizes-small a (b ∷ s) h =
+    let rest = true-right (leb a b) _ h in
+    let most = leb-true b (a + 9) (true-left (leb b (a + 9)) _ rest) in
+    (omega arith, sizes-small b s (true-right (leb b (a + 9)) _ rest))
+
+sizes-many : (a : ℕ) (s : List ℕ) → length (differences (a ∷ s)) ≡ length s
+unfolding differences
+sizes-many a [] = refl
+sizes-many a (b ∷ s) = ap suc (sizes-many b s)
+
+-- how many elements a record has where it lies in a run
+record Shaped (r : Record) : Type 0 where
+  starts : length (r .starts) ≡ 9
+  flags : length (r .flags) ≡ 8
+  numbers : length (r .numbers) ≡ 8
+
+-- what the structure check says of such a record
+record Made (w : ℕ) (r : Record) : Type 0 where
+  shaped : Shaped r
+  few : r .count ≤ w
+  bits : upTo 1 (r .flags) ≡ true
+  starts : startsFrom 0 (differences (r .starts)) ≡ r .starts
+  small : All (λ n. n ≤ 9) (differences (r .starts))
+  many : length (differences (r .starts)) ≡ 8
+  sum : total (differences (r .starts)) ≡ ninth r
+  rest : total (drop (r .count) (differences (r .starts))) ≡ 0
+
+whole : (s : List ℕ) → length s ≡ 9 → getD s 0 0 ≡ 0 → startsRight s ≡ true → (startsFrom 0 (differences s) ≡ s) × All (λ n. n ≤ 9) (differences s) × (length (differences s) ≡ 8)
+whole [] l e h = absurd (omega arith)
+whole (a ∷ s) l e h = (ap (λ (k : ℕ). startsFrom k (differences (a ∷ s))) (sym e) ∙ starts-back a s h, sizes-small a s h, omega (arith, sizes-many a s))
+
+made : (w : ℕ) (w8 : w ≤ 8) (r : Record) → Shaped r → recordRight w r ≡ true → Made w r
+unfolding recordRight
+made w w8 r z h =
+    let h₁ = true-right (leb (r .count) w) _ h in
+    let h₂ = true-right (upTo 1 (r .flags)) _ h₁ in
+    let h₃ = true-right (eqb (getD (r .starts) 0 0) 0) _ h₂ in
+    let few = leb-true (r .count) w (true-left (leb (r .count) w) _ h) in
+    let ns = differences (r .starts) in
+    let q = whole (r .starts) (z .starts) (eqb-true (getD (r .starts) 0 0) 0 (true-left (eqb (getD (r .starts) 0 0) 0) _ h₂)) (true-left (startsRight (r .starts)) _ h₃) in
+    let end = eqb-true (getD (r .starts) (r .count) 0) (ninth r) (true-right (startsRight (r .starts)) _ h₃) in
+    let m : length ns ≡ 8 = q .2 in
+    let at-count : getD (r .starts) (r .count) 0 ≡ 0 + total (take (r .count) ns) = rw (q .0) at (start-at (r .count) 0 ns (omega arith)) in
+    let at-end : getD (r .starts) 8 0 ≡ 0 + total (take 8 ns) = rw (q .0) at (start-at 8 0 ns (omega arith)) in
+    let all = take-total ns 8 m in
+    record {
+      shaped = z;
+      few = few;
+      bits = true-left (upTo 1 (r .flags)) _ h₁;
+      starts = q .0;
+      small = q .1;
+      many = m;
+      sum = omega arith;
+      rest = omega (arith, total-split (r .count) ns);
+    }
+
+-- ---- a batch
+
+rest-zero : (c w : ℕ) (ns : List ℕ) → c ≤ w → total (drop c ns) ≡ 0 → total (drop w ns) ≡ 0
+unfolding total
+rest-zero zero w ns h z = omega (arith, total-split w ns)
+rest-zero (suc c) zero ns h z = absurd (omega arith)
+rest-zero (suc c) (suc w) [] h z = refl
+rest-zero (suc c) (suc w) (n ∷ ns) h z = rest-zero c w ns (omega arith) z
+
+module _ (w : ℕ) (w8 : w ≤ 8) (t : List ℕ) (xs : List Op) where
+  -- what the checks say of a batch whose operations begin at a place
+  record Checked (at : ℕ) (r : Record) : Type 0 where
+    made : Made w r
+    inside : at + ninth r ≤ length xs
+    padding : paddingFault (here r xs at) ≡ 0
+    commitment : commitmentFault t (here r xs at) ≡ 0
+
+  batch-read : (at b : ℕ) (r : Record) → Checked at r → batchAt w t xs at b (differences (r .starts)) (r .flags) ≡ found (settled t (here r xs at)) (at + ninth r)
+  unfolding batchAt settled paddingFault commitmentFault begins placingFault
+  batch-read at b r h =
+      let m = h .made in
+      let few = m .few in
+      let ns = differences (r .starts) in
+      let gs = cut ns xs at in
+      let vs = take (counted t 0 gs) (r .numbers) in
+      let inside : at + total ns ≤ length xs = omega (arith, m .sum, h .inside) in
+      let q = or-first _ _ (h .commitment) in
+      let right : Right t b [] (take (r .count) gs) (r .numbers) = record { groups = q .0; zeros = no-cond _ 15 (q .1); values = refl; placed = refl } in
+      let e = slots-read t b w ns [] xs at (r .count) (r .numbers) few right (m .rest) (omega (arith, m .many, m .shaped .numbers)) inside in
+      let l = laid-front w ns at vs (at + total ns) (rest-zero (r .count) w ns few (m .rest)) (laid t b (take w ns) [] xs at vs (at + total ns) e) in
+      let p = other-groups ns xs at (length vs) (r .count) (r .flags) (l .rest) (no-cond _ 9 (h .padding)) in
+      rw (le-ltb (length xs) (at + total ns) inside, e, p, m .sum)
+
+  abbrev Batches : ℕ → List Record → Type 0
+  Batches at [] = Unit {0}
+  Batches at (r ∷ rs) = Checked at r × Batches (at + ninth r) rs
+
+  batches-read : (rs : List Record) (at b : ℕ) → Batches at rs → batchesAt w t xs at b (map sizesOf rs) (map (λ r. r .flags) rs) ≡ found (map (settled t) (heldFrom rs xs at)) (at + total (map ninth rs))
+  unfolding batchesAt heldFrom total
+  batches-read [] at b h = ap (found []) (omega arith)
+  batches-read (r ∷ rs) at b h =
+      rw (batch-read at b r (h .0), batches-read rs (at + ninth r) (b + 1) (h .1)) (ap (found (settled t (here r xs at) ∷ map (settled t) (heldFrom rs xs (at + ninth r)))) (omega arith))
+
+  -- ---- a record that the bytes can say
+
+  zeros-all : (ns : List ℕ) → total ns ≡ 0 → All (λ n. n ≤ 0) ns
+  unfolding total
+  zeros-all [] h = tt
+  zeros-all (n ∷ ns) h = (omega arith, zeros-all ns (omega arith))
+
+  no-flags : (gs : List (List Op)) (fs : List ℕ) (k : ℕ) → length gs ≤ k → paddingRight gs fs ≡ true → All (λ f. f ≤ 0) (drop k fs)
+  unfolding paddingRight
+  no-flags gs [] zero l h = tt
+  no-flags gs [] (suc k) l h = tt
+  no-flags [] (f ∷ fs) zero l h = (let z = eqb-true f 0 (true-left (eqb f 0) _ h) in omega arith, no-flags [] fs zero l (true-right (eqb f 0) _ h))
+  no-flags [] (f ∷ fs) (suc k) l h = no-flags [] fs k (omega arith) (true-right (eqb f 0) _ h)
+  no-flags (g ∷ gs) (f ∷ fs) zero l h = absurd (omega arith)
+  no-flags (g ∷ gs) (f ∷ fs) (suc k) l h = no-flags gs fs k (omega arith) (true-right (cond (eqb f 0) true (endsInNoop g)) _ h)
+
+  bits-below : (fs : List ℕ) → upTo 1 fs ≡ true → All (λ f. f < 2) fs
+  unfolding every
+  bits-below [] h = tt
+  bits-below (f ∷ fs) h = (let z = leb-true f 1 (true-left (leb f 1) (upTo 1 fs) h) in omega arith, bits-below fs (true-right (leb f 1) (upTo 1 fs) h))
+
+  on-wire : (at : ℕ) (r : Record) → Checked at r → Wire w w8 r
+  unfolding paddingFault
+  on-wire at r h =
+      let m = h .made in
+      let few = m .few in
+      let ns = differences (r .starts) in
+      record {
+        sizes = m .small;
+        eight = m .many;
+        flags = bits-below (r .flags) (m .bits);
+        bits = m .shaped .flags;
+        high = zeros-all (drop w ns) (rest-zero (r .count) w ns few (m .rest));
+        clear = no-flags (take (r .count) (cut ns xs at)) (r .flags) w (omega (arith, length-take (r .count) (cut ns xs at))) (no-cond _ 9 (h .padding));
+      }
+
+  on-wires : (rs : List Record) (at : ℕ) → Batches at rs → All (Wire w w8) rs
+  on-wires [] at h = tt
+  on-wires (r ∷ rs) at h = (on-wire at r (h .0), on-wires rs (at + ninth r) (h .1))
+
+-- ---- what the checks said of an arena
+
+first-none : {A B : Type 0} (f : B → ℕ) (i : ℕ) (xs : List B) (r : Answer A) (a : A) → refuseFirst i (map f xs) r ≡ good a → All (λ x. f x ≡ 0) xs × (r ≡ good a)
+unfolding refuseFirst
+first-none f i [] r a h = (tt, h)
+first-none f i (x ∷ xs) r a h = go (f x) refl (λ k. first-none f (i + 1) xs r a k) h
+  where
+    go : (n : ℕ) → f x ≡ n → (refuseFirst (i + 1) (map f xs) r ≡ good a → All (λ x. f x ≡ 0) xs × (r ≡ good a)) → refuseFirst i (n ∷ map f xs) r ≡ good a → ((f x ≡ 0) × All (λ x. f x ≡ 0) xs) × (r ≡ good a)
+    go zero e ih k = let q = ih k in ((e, q .0), q .1)
+    go (suc n) e ih k = absurd (clash (suc n) i a k)
+
+structured : {A : Type 0} (w : ℕ) (b : Block) (r : Answer A) (a : A) → refuseFirst 0 (structureFaults w b) r ≡ good a
+    → All (λ x. recordRight w x ≡ true) (b .records) × (total (map ninth (b .records)) ≡ length (b .ops)) × (r ≡ good a)
+unfolding structureFaults
+structured w b r a h =
+    let f : Record → ℕ = λ (x : Record). cond (recordRight w x) 0 15 in
+    let c = eqb (total (map ninth (b .records))) (length (b .ops)) in
+    let q = first-none f 0 (b .records) _ a (sym (first-append 0 (map f (b .records)) (cond c 0 15 ∷ []) r) ∙ h) in
+    let e = first-none (λ (z : Bool). cond z 0 15) (0 + length (map f (b .records))) (c ∷ []) r a (q .1) in
+    (all-of (λ x k. no-cond (recordRight w x) 14 k) (b .records) (q .0), eqb-true (total (map ninth (b .records))) (length (b .ops)) (no-cond c 14 (e .0 .0)), e .1)
+
+record Facts (w : ℕ) (t : List ℕ) (a : Arena) : Type 0 where
+  inside : within a ≡ true
+  table : goodTable t ≡ true
+  right : All (λ r. recordRight w r ≡ true) (blockIn a .records)
+  sum : total (map ninth (blockIn a .records)) ≡ length (blockIn a .ops)
+  allowed : All (λ x. admissible t x ≡ true) (blockIn a .ops)
+  padding : All (λ h. paddingFault h ≡ 0) (held (blockIn a))
+  commitment : All (λ h. commitmentFault t h ≡ 0) (held (blockIn a))
+
+facts : (w : ℕ) (t : List ℕ) (a : Arena) → paddingChecked w a ≡ good tt → commitmentChecked w t a ≡ good tt → Facts w t a
+unfolding paddingChecked commitmentChecked paddingFaults commitmentFaults opFault
+facts w t a p c =
+    let b = blockIn a in
+    let p₁ = passed (not (within a)) 3 0 _ tt p in
+    let p₂ = structured w b _ tt (p₁ .1) in
+    let p₃ = first-none paddingFault 0 (held b) _ tt (p₂ .2) in
+    let c₁ = passed (not (within a)) 3 0 _ tt c in
+    let c₂ = passed (not (goodTable t)) 14 0 _ tt (c₁ .1) in
+    let c₃ = structured w b _ tt (c₂ .1) in
+    let c₄ = first-none (opFault t) 0 (b .ops) _ tt (c₃ .2) in
+    let c₅ = first-none (commitmentFault t) 0 (held b) _ tt (c₄ .1) in
+    record {
+      inside = not-false (within a) (p₁ .0);
+      table = not-false (goodTable t) (c₂ .0);
+      right = p₂ .0;
+      sum = p₂ .1;
+      allowed = all-of (λ x k. no-cond (admissible t x) 3 k) (b .ops) (c₄ .0);
+      padding = p₃ .0;
+      commitment = c₅ .0;
+    }
+
+-- ---- records as they lie in a run
+
+length-bytesAt : (k : ℕ) (s : List ℕ) (at : ℕ) → length (bytesAt k s at) ≡ k
+unfolding bytesAt
+length-bytesAt zero s at = refl
+length-bytesAt (suc k) s at = ap suc (length-bytesAt k s (at + 1))
+
+length-wordsAt : (k : ℕ) (s : List ℕ) (at : ℕ) → length (wordsAt k s at) ≡ k
+unfolding wordsAt
+length-wordsAt zero s at = refl
+length-wordsAt (suc k) s at = ap suc (length-wordsAt k s (at + 8))
+
+shaped-from : (k : ℕ) (s : List ℕ) (b : ℕ) → All Shaped (recordsFrom k s b) × (length (recordsFrom k s b) ≡ k)
+unfolding recordsFrom recordAt
+shaped-from zero s b = (tt, refl)
+shaped-from (suc k) s b =
+    let ih = shaped-from k s (b + 1) in
+    ((record { starts = length-bytesAt 9 s (82 * b); flags = length-bytesAt 8 s (82 * b + 9); numbers = length-wordsAt 8 s (82 * b + 17) }, ih .0), ap suc (ih .1))
+
+module _ (w : ℕ) (w8 : w ≤ 8) (t : List ℕ) (xs : List Op) where
+  gather : (rs : List Record) (at : ℕ) → All Shaped rs → All (λ r. recordRight w r ≡ true) rs → All (λ h. paddingFault h ≡ 0) (heldFrom rs xs at) → All (λ h. commitmentFault t h ≡ 0) (heldFrom rs xs at)
+      → at + total (map ninth rs) ≤ length xs → Batches w w8 t xs at rs
+  unfolding heldFrom total
+  gather [] at z r p c l = tt
+  gather (x ∷ rs) at z r p c l =
+      (record { made = made w w8 x (z .0) (r .0); inside = omega arith; padding = p .0; commitment = c .0 }, gather rs (at + ninth x) (z .1) (r .1) (p .1) (c .1) (omega arith))
+
+-- ---- settled or not
+
+fitted-back : (n c : ℕ) (xs : List ℕ) → length xs ≡ n → All (λ x. x ≡ 0) (drop c xs) → fitted n (take c xs) ≡ xs
+unfolding fitted
+fitted-back zero c [] l h = refl
+fitted-back zero c (x ∷ xs) l h = absurd (omega arith)
+fitted-back (suc n) c [] l h = absurd (omega arith)
+fitted-back (suc n) zero (x ∷ xs) l h = ap₂ (λ (y : ℕ) (ys : List ℕ). y ∷ ys) (sym (h .0)) (fitted-back n zero xs (omega arith) (h .1))
+fitted-back (suc n) (suc c) (x ∷ xs) l h = ap (λ (ys : List ℕ). x ∷ ys) (fitted-back n c xs (omega arith) h)
+
+zeros-after : (n c : ℕ) (xs : List ℕ) → length xs ≡ n → fitted n (take c xs) ≡ xs → All (λ x. x ≡ 0) (drop c xs)
+unfolding fitted
+zeros-after n zero [] l h = tt
+zeros-after n (suc c) [] l h = tt
+zeros-after zero c (x ∷ xs) l h = absurd (omega arith)
+zeros-after (suc n) zero (x ∷ xs) l h = (sym (ap (λ (ys : List ℕ). getD ys 0 0) h), zeros-after n zero xs (omega arith) (ap (λ (ys : List ℕ). drop 1 ys) h))
+zeros-after (suc n) (suc c) (x ∷ xs) l h = zeros-after n c xs (omega arith) (ap (λ (ys : List ℕ). drop 1 ys) h)
+
+module _ (w : ℕ) (w8 : w ≤ 8) (t : List ℕ) (xs : List Op) where
+  -- decoding finds a count under nine
+  count-fits : (at : ℕ) (r : Record) → Made w r → length (take (counted t 0 (cut (differences (r .starts)) xs at)) (r .numbers)) ≡ counted t 0 (cut (differences (r .starts)) xs at)
+  count-fits at r m =
+      let gs = cut (differences (r .starts)) xs at in
+      omega (arith, length-take (counted t 0 gs) (r .numbers), counted-most t 0 0 gs, length-cut t 0 (differences (r .starts)) xs at, m .many, m .shaped .numbers)
+
+  one-same : (at : ℕ) (r : Record) → Made w r → Settled t (here r xs at) → settled t (here r xs at) ≡ r
+  unfolding settled recordBy
+  one-same at r m h =
+      let c = counted t 0 (cut (differences (r .starts)) xs at) in
+      let zeros : All (λ n. n ≡ 0) (drop c (r .numbers)) = rw (h .count) at (h .zeros) in
+      λ j. record { starts = m .starts j; flags = r .flags; numbers = fitted-back 8 c (r .numbers) (m .shaped .numbers) zeros j; count = (count-fits at r m ∙ sym (h .count)) j }
+
+  one-only : (at : ℕ) (r : Record) → Made w r → settled t (here r xs at) ≡ r → Settled t (here r xs at)
+  unfolding settled recordBy
+  one-only at r m e =
+      let c = counted t 0 (cut (differences (r .starts)) xs at) in
+      let k : r .count ≡ c = sym (ap (λ (x : Record). x .count) e) ∙ count-fits at r m in
+      record { count = k; zeros = rw k (zeros-after 8 c (r .numbers) (m .shaped .numbers) (ap (λ (x : Record). x .numbers) e)) }
+
+  all-same : (rs : List Record) (at : ℕ) → Batches w w8 t xs at rs → All (Settled t) (heldFrom rs xs at) → map (settled t) (heldFrom rs xs at) ≡ rs
+  unfolding heldFrom
+  all-same [] at b h = refl
+  all-same (r ∷ rs) at b h = ap₂ (λ (y : Record) (ys : List Record). y ∷ ys) (one-same at r (b .0 .made) (h .0)) (all-same rs (at + ninth r) (b .1) (h .1))
+
+  all-only : (rs : List Record) (at : ℕ) → Batches w w8 t xs at rs → map (settled t) (heldFrom rs xs at) ≡ rs → All (Settled t) (heldFrom rs xs at)
+  unfolding heldFrom
+  all-only [] at b e = tt
+  all-only (r ∷ rs) at b e =
+      (one-only at r (b .0 .made) (ap (λ (ys : List Record). getD ys 0 r) e), all-only rs (at + ninth r) (b .1) (ap (λ (ys : List Record). drop 1 ys) e))
+
+-- ---- the theorem
+
+limits : (a : Arena) → within a ≡ true → (length (blockIn a .ops) ≤ 65535) × (length (blockIn a .records) ≤ 16384)
+unfolding within blockIn recordsIn
+limits a h =
+    let n = length (a .codes) in
+    let k = length (a .records) in
+    let equal = eqb n (length (a .values)) in
+    let whole = eqb (k % 82) 0 in
+    let h₁ = true-right equal _ h in
+    let h₂ = true-right whole _ (true-right (leb n 65535) _ h₁) in
+    let l = length-operations (a .codes) (a .values) (eqb-true n (length (a .values)) (true-left equal _ h)) in
+    (rw l (leb-true n 65535 (true-left (leb n 65535) _ h₁)), rw (shaped-from (k / 82) (a .records) 0 .1) (leb-true (k / 82) 16384 h₂))
+
+shaped-in : (a : Arena) → All Shaped (blockIn a .records)
+unfolding blockIn recordsIn
+shaped-in a = shaped-from (length (a .records) / 82) (a .records) 0 .0
+
+module _ (w : ℕ) (w8 : w ≤ 8) (t : List ℕ) (a : Arena) (f : Facts w t a) where
+  abbrev b : Block
+  b = blockIn a
+
+  batches : Batches w w8 t (b .ops) 0 (b .records)
+  unfolding held
+  batches = gather w w8 t (b .ops) (b .records) 0 (shaped-in a) (f .right) (f .padding) (f .commitment) (let s = f .sum in omega arith)
+
+  read : batchesAt w t (b .ops) 0 0 (map sizesOf (b .records)) (map (λ r. r .flags) (b .records)) ≡ found (map (settled t) (held b)) (length (b .ops))
+  unfolding held
+  read = rw (zero-add (total (map ninth (b .records))), f .sum) at (batches-read w w8 t (b .ops) (b .records) 0 0 batches)
+
+  returned : Returns w t a
+  unfolding settledBlock held
+  returned =
+      let few = limits a (f .inside) in
+      record {
+        writes = λ size at l k. written-in w t a size at (f .inside) (f .table) (f .right) (f .sum) (f .allowed) l k;
+        reads = λ before after room l k.
+            let r = roomed b room k in
+            read-back w w8 t b (map (settled t) (held b)) (before ++ (blockBytes t b ++ after)) (length before) room
+            (on-wires w w8 t (b .ops) (b .records) 0 batches) (all-of (to-admissible t) (b .ops) (f .allowed)) (few .0) (few .1) read
+            (record { before = before; after = after; whole = refl; place = refl })
+            (record { table = f .table; buffer = l; place = simp length-append (omega arith); codes = r .0; values = r .1; records = r .2 });
+        same = λ h j. record { ops = b .ops; records = all-same w w8 t (b .ops) (b .records) 0 batches h j };
+        only = λ h. all-only w w8 t (b .ops) (b .records) 0 batches (ap (λ (x : Block). x .records) h);
+      }
+
+pub returns : (w : ℕ) (w8 : w ≤ 8) (t : List ℕ) (a : Arena) → paddingChecked w a ≡ good tt → commitmentChecked w t a ≡ good tt → Returns w t a
+returns w w8 t a p c = returned w w8 t a (facts w t a p c)
+
+pub needed : Needed
+unfolding document counted settled settledBlock
+needed = record { checked = (refl, refl); changed = refl }
