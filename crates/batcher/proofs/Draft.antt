@@ -1,7 +1,7 @@
 -- The record of a batch in the making, byte by byte in its lent run: what a closed group, a placed immediate and the count change. Assumes nothing.
 use mathlib.Core.Path.{_≡_, refl, sym, ap, ap₂, _∙_}
 use mathlib.Core.Bool.{Bool, false}
-use mathlib.Core.List.{List, [], _∷_, _++_, map, append-assoc, append-nil}
+use mathlib.Core.List.{List, [], _∷_, _++_, map, append-assoc}
 use Prim.Native.Nat.{ℕ, zero, suc, _+_, _-_, _*_, _≤_, _<_}
 use native.Mathlib.Nat.{add-zero, not-suc-le-zero, le-of-suc-le-suc}
 use native.Mathlib.Omega.{arith}
@@ -14,14 +14,10 @@ use Rattle.rules.specs.Batching.{Group, ops, imm}
 use Rattle.rules.specs.Record.{startsFrom, recordBy, opsIn, sizeOf, flagOf, codesNumber, numberOf, recordOf, opsOf, wordBytes, recordBytes}
 use Rattle.batcher.specs.Going.{startsOf, flagsOf, wordsOf, bytesWith}
 use Rattle.rules.proofs.Digits.{length-leBytes}
-use Rattle.rules.proofs.Runs.{fitted-length, fitted-zeros, sets-past, sets-front, sets-over, sets-fitted}
+use Rattle.rules.proofs.Runs.{fitted-length, fitted-zeros, sets-past, sets-front, sets-over, sets-fitted, sets-all}
+use Rattle.rules.proofs.Sizes.{length-words, length-starts}
 
 -- ---- numbers of eight bytes
-
-words-length : (ns : List ℕ) → length (wordBytes ns) ≡ 8 * length ns
-unfolding wordBytes
-words-length [] = refl
-words-length (n ∷ ns) = omega (arith, length-append (leBytes 8 n) (wordBytes ns), length-leBytes 8 n, words-length ns)
 
 words-set : (ns : List ℕ) (j v : ℕ) → j < length ns → sets (wordBytes ns) (8 * j) (leBytes 8 v) ≡ wordBytes (set ns j v)
 unfolding wordBytes
@@ -56,11 +52,6 @@ module _ (f : Group → ℕ) where
 
 -- ---- starts
 
-starts-length : (n : ℕ) (ks : List ℕ) → length (startsFrom n ks) ≡ suc (length ks)
-unfolding startsFrom
-starts-length n [] = refl
-starts-length n (k ∷ ks) = ap suc (starts-length (n + k) ks)
-
 starts-none : (k n : ℕ) → startsFrom n (fitted k []) ≡ replicate (suc k) n
 unfolding startsFrom fitted
 starts-none zero n = refl
@@ -69,9 +60,6 @@ starts-none (suc k) n = ap (λ (l : List ℕ). n ∷ l) (ap (λ (m : ℕ). start
 sets-cons : (x : ℕ) (l : List ℕ) (k : ℕ) (vs : List ℕ) → sets (x ∷ l) (suc k) vs ≡ x ∷ sets l k vs
 sets-cons x l k [] = refl
 sets-cons x l k (v ∷ vs) = sets-cons x (set l k v) (suc k) vs
-
-sets-all : (xs vs : List ℕ) → length vs ≡ length xs → sets xs 0 vs ≡ vs
-sets-all xs vs h = ap (λ (l : List ℕ). sets l 0 vs) (sym (append-nil xs)) ∙ sets-over xs [] vs h ∙ append-nil vs
 
 -- one size more among k: every later start is the sum
 starts-more : (k n : ℕ) (ks : List ℕ) (j m tot : ℕ) → length ks + m ≡ k → 0 < m → tot ≡ n + total ks + j
@@ -84,7 +72,7 @@ starts-more (suc k) n [] j m tot e h t =
     let l = startsFrom (n + 0) (fitted k []) in
     sets-cons n l 0 (replicate m tot)
     ∙ ap (λ (r : List ℕ). n ∷ r)
-    (sets-all l (replicate m tot) (length-replicate m tot ∙ q ∙ sym (starts-length (n + 0) (fitted k []) ∙ ap suc (fitted-length k [])))
+    (sets-all l (replicate m tot) (length-replicate m tot ∙ q ∙ sym (length-starts (n + 0) (fitted k []) ∙ ap suc (fitted-length k [])))
     ∙ ap₂ (λ (a b : ℕ). replicate a b) q u
     ∙ sym (starts-none k (n + j)))
 starts-more (suc k) n (x ∷ ks) j m tot e h t =
@@ -147,9 +135,9 @@ record Lengths (gs : List Group) : Type 0 where
 lengths : (gs : List Group) → Lengths gs
 lengths gs =
     record {
-      starts = starts-length 0 (fitted 8 (map sizeOf gs)) ∙ ap suc (fitted-length 8 (map sizeOf gs));
+      starts = length-starts 0 (fitted 8 (map sizeOf gs)) ∙ ap suc (fitted-length 8 (map sizeOf gs));
       flags = fitted-length 8 (map flagOf gs);
-      words = words-length (fitted 8 (map numberOf gs)) ∙ ap (λ (k : ℕ). 8 * k) (fitted-length 8 (map numberOf gs));
+      words = length-words (fitted 8 (map numberOf gs)) ∙ ap (λ (k : ℕ). 8 * k) (fitted-length 8 (map numberOf gs));
     }
 
 abbrev pub closeAt : ℕ → ℕ → ℕ → ℕ → ℕ → List ℕ → List ℕ

@@ -6,7 +6,7 @@ use Prim.Native.Nat.{ℕ, zero, suc, _+_, _-_, _/_, _%_, _^_, _≤_, _<_, zero-l
 use native.Mathlib.Nat.{zero-add, pow-le-pow-right}
 use native.Mathlib.Omega.{arith}
 use borrow.Author.Tests.{ltb-false, leb-true, le-leb, eq-eqb, not-false}
-use lib.ListN.{length, getD, take, drop, length-take, length-map}
+use lib.ListN.{length, getD, take, drop, length-take}
 use lib.Dec.{leb, ltb, eqb}
 use lib.Count.{trailingZeros}
 use Rattle.rules.specs.Lists.{total, every}
@@ -26,6 +26,7 @@ use Rattle.claims.specs.Shape.{All}
 use Rattle.claims.proofs.Found.{clash, passed, came, Found, stages}
 use Rattle.claims.proofs.Arena.{Sized}
 use Rattle.claims.proofs.Back.{number-small, all-fitted}
+use Rattle.rules.proofs.Sizes.{length-codes, length-starts}
 
 abbrev pub flagsRight : List ℕ → Bool
 flagsRight fs = every (λ (f : ℕ). leb f 1) fs
@@ -267,10 +268,6 @@ module _ (t : List ℕ) where
   codes-below [] h = tt
   codes-below (x ∷ xs) h = (to-admissible t x (h .0) .code, codes-below xs (h .1))
 
-  length-codes : (xs : List Op) → length (codes xs) ≡ length xs
-  unfolding codes
-  length-codes xs = length-map xs (λ (x : Op). x .code)
-
   pub number-fits : (xs : List Op) → Allowed xs → length xs ≤ 9 → Small (codesNumber xs)
   unfolding codesNumber
   number-fits xs h l =
@@ -327,11 +324,6 @@ module _ (t : List ℕ) where
         settle (λ vs end. All Small vs) (codesNumber g ∷ a .got) vs (a .to) end (a .rest)
         (number-fits g q (omega (arith, part-short (suc n) xs at, z .0)), slots-fit ns (immediates t g) xs (at + suc n) (a .got) (a .to) o (z .1) (immediates-fit g q) (a .first))
     slots-fit (suc n ∷ ns) (v ∷ due) xs at vs end o z d h = absurd (clash 9 b vs end h)
-
-pub length-starts : (n : ℕ) (ks : List ℕ) → length (startsFrom n ks) ≡ suc (length ks)
-unfolding startsFrom
-length-starts n [] = refl
-length-starts n (k ∷ ks) = ap suc (length-starts (n + k) ks)
 
 pub sized : (ns fs vs : List ℕ) → length ns ≡ 8 → length fs ≡ 8 → All Small vs → Sized (recordBy ns fs vs)
 unfolding recordBy

@@ -18,6 +18,7 @@ use Rattle.rules.proofs.Digits.{leAt-back, length-leBytes}
 use Rattle.rules.proofs.Operations.{codes-back, true-left, true-right}
 use Rattle.claims.specs.Shape.{All}
 use Rattle.claims.specs.Demand3.{lent, front}
+use Rattle.rules.proofs.Sizes.{length-words}
 
 bytes-back : (xs p q : List ℕ) → bytesAt (length xs) (p ++ (xs ++ q)) (length p) ≡ xs
 unfolding bytesAt
@@ -27,11 +28,6 @@ bytes-back (x ∷ xs) p q =
     let e : length (p ++ (x ∷ [])) ≡ length p + 1 = length-append p (x ∷ []) in
     ap₂ (λ (a : ℕ) (r : List ℕ). a ∷ r) (getD-append-seam p x (xs ++ q) 0)
     (ap₂ (λ (l : List ℕ) (k : ℕ). bytesAt (length xs) l k) (sym (append-snoc p x (xs ++ q))) (sym e) ∙ ih)
-
-words-length : (ns : List ℕ) → length (wordBytes ns) ≡ 8 * length ns
-unfolding wordBytes
-words-length [] = refl
-words-length (n ∷ ns) = length-append (leBytes 8 n) (wordBytes ns) ∙ omega (arith, length-leBytes 8 n, words-length ns)
 
 words-back : (ns p q : List ℕ) → All (λ n. n < 256 ^ 8) ns → wordsAt (length ns) (p ++ (wordBytes ns ++ q)) (length p) ≡ ns
 unfolding wordsAt wordBytes
@@ -58,7 +54,7 @@ record-back p q r b e h =
     let w = wordBytes (r .numbers) in
     let c = r .count ∷ [] in
     let all = p ++ (s ++ (f ++ (w ++ c)) ++ q) in
-    let lw : length w ≡ 64 = words-length (r .numbers) ∙ ap (λ (k : ℕ). 8 * k) (h .numbers) in
+    let lw : length w ≡ 64 = length-words (r .numbers) ∙ ap (λ (k : ℕ). 8 * k) (h .numbers) in
     let a1 : all ≡ p ++ (s ++ (f ++ (w ++ c) ++ q)) = ap (λ (l : List ℕ). p ++ l) (append-assoc s (f ++ (w ++ c)) q) in
     let a2 : all ≡ (p ++ s) ++ (f ++ (w ++ c ++ q)) = a1 ∙ sym (append-assoc p s (f ++ (w ++ c) ++ q)) ∙ ap (λ (l : List ℕ). (p ++ s) ++ l) (append-assoc f (w ++ c) q) in
     let a3 : all ≡ ((p ++ s) ++ f) ++ (w ++ (c ++ q)) = a2 ∙ sym (append-assoc (p ++ s) f (w ++ c ++ q)) ∙ ap (λ (l : List ℕ). ((p ++ s) ++ f) ++ l) (append-assoc w c q) in
@@ -74,7 +70,7 @@ record-back p q r b e h =
 
 record-length : (r : Record) → Sized r → length (recordBytes r) ≡ 82
 unfolding recordBytes
-record-length r h = simp length-append (omega (arith, h .starts, h .flags, words-length (r .numbers), h .numbers))
+record-length r h = simp length-append (omega (arith, h .starts, h .flags, length-words (r .numbers), h .numbers))
 
 pub records-length : (rs : List Record) → All Sized rs → length (recordsBytes rs) ≡ 82 * length rs
 unfolding recordsBytes

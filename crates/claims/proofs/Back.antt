@@ -23,6 +23,7 @@ use Rattle.claims.proofs.Stands.{Stands, here, first-of, rest-of, stand
 use Rattle.claims.proofs.Bytes.{digits-number, count-back, ops-back, batchCount-stands}
 use Rattle.rules.proofs.Digits.{length-digits, leAt-back}
 use Rattle.rules.proofs.Operations.{Admissible}
+use Rattle.rules.proofs.Sizes.{length-nibbles, length-flags}
 
 -- ---- sizes and flags of records
 
@@ -280,16 +281,6 @@ module _ (w : ℕ) (w8 : w ≤ 8) where
     wires [] h = tt
     wires (gs ∷ bs) h = (wire gs (h .0), wires bs (h .1))
 
-    pub length-nibbles : (rs : List Record) → length (nibbleBytes rs) ≡ 4 * length rs
-    unfolding nibbleBytes
-    length-nibbles [] = refl
-    length-nibbles (r ∷ rs) = simp (length-append, length-digits) (omega (arith, length-nibbles rs))
-
-    pub length-flags : (rs : List Record) → length (flagBytes rs) ≡ length rs
-    unfolding flagBytes
-    length-flags [] = refl
-    length-flags (r ∷ rs) = ap suc (length-flags rs)
-
   -- ---- a block
 
   -- what decoding asks of the buffer, the table and the room
@@ -341,8 +332,8 @@ module _ (w : ℕ) (w8 : w ≤ 8) where
       let m = nibbleBytes rs in
       let f = flagBytes rs in
       let lb : length b ≡ 4 = length-digits 256 4 (length rs) in
-      let lm : length m ≡ 4 * length rs = length-nibbles t rs in
-      let lf : length f ≡ length rs = length-flags t rs in
+      let lm : length m ≡ 4 * length rs = length-nibbles rs in
+      let lf : length f ≡ length rs = length-flags rs in
       let a₁ = at + length c in
       let a₂ = a₁ + length o in
       let a₃ = a₂ + length b in

@@ -18,6 +18,7 @@ use Rattle.rules.proofs.Operations.{Admissible}
 use Rattle.rules.proofs.Digits.{length-digits, leAt-back}
 use Rattle.claims.proofs.Lists.{split}
 use Rattle.claims.proofs.Stands.{Stands, here}
+use Rattle.rules.proofs.Sizes.{more-0, more-1, more-2, length-count}
 
 -- ---- digits
 
@@ -37,18 +38,6 @@ digits-number b (d ∷ ds) h =
     rw (m, q, digits-number b ds (h .1))
 
 -- ---- the count
-
-pub more-0 : (v : ℕ) → v < 128 → more v ≡ 0
-unfolding more
-more-0 v h = simp (lt-ltb v 128 h)
-
-pub more-1 : (v : ℕ) → 128 ≤ v → v < 16384 → more v ≡ 1
-unfolding more
-more-1 v l h = simp (le-ltb v 128 l, lt-ltb v 16384 h)
-
-pub more-2 : (v : ℕ) → 16384 ≤ v → more v ≡ 2
-unfolding more
-more-2 v l = simp (le-ltb v 128 (omega arith), le-ltb v 16384 l)
 
 pub tz-0 : (b : ℕ) → b % 2 ≡ 1 → trailingZeros 8 b ≡ 0
 unfolding trailingZeros
@@ -84,10 +73,6 @@ back t v x p q ht hv hl hx hz hd =
       le-ltb v (least t) hl,
       le-ltb 65535 v hv,
     )
-
-pub length-count : (v : ℕ) → length (countBytes v) ≡ more v + 1
-unfolding countBytes
-length-count v = length-digits 256 (more v + 1) ((2 * v + 1) * 2 ^ more v)
 
 counted : (v : ℕ) (p q : List ℕ) → v ≤ 65535 → countAt (p ++ (countBytes v ++ q)) (length p) ≡ found v (length p + more v + 1)
 unfolding countBytes

@@ -25,15 +25,15 @@ use Rattle.rules.proofs.Operations.{Admissible, to-admissible, fault-none, noop
 use Rattle.rules.proofs.Digits.{length-digits}
 use Rattle.claims.specs.Shape.{All, rawIn, raw, raws, EndsInNoop, RightGroup, PowerOfTwo, is1, is2, is4, is8, RightBatch, RightBatches}
 use Rattle.claims.specs.Demand3.{lent, Premises, Demand3}
-use Rattle.claims.proofs.Lists.{all-append, all-left}
+use Rattle.claims.proofs.Lists.{all-append, all-left, all-map}
 use Rattle.claims.proofs.Batching.{list-back, raws-append}
 use Rattle.claims.proofs.Right.{Width, Whole, whole-batches, right-batches}
-use Rattle.claims.proofs.Bytes.{length-count}
 use Rattle.claims.proofs.Stands.{Taken}
 use Rattle.claims.proofs.Once.{block-taken}
 use Rattle.claims.proofs.Arena.{block-in, lent-within, roomed, front-lent}
 use Rattle.claims.proofs.Again.{Encodable, encodable}
-use Rattle.claims.proofs.Back.{Writable, block-back, length-nibbles, length-flags}
+use Rattle.claims.proofs.Back.{Writable, block-back}
+use Rattle.rules.proofs.Sizes.{length-codes, length-values, length-count, length-nibbles, length-flags}
 
 noop-admissible : (t : List ℕ) → goodTable t ≡ true → Admissible t noop
 unfolding noop
@@ -175,8 +175,8 @@ module _ (t : List ℕ) where
       let b = more-size (length (blk .ops)) in
       let c = ops-size (blk .ops) in
       let d = length-digits 256 4 (length (blk .records)) in
-      let e = length-nibbles 8 (omega arith) t (blk .records) in
-      let f = length-flags 8 (omega arith) t (blk .records) in
+      let e = length-nibbles (blk .records) in
+      let f = length-flags (blk .records) in
       simp length-append (omega arith)
 
 -- ---- where nothing is at fault, nothing is refused
@@ -185,10 +185,6 @@ module _ {A B : Type 0} (f : B → ℕ) where
   pub none-first : (i : ℕ) (xs : List B) (r : Answer A) → All (λ x. f x ≡ 0) xs → refuseFirst i (map f xs) r ≡ r
   none-first i [] r h = first-done i r
   none-first i (x ∷ xs) r h = first-turn i (f x) (map f xs) r (h .0) ∙ none-first (i + 1) xs r (h .1)
-
-all-map : {A : Type 0} {P Q : A → Type 0} → ((x : A) → P x → Q x) → (xs : List A) → All P xs → All Q xs
-all-map f [] h = tt
-all-map f (x ∷ xs) h = (f x (h .0), all-map f xs (h .1))
 
 every-all : {A : Type 0} (test : A → Bool) (xs : List A) → every test xs ≡ true → All (λ x. test x ≡ true) xs
 unfolding every
@@ -231,14 +227,6 @@ written w t blk size at e l h =
     rw here at (written-in w t (lent blk) size at (lent-within blk (e .sized) (e .few) (e .less)) (e .table) (rw here (e .right)) (rw here (e .sum)) (rw here (e .allowed)) l (rw here h))
 
 -- ---- demand 3
-
-length-codes : (xs : List Op) → length (codes xs) ≡ length xs
-unfolding codes
-length-codes xs = length-map xs (λ (x : Op). x .code)
-
-length-values : (xs : List Op) → length (values xs) ≡ length xs
-unfolding values
-length-values xs = length-map xs (λ (x : Op). x .value)
 
 module _ (w : ℕ) (width : Width w) (t : List ℕ) (xs : List Op) (h : Premises t xs) where
   abbrev batches : List (List Group)

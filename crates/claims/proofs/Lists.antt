@@ -13,6 +13,10 @@ pub all-left {ℓ} : {A : Type ℓ} (P : A → Type 0) (xs ys : List A) → All 
 all-left P [] ys h = tt
 all-left P (x ∷ xs) ys h = (h .0, all-left P xs ys (h .1))
 
+pub all-map : {A : Type 0} {P Q : A → Type 0} → ((x : A) → P x → Q x) → (xs : List A) → All P xs → All Q xs
+all-map f [] h = tt
+all-map f (x ∷ xs) h = (f x (h .0), all-map f xs (h .1))
+
 -- a case split on two numbers
 pub split {ℓ} : {C : Type ℓ} (a b : ℕ) → (a < b → C) → (b ≤ a → C) → C
 split a b f g = elim (decLe b a) [ yes h ↦ g h | no h ↦ f (lt-of-not-le h) ]

@@ -18,7 +18,8 @@ use Rattle.rules.specs.Bytes.{least, countBy, countAt, more, countBytes, valueA
 use Rattle.rules.specs.Block.{Room, blockBytes, slots, cut, paddingRight, batchAt, batchesAt}
 use Rattle.rules.specs.Functions.{decoded}
 use Rattle.claims.proofs.Stands.{Stands, Taken, join, none, single, and-then, stands-fits, taken-fits}
-use Rattle.claims.proofs.Bytes.{number-digits, more-0, more-1, more-2}
+use Rattle.rules.proofs.Sizes.{more-0, more-1, more-2}
+use Rattle.claims.proofs.Bytes.{number-digits}
 use Rattle.rules.proofs.Digits.{length-digits}
 use Rattle.rules.proofs.Answer.{item, settle}
 use Rattle.rules.proofs.Answer as L

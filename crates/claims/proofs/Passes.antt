@@ -26,6 +26,7 @@ use Rattle.claims.proofs.Arena.{block-in, lent-within}
 use Rattle.claims.proofs.Back.{differences-starts, fitted-is}
 use Rattle.claims.proofs.Again.{Encodable, encodable, Sizes, Bits, nibbles-made, flags-made, ops-allowed, batch-made, total-split, laid}
 use Rattle.claims.proofs.Demand3.{none-first, ops-pass, structure-passes, demand3}
+use Rattle.claims.proofs.Lists.{all-map}
 
 -- ---- the numbers that the walk over the slots finds are those that the check wants
 
@@ -152,18 +153,14 @@ module _ (w : ℕ) (t : List ℕ) (xs : List Op) where
 
 -- ---- a block
 
-pub all-of : {A : Type 0} {P Q : A → Type 0} → ((x : A) → P x → Q x) → (xs : List A) → All P xs → All Q xs
-all-of f [] h = tt
-all-of f (x ∷ xs) h = (f x (h .0), all-of f xs (h .1))
-
 module _ (w : ℕ) (t : List ℕ) (blk : Block) (e : Encodable w t blk) (fine : All (Fine w t (blk .ops)) (held blk)) where
   padding-passes : {A : Type 0} (r : Answer A) → refuseFirst 0 (paddingFaults blk) r ≡ r
   unfolding paddingFaults
-  padding-passes r = none-first paddingFault 0 (held blk) r (all-of (λ h k. k .padding) (held blk) fine)
+  padding-passes r = none-first paddingFault 0 (held blk) r (all-map (λ h k. k .padding) (held blk) fine)
 
   commitment-passes : {A : Type 0} (r : Answer A) → refuseFirst 0 (commitmentFaults t blk) r ≡ r
   unfolding commitmentFaults
-  commitment-passes r = none-first (commitmentFault t) 0 (held blk) r (all-of (λ h k. k .commitment) (held blk) fine)
+  commitment-passes r = none-first (commitmentFault t) 0 (held blk) r (all-map (λ h k. k .commitment) (held blk) fine)
 
   passes : Passes w t blk
   unfolding structureChecked paddingChecked commitmentChecked

@@ -11,7 +11,7 @@ use lib.Dec.{leb, eqb}
 use Rattle.rules.specs.Lists.{fitted, total, every}
 use Rattle.rules.specs.Answer.{Answer, good, found, refuseFirst}
 use Rattle.rules.specs.Operations.{Op, goodTable, opFault, admissible}
-use Rattle.rules.specs.Record.{Record, Block, startsFrom, differences, codesNumber, recordBy, bytesAt, wordsAt, recordAt, recordsFrom, recordsIn}
+use Rattle.rules.specs.Record.{Record, Block, startsFrom, differences, codesNumber, recordBy, recordAt, recordsFrom, recordsIn}
 use Rattle.rules.specs.Bytes.{upTo}
 use Rattle.rules.specs.Block.{blockBytes, part, cut, immediates, emptyBefore, slots, endsInNoop, paddingRight, batchAt, batchesAt}
 use Rattle.rules.specs.Checks.{ninth, startsRight, recordRight, structureFaults, heldFrom, held, paddingFault, paddingFaults, placingFault, begins, orElse, groupsFault, emptyZero, commitmentFault, commitmentFaults}
@@ -25,7 +25,9 @@ use Rattle.claims.proofs.Back.{sizesOf, Wire, read-back}
 use Rattle.claims.proofs.Arena.{roomed}
 use Rattle.claims.proofs.Demand3.{written-in}
 use Rattle.claims.proofs.Again.{start-at, take-total, total-split, laid, laid-front}
-use Rattle.claims.proofs.Passes.{part-some, Right, here, all-of}
+use Rattle.claims.proofs.Passes.{part-some, Right, here}
+use Rattle.rules.proofs.Sizes.{length-bytesAt, length-wordsAt}
+use Rattle.claims.proofs.Lists.{all-map}
 
 -- ---- the slots that the commitment check found right are those that decoding takes
 
@@ -342,7 +344,7 @@ structured w b r a h =
     let c = eqb (total (map ninth (b .records))) (length (b .ops)) in
     let q = first-none f 0 (b .records) _ a (sym (first-append 0 (map f (b .records)) (cond c 0 15 ∷ []) r) ∙ h) in
     let e = first-none (λ (z : Bool). cond z 0 15) (0 + length (map f (b .records))) (c ∷ []) r a (q .1) in
-    (all-of (λ x k. no-cond (recordRight w x) 14 k) (b .records) (q .0), eqb-true (total (map ninth (b .records))) (length (b .ops)) (no-cond c 14 (e .0 .0)), e .1)
+    (all-map (λ x k. no-cond (recordRight w x) 14 k) (b .records) (q .0), eqb-true (total (map ninth (b .records))) (length (b .ops)) (no-cond c 14 (e .0 .0)), e .1)
 
 record Facts (w : ℕ) (t : List ℕ) (a : Arena) : Type 0 where
   inside : within a ≡ true
@@ -370,22 +372,12 @@ facts w t a p c =
       table = not-false (goodTable t) (c₂ .0);
       right = p₂ .0;
       sum = p₂ .1;
-      allowed = all-of (λ x k. no-cond (admissible t x) 3 k) (b .ops) (c₄ .0);
+      allowed = all-map (λ x k. no-cond (admissible t x) 3 k) (b .ops) (c₄ .0);
       padding = p₃ .0;
       commitment = c₅ .0;
     }
 
 -- ---- records as they lie in a run
-
-length-bytesAt : (k : ℕ) (s : List ℕ) (at : ℕ) → length (bytesAt k s at) ≡ k
-unfolding bytesAt
-length-bytesAt zero s at = refl
-length-bytesAt (suc k) s at = ap suc (length-bytesAt k s (at + 1))
-
-length-wordsAt : (k : ℕ) (s : List ℕ) (at : ℕ) → length (wordsAt k s at) ≡ k
-unfolding wordsAt
-length-wordsAt zero s at = refl
-length-wordsAt (suc k) s at = ap suc (length-wordsAt k s (at + 8))
 
 shaped-from : (k : ℕ) (s : List ℕ) (b : ℕ) → All Shaped (recordsFrom k s b) × (length (recordsFrom k s b) ≡ k)
 unfolding recordsFrom recordAt
@@ -491,7 +483,7 @@ module _ (w : ℕ) (w8 : w ≤ 8) (t : List ℕ) (a : Arena) (f : Facts w t a) w
         reads = λ before after room l k.
             let r = roomed b room k in
             read-back w w8 t b (map (settled t) (held b)) (before ++ (blockBytes t b ++ after)) (length before) room
-            (on-wires w w8 t (b .ops) (b .records) 0 batches) (all-of (to-admissible t) (b .ops) (f .allowed)) (few .0) (few .1) read
+            (on-wires w w8 t (b .ops) (b .records) 0 batches) (all-map (to-admissible t) (b .ops) (f .allowed)) (few .0) (few .1) read
             (record { before = before; after = after; whole = refl; place = refl })
             (record { table = f .table; buffer = l; place = simp length-append (omega arith); codes = r .0; values = r .1; records = r .2 });
         same = λ h j. record { ops = b .ops; records = all-same w w8 t (b .ops) (b .records) 0 batches h j };

@@ -12,7 +12,7 @@ use Rattle.decoder.specs.Replies.{decodedOf}
 use Rattle.decoder.specs.Stages.{OpsIn, RecordsIn, Reading, tailless}
 use Rattle.decoder.specs.declared.Decoded.{Decoded}
 use Rattle.decoder.specs.declared.Decoded.the-variants as whole
-use Rattle.decoder.proofs.Ops.{length-codes, length-values}
+use Rattle.rules.proofs.Sizes.{length-codes, length-values}
 
 -- two arenas of the same lengths
 pub record Even (a b : Arena) : Type 0 where

@@ -21,6 +21,7 @@ use Rattle.wire.specs.declared.CountRead.{CountRead}
 use Rattle.wire.specs.declared.CountRead.the-variants as count
 use Rattle.decoder.specs.Stages.{IfFound, Staged, OpsIn, Coded, itemsAt}
 use Rattle.decoder.proofs.Stages.{onto, onto-then, onto-found, if-then, if-refuse, held, found-by}
+use Rattle.rules.proofs.Sizes.{length-codes, length-values}
 
 -- ---- the operations of two runs
 
@@ -43,16 +44,6 @@ values-operations [] [] h = refl
 values-operations [] (v ∷ vs) h = absurd (omega arith)
 values-operations (c ∷ cs) [] h = absurd (omega arith)
 values-operations (c ∷ cs) (v ∷ vs) h = ap (λ (l : List ℕ). v ∷ l) (values-operations cs vs (omega arith))
-
-pub length-codes : (xs : List Op) → length (codes xs) ≡ length xs
-unfolding codes
-length-codes [] = refl
-length-codes (x ∷ xs) = ap suc (length-codes xs)
-
-pub length-values : (xs : List Op) → length (values xs) ≡ length xs
-unfolding values
-length-values [] = refl
-length-values (x ∷ xs) = ap suc (length-values xs)
 
 nothing : (cs : List ℕ) → operations cs [] ≡ []
 unfolding operations

@@ -9,10 +9,8 @@ use lib.Seq.{sets, drop-cons}
 use Rattle.rules.specs.Digits.{digits, leBytes}
 use Rattle.rules.specs.Record.{startsFrom, wordBytes}
 use Rattle.rules.proofs.Digits.{length-leBytes, sets-append}
-
--- one list stored after another
-next : (l : List ℕ) (at : ℕ) (xs : List ℕ) (k : ℕ) (ys : List ℕ) → k ≡ at + length xs → sets (sets l at xs) k ys ≡ sets l at (xs ++ ys)
-next l at xs k ys h = rw h (sym (sets-append l at xs ys))
+use Rattle.rules.proofs.Sizes.{length-starts, length-words}
+use Rattle.rules.proofs.Runs.{sets-next}
 
 -- numbers stored one after the other
 module _ (ns : List ℕ) (i : ℕ) where
@@ -34,16 +32,6 @@ unfolding digits
 length-digits b zero v = refl
 length-digits b (suc k) v = ap suc (length-digits b k (v / b))
 
-length-starts : (n : ℕ) (ns : List ℕ) → length (startsFrom n ns) ≡ suc (length ns)
-unfolding startsFrom
-length-starts n [] = refl
-length-starts n (k ∷ ns) = ap suc (length-starts (n + k) ns)
-
-length-words : (ns : List ℕ) → length (wordBytes ns) ≡ 8 * length ns
-unfolding wordBytes
-length-words [] = refl
-length-words (n ∷ ns) = length-append (leBytes 8 n) (wordBytes ns) ∙ omega (arith, length-leBytes 8 n, length-words ns)
-
 module _ (v f : ℕ) (ns : List ℕ) (c : ℕ) (n : length ns ≡ 8) where
   abbrev pub bytes : List ℕ
   bytes = startsFrom 0 (digits 16 8 v) ++ (digits 2 8 f ++ (wordBytes ns ++ (c ∷ [])))
@@ -60,6 +48,6 @@ module _ (v f : ℕ) (ns : List ℕ) (c : ℕ) (n : length ns ≡ 8) where
   -- its four parts, stored one after the other
   pub record-stored : (l : List ℕ) (at : ℕ) → set (sets (sets (sets l at (startsFrom 0 (digits 16 8 v))) (at + 9) (digits 2 8 f)) (at + 17) (wordBytes ns)) (at + 81) c ≡ sets l at bytes
   record-stored l at =
-      next (sets (sets l at (startsFrom 0 (digits 16 8 v))) (at + 9) (digits 2 8 f)) (at + 17) (wordBytes ns) (at + 81) (c ∷ []) (omega (arith, words))
-      ∙ next (sets l at (startsFrom 0 (digits 16 8 v))) (at + 9) (digits 2 8 f) (at + 17) (wordBytes ns ++ (c ∷ [])) (omega (arith, length-digits 2 8 f))
-      ∙ next l at (startsFrom 0 (digits 16 8 v)) (at + 9) (digits 2 8 f ++ (wordBytes ns ++ (c ∷ []))) (omega (arith, starts))
+      sets-next (sets (sets l at (startsFrom 0 (digits 16 8 v))) (at + 9) (digits 2 8 f)) (at + 17) (wordBytes ns) (at + 81) (c ∷ []) (omega (arith, words))
+      ∙ sets-next (sets l at (startsFrom 0 (digits 16 8 v))) (at + 9) (digits 2 8 f) (at + 17) (wordBytes ns ++ (c ∷ [])) (omega (arith, length-digits 2 8 f))
+      ∙ sets-next l at (startsFrom 0 (digits 16 8 v)) (at + 9) (digits 2 8 f ++ (wordBytes ns ++ (c ∷ []))) (omega (arith, starts))

@@ -8,7 +8,7 @@ ghost use lib.Seq.{sets};
 ghost use Rattle.rules.specs.Lists.{fitted, total};
 ghost use Rattle.rules.specs.Digits.{digits, number, leAt};
 ghost use Rattle.rules.specs.Operations.{Op, operations};
-ghost use Rattle.rules.specs.Record.{Record, Block, startsFrom, wordBytes, recordBytes};
+ghost use Rattle.rules.specs.Record.{Record, startsFrom, wordBytes, recordBytes};
 ghost use Rattle.rules.specs.Bytes.{opsAt, nibblesAt, upTo};
 ghost use Rattle.rules.specs.Block.{Head, immediates, slots, batchAt, batchesAt, blockAt};
 ghost use Rattle.rules.specs.Functions.{arena, roomIn, decoded};

@@ -2,7 +2,7 @@
 use mathlib.Core.Path.{_≡_, refl, sym, ap, _∙_}
 use mathlib.Core.Bool.{Bool, true, false, cond, _&&_}
 use mathlib.Core.List.{List, [], _∷_, _++_}
-use Prim.Native.Nat.{ℕ, zero, suc, _+_, _-_, _*_, _/_, _^_, _≤_, _<_}
+use Prim.Native.Nat.{ℕ, zero, suc, _+_, _-_, _*_, _/_, _≤_, _<_}
 use native.Mathlib.Numerals.{add-one}
 use native.Mathlib.Nat.{sub-zero}
 use native.Mathlib.Omega.{arith}
@@ -18,15 +18,12 @@ use Rattle.rules.specs.Bytes.{more, countBytes, opBytes, opsBytes, nibbleBytes,
 use Rattle.rules.specs.Block.{blockBytes}
 use Rattle.rules.specs.Checks.{ninth, startsRight, recordRight}
 use Rattle.rules.specs.Functions.{arena, blockIn}
-use Rattle.rules.proofs.Digits.{split, length-leBytes, sets-append}
+use Rattle.rules.proofs.Digits.{split, length-leBytes}
 use Rattle.rules.proofs.Operations.{op, kind-at, length-operations, operations-turn, operations-end, true-left, true-right}
-use Rattle.wire.proofs.Laws.{more-0, more-1, more-2}
 use Rattle.checks.proofs.Walk.{records-turn, records-end}
 use Rattle.encoder.specs.Parts.{opsSize}
-
--- one list stored after another
-next : (l : List ℕ) (at : ℕ) (xs : List ℕ) (k : ℕ) (ys : List ℕ) → k ≡ at + length xs → sets (sets l at xs) k ys ≡ sets l at (xs ++ ys)
-next l at xs k ys h = rw h (sym (sets-append l at xs ys))
+use Rattle.rules.proofs.Sizes.{length-count, length-nibbles, length-flags, more-0, more-1, more-2}
+use Rattle.rules.proofs.Runs.{sets-next}
 
 -- ---- operations
 
@@ -80,7 +77,7 @@ module _ (rs : List ℕ) (n b : ℕ) where
   unfolding nibbleBytes recordAt
   deltas-turn l at h =
       let v = number 16 (differences (bytesAt 9 rs (82 * b))) in
-      rw (records-turn n rs b h) (next l (at + 4 * b) (leBytes 4 v) (at + 4 * (b + 1)) (nibbleBytes (recordsFrom (n - (b + 1)) rs (b + 1))) (omega (arith, length-leBytes 4 v)))
+      rw (records-turn n rs b h) (sets-next l (at + 4 * b) (leBytes 4 v) (at + 4 * (b + 1)) (nibbleBytes (recordsFrom (n - (b + 1)) rs (b + 1))) (omega (arith, length-leBytes 4 v)))
 
   pub flags-turn : (l : List ℕ) (at : ℕ) → b < n
       → sets (set l (at + b) (number 2 (bytesAt 8 rs (82 * b + 9)))) (at + (b + 1)) (flagBytes (recordsFrom (n - (b + 1)) rs (b + 1))) ≡ sets l (at + b) (flagBytes (recordsFrom (n - b) rs b))
@@ -129,22 +126,6 @@ module _ (rs : List ℕ) (b : ℕ) (h : recordRight 8 (recordAt rs b) ≡ true) 
 
 pub more-most : (v : ℕ) → more v ≤ 2
 more-most v = split v 128 (λ h. omega (arith, more-0 v h)) (λ h. split v 16384 (λ k. omega (arith, more-1 v h k)) (λ k. omega (arith, more-2 v k)))
-
-length-count : (v : ℕ) → length (countBytes v) ≡ more v + 1
-unfolding countBytes
-length-count v = length-leBytes (more v + 1) ((2 * v + 1) * 2 ^ more v)
-
-length-nibbles : (rs : List Record) → length (nibbleBytes rs) ≡ 4 * length rs
-unfolding nibbleBytes
-length-nibbles [] = refl
-length-nibbles (r ∷ rs) =
-    let v = number 16 (differences (r .starts)) in
-    length-append (leBytes 4 v) (nibbleBytes rs) ∙ omega (arith, length-leBytes 4 v, length-nibbles rs)
-
-length-flags : (rs : List Record) → length (flagBytes rs) ≡ length rs
-unfolding flagBytes
-length-flags [] = refl
-length-flags (r ∷ rs) = ap suc (length-flags rs)
 
 length-from : (k : ℕ) (s : List ℕ) (b : ℕ) → length (recordsFrom k s b) ≡ k
 unfolding recordsFrom
@@ -198,8 +179,8 @@ module _ (t cs vs rs : List ℕ) (e : length cs ≡ length vs) where
       let b = leBytes 4 (length rs / 82) in
       let n = nibbleBytes (recordsIn rs) in
       let f = flagBytes (recordsIn rs) in
-      next (sets (sets (sets l at c) p o) q b) (q + 4) n (q + 4 + 4 * (length rs / 82)) f (omega (arith, length-nibbles (recordsIn rs), length-records rs))
-      ∙ next (sets (sets l at c) p o) q b (q + 4) (n ++ f) (omega (arith, length-leBytes 4 (length rs / 82)))
-      ∙ next (sets l at c) p o q (b ++ (n ++ f)) k
-      ∙ next l at c p (o ++ (b ++ (n ++ f))) (omega (arith, length-count (length cs)))
+      sets-next (sets (sets (sets l at c) p o) q b) (q + 4) n (q + 4 + 4 * (length rs / 82)) f (omega (arith, length-nibbles (recordsIn rs), length-records rs))
+      ∙ sets-next (sets (sets l at c) p o) q b (q + 4) (n ++ f) (omega (arith, length-leBytes 4 (length rs / 82)))
+      ∙ sets-next (sets l at c) p o q (b ++ (n ++ f)) k
+      ∙ sets-next l at c p (o ++ (b ++ (n ++ f))) (omega (arith, length-count (length cs)))
       ∙ ap (sets l at) (sym block-items)

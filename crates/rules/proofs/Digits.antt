@@ -2,14 +2,13 @@
 use mathlib.Core.Path.{_≡_, refl, sym, ap, _∙_}
 use mathlib.Core.List.{List, [], _∷_, _++_}
 use Prim.Native.Nat.{ℕ, zero, suc, _+_, _*_, _/_, _%_, _^_, _≤_, _<_}
-use native.Mathlib.Nat.{zero-add, suc-add, add-zero, add-suc, pow-suc, mul-assoc, mul-comm, div-div-eq-div-mul, div-add-mod, div-lt-iff-lt-mul}
-use native.Mathlib.Nat.{div-one, lt-of-not-le, le-of-suc-le-suc, not-suc-le-zero}
-use native.Mathlib.Numerals.{add-one}
+use native.Mathlib.Nat.{zero-add, suc-add, add-zero, add-suc, pow-suc, mul-assoc, mul-comm, div-div-eq-div-mul}
+use native.Mathlib.Nat.{div-one, lt-of-not-le}
 use native.Mathlib.Decide.{decLe}
 use native.Mathlib.Omega.{arith}
-use lib.ListN.{length-append, length, take, drop, set, getD, replicate}
+use lib.ListN.{length-append, length, set, getD}
 use lib.Seq.{sets, getD-append-seam, append-snoc}
-use Rattle.rules.specs.Digits.{digits, number, leAt, leBytes}
+use Rattle.rules.specs.Digits.{digits, leAt, leBytes}
 
 -- ---- a case split on two numbers
 

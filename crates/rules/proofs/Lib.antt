@@ -2,3 +2,4 @@ pub mod Digits
 pub mod Runs
 pub mod Answer
 pub mod Operations
+pub mod Sizes

@@ -1,14 +1,14 @@
 -- Laws of operations and their table. Assumes nothing.
-use mathlib.Core.Path.{_≡_, refl, sym, ap, _∙_}
-use mathlib.Core.Bool.{Bool, true, false, cond, not, _&&_}
-use mathlib.Core.List.{List, [], _∷_, _++_, map}
+use mathlib.Core.Path.{_≡_, refl, ap}
+use mathlib.Core.Bool.{Bool, true, false, cond, _&&_}
+use mathlib.Core.List.{List, [], _∷_}
 use Prim.Native.Nat.{ℕ, zero, suc, _+_, _≤_, _<_}
 use native.Mathlib.Nat.{le-of-suc-le-suc, not-suc-le-zero}
 use native.Mathlib.Numerals.{add-one}
 use native.Mathlib.Omega.{arith}
-use borrow.Author.Tests.{ltb-true, lt-ltb, le-ltb, le-leb, lt-leb, leb-true, eqb-true, eq-eqb}
+use borrow.Author.Tests.{ltb-true, eqb-true}
 use lib.ListN.{length, getD, drop, drop-of-length-le}
-use lib.Seq.{drop-cons, drop-nil}
+use lib.Seq.{drop-cons}
 use lib.Dec.{leb, ltb, eqb}
 use Rattle.rules.specs.Lists.{every}
 use Rattle.rules.specs.Operations.{Op, operations, codes, values, kindOf, goodTable, noop, assigned, valued, hasImmediate, field, valueRight, admissible, opFault}

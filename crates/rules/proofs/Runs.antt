@@ -1,14 +1,15 @@
 -- Lent runs: content, then zeros (`fitted`), under stores at the end of the content and within it. Assumes nothing.
-use mathlib.Core.Path.{_≡_, refl, sym, ap, ap₂, _∙_, subst}
-use mathlib.Core.List.{List, [], _∷_, _++_, append-assoc, append-nil}
+use mathlib.Core.Path.{_≡_, refl, sym, ap, ap₂, _∙_}
+use mathlib.Core.List.{List, [], _∷_, _++_, append-nil}
 use Prim.Native.Nat.{ℕ, zero, suc, _+_, _-_, _/_, _%_, _≤_, _<_}
 use native.Mathlib.Numerals.{add-one}
 use native.Mathlib.Nat.{add-suc, zero-add, suc-add, not-suc-le-zero, le-of-suc-le-suc}
 use native.Mathlib.Omega.{arith}
-use lib.ListN.{length, getD, take, drop, set, replicate, length-append, length-set, drop-of-length-le}
+use lib.ListN.{length, getD, take, drop, set, replicate, length-set, drop-of-length-le}
 use lib.Seq.{sets, sets-eq, set-append-left, drop-cons, append-snoc}
 use Rattle.rules.specs.Digits.{digits, leBytes}
 use Rattle.rules.specs.Lists.{fitted}
+use Rattle.rules.proofs.Digits.{sets-append}
 
 pub fitted-length : (n : ℕ) (xs : List ℕ) → length (fitted n xs) ≡ n
 unfolding fitted
@@ -129,3 +130,11 @@ pub sets-fitted : (n : ℕ) (xs : List ℕ) (k : ℕ) (vs : List ℕ) → k + le
 sets-fitted n xs k [] h = refl
 sets-fitted n xs k (v ∷ vs) h =
     ap (λ (l : List ℕ). sets l (suc k) vs) (set-fitted n xs k v (omega arith)) ∙ sets-fitted n (set xs k v) (suc k) vs (rw (length-set xs k v) (omega arith))
+
+-- a list stored over all of a run
+pub sets-all : (xs vs : List ℕ) → length vs ≡ length xs → sets xs 0 vs ≡ vs
+sets-all xs vs h = ap (λ (l : List ℕ). sets l 0 vs) (sym (append-nil xs)) ∙ sets-over xs [] vs h ∙ append-nil vs
+
+-- one list stored right after another
+pub sets-next : (l : List ℕ) (at : ℕ) (xs : List ℕ) (k : ℕ) (ys : List ℕ) → k ≡ at + length xs → sets (sets l at xs) k ys ≡ sets l at (xs ++ ys)
+sets-next l at xs k ys h = rw h (sym (sets-append l at xs ys))

@@ -1,12 +1,12 @@
 -- Document 01, "Block bytes (001)": a whole block, written and read.
 use mathlib.Core.Bool.{Bool, true, false, cond, not, _&&_}
-use mathlib.Core.List.{List, [], _∷_, _++_, map}
+use mathlib.Core.List.{List, [], _∷_, _++_}
 use Prim.Native.Nat.{ℕ, zero, suc, _+_}
 use lib.ListN.{length, take, drop}
 use lib.Dec.{leb, ltb, eqb}
 use Rattle.rules.specs.Lists.{total}
 use Rattle.rules.specs.Digits.{leBytes}
-use Rattle.rules.specs.Answer.{Answer, good, refused, Read, found, refuse, _then_}
+use Rattle.rules.specs.Answer.{refused, Read, found, refuse, _then_}
 use Rattle.rules.specs.Operations.{Op, hasImmediate}
 use Rattle.rules.specs.Record.{Record, Block, codesNumber, recordBy}
 use Rattle.rules.specs.Bytes.{countAt, countBytes, opsAt, opsBytes, batchCountAt, nibblesAt, nibbleBytes, flagsAt, flagBytes}

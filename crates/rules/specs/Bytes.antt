@@ -1,5 +1,5 @@
 -- Document 01, "Block bytes (001)", items 1 to 5, each read at a place of a list of bytes and written.
-use mathlib.Core.Bool.{Bool, true, false, cond, not}
+use mathlib.Core.Bool.{Bool, cond, not}
 use mathlib.Core.List.{List, [], _∷_, _++_}
 use Prim.Native.Nat.{ℕ, zero, suc, _+_, _-_, _*_, _/_, _^_}
 use lib.ListN.{length, getD, drop}
@@ -7,7 +7,7 @@ use lib.Dec.{leb, ltb}
 use lib.Count.{trailingZeros}
 use Rattle.rules.specs.Lists.{every}
 use Rattle.rules.specs.Digits.{digits, number, leBytes, leAt}
-use Rattle.rules.specs.Answer.{Answer, good, refused, Read, found, refuse, _then_}
+use Rattle.rules.specs.Answer.{Read, found, refuse, _then_}
 use Rattle.rules.specs.Operations.{Op, assigned, valued, field}
 use Rattle.rules.specs.Record.{Record, differences}
 

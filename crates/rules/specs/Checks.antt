@@ -1,9 +1,9 @@
 -- Document 01, "Checks (000, 002)": each check as the faults of a block's batches, 0 where a batch has none.
-use mathlib.Core.Bool.{Bool, true, false, cond, not, _&&_}
+use mathlib.Core.Bool.{Bool, true, false, cond, _&&_}
 use mathlib.Core.List.{List, [], _∷_, _++_, map}
 use Prim.Native.Nat.{ℕ, zero, suc, _+_}
 use lib.ListN.{length, getD, take}
-use lib.Dec.{leb, ltb, eqb}
+use lib.Dec.{leb, eqb}
 use Rattle.rules.specs.Lists.{total, every}
 use Rattle.rules.specs.Operations.{Op}
 use Rattle.rules.specs.Record.{Record, Block, differences, codesNumber}

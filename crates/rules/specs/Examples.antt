@@ -1,8 +1,6 @@
 -- Document 01, "Numbers to check", computed by the checker from the definitions: one table under one claim.
 use mathlib.Core.Path.{_≡_, refl}
-use mathlib.Core.Bool.{Bool, true, false}
-use mathlib.Core.List.{List, [], _∷_, _++_, map}
-use mathlib.Core.Option.{Option, none, some}
+use mathlib.Core.List.{List, [], _∷_, _++_}
 use Prim.Native.Nat.{ℕ}
 use lib.ListN.{length, replicate}
 use Rattle.rules.specs.Answer.{Answer, good, refused, Read, found}
@@ -10,7 +8,6 @@ use Rattle.rules.specs.Operations.{Op, codes, values}
 use Rattle.rules.specs.Record.{Record, Block, recordsBytes}
 use Rattle.rules.specs.Bytes.{countAt, countBytes}
 use Rattle.rules.specs.Block.{Room}
-use Rattle.rules.specs.Lookups.{paddedIndex, rawIndex}
 use Rattle.rules.specs.Functions.{Arena, arena, built, encoded, decoded, structureChecked, paddingChecked, commitmentChecked, rawTabled, paddedTabled}
 use Rattle.rules.specs.Open.{document}
 

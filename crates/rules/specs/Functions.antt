@@ -1,14 +1,14 @@
 -- Document 01, "Numbers of refusal": the whole answer of each public function, its refusals in document 01's order, and what it leaves in lent outputs.
-use mathlib.Core.Bool.{Bool, true, false, cond, not, _&&_, _||_}
-use mathlib.Core.List.{List, [], _∷_, map}
+use mathlib.Core.Bool.{Bool, not, _&&_, _||_}
+use mathlib.Core.List.{List, [], map}
 use mathlib.Core.Option.{Option}
 use Prim.Native.Nat.{ℕ, _+_, _/_, _%_}
 use lib.ListN.{length}
 use lib.Dec.{leb, ltb, eqb}
 use lib.Seq.{sets}
 use Rattle.rules.specs.Lists.{fitted}
-use Rattle.rules.specs.Answer.{Answer, good, refused, Item, Read, refuse, refuseFirst}
-use Rattle.rules.specs.Operations.{Op, operations, codes, values, goodTable, opFault}
+use Rattle.rules.specs.Answer.{Answer, good, refused, Read, refuse, refuseFirst}
+use Rattle.rules.specs.Operations.{operations, codes, values, goodTable, opFault}
 use Rattle.rules.specs.Batching.{batchesOf}
 use Rattle.rules.specs.Record.{Record, Block, blockOf, noBlock, recordSize, recordsBytes, recordsIn}
 use Rattle.rules.specs.Block.{Room, blockBytes, blockAt}

@@ -6,7 +6,6 @@ use Prim.Native.Nat.{ℕ, zero, suc, _+_, _-_}
 use lib.ListN.{length, getD, take, replicate}
 use lib.Dec.{leb, ltb, eqb}
 use Rattle.rules.specs.Record.{Record, Block, differences}
-use Rattle.rules.specs.Checks.{Held, held}
 
 -- ---- lookups in one batch
 

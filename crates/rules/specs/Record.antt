@@ -1,5 +1,5 @@
 -- What a batch records (document 01, "Batching (000)"), a block's operations, and how records lie in a lent run of bytes.
-use mathlib.Core.Bool.{Bool, true, false, cond}
+use mathlib.Core.Bool.{cond}
 use mathlib.Core.List.{List, [], _∷_, _++_, map}
 use Prim.Native.Nat.{ℕ, zero, suc, _+_, _-_, _*_, _/_}
 use lib.ListN.{length, getD}

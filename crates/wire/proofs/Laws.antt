@@ -1,19 +1,18 @@
 -- Laws of the items: digits and runs of bytes walked by a loop, the width of a count, the bytes of an operation. Assumes nothing.
-use mathlib.Core.Path.{_≡_, refl, sym, ap, _∙_}
-use mathlib.Core.Bool.{Bool, true, false, cond, _&&_}
+use mathlib.Core.Path.{_≡_, refl, ap}
+use mathlib.Core.Bool.{Bool, true, false, _&&_}
 use mathlib.Core.List.{List, [], _∷_}
 use Prim.Native.Nat.{ℕ, zero, suc, _+_, _-_, _*_, _/_, _%_, _^_, _≤_, _<_}
 use native.Mathlib.Nat.{add-zero, pow-suc, pow-le-pow-right}
-use native.Mathlib.Numerals.{add-one}
 use native.Mathlib.Omega.{arith}
-use borrow.Author.Tests.{le-ltb, lt-ltb, le-leb, lt-leb, ne-eqb, leb-true}
+use borrow.Author.Tests.{le-leb, lt-leb, ne-eqb, leb-true}
 use lib.ListN.{length, getD}
 use lib.Dec.{leb}
 use Rattle.rules.specs.Lists.{every}
 use Rattle.rules.specs.Digits.{digits, number, leBytes}
-use Rattle.rules.specs.Operations.{Op, kindOf, valued}
+use Rattle.rules.specs.Operations.{valued}
 use Rattle.rules.specs.Record.{differences, bytesAt}
-use Rattle.rules.specs.Bytes.{more, opBytes, upTo}
+use Rattle.rules.specs.Bytes.{opBytes, upTo}
 use Rattle.rules.specs.Checks.{startsRight}
 use Rattle.rules.proofs.Operations.{op, kind-at, true-left, true-right}
 
@@ -91,18 +90,6 @@ starts-at (suc n) s j h (suc k) l =
     rw e (starts-at n s (j + 1) (step-at s j (startsRight (bytesAt (suc n) s (j + 1))) h .1) k (omega arith))
 
 -- ---- how many bytes a count takes
-
-pub more-0 : (v : ℕ) → v < 128 → more v ≡ 0
-unfolding more
-more-0 v h = simp (lt-ltb v 128 h)
-
-pub more-1 : (v : ℕ) → 128 ≤ v → v < 16384 → more v ≡ 1
-unfolding more
-more-1 v l h = simp (le-ltb v 128 l, lt-ltb v 16384 h)
-
-pub more-2 : (v : ℕ) → 16384 ≤ v → more v ≡ 2
-unfolding more
-more-2 v l = simp (le-ltb v 128 (omega arith), le-ltb v 16384 l)
 
 -- ---- the bytes of an operation, by its kind
 

@@ -7,7 +7,6 @@ ghost use lib.Seq.{sets};
 ghost use lib.Dec.{leb};
 ghost use Rattle.rules.specs.Lists.{every};
 ghost use Rattle.rules.specs.Digits.{digits, number, leAt};
-ghost use Rattle.rules.specs.Operations.{Op};
 ghost use Rattle.rules.specs.Record.{startsFrom, differences, bytesAt};
 ghost use Rattle.rules.specs.Bytes.{countAt, least, more, countBytes, opAt, valueAt, opBytes, batchCountAt, upTo};
 ghost use Rattle.rules.specs.Checks.{startsRight};

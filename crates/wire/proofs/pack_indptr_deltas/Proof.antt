@@ -1,10 +1,8 @@
 use mathlib.Core.Path.{_≡_, refl, sym, ap, _∙_}
 use native.Mathlib.Nat.{add-zero}
 use native.Mathlib.Omega.{arith}
-use borrow.Author.Needs.{needs}
 use denote.Ref.{now}
-use Prim.Native.Nat.{ℕ, _+_, _-_, _^_, _≤_, _<_}
-use lib.ListN.{length, getD}
+use Prim.Native.Nat.{_+_, _-_, _^_, _≤_, _<_}
 use Rattle.rules.specs.Digits.{number}
 use Rattle.wire.proofs.Laws.{power-turn, power-most, steps, steps-turn, differences-steps, starts-at}
 use Rattle.wire.proofs.pack_indptr_deltas.Statement.{statement}

@@ -1,14 +1,13 @@
-use mathlib.Core.Path.{_≡_, refl, sym, ap, _∙_}
+use mathlib.Core.Path.{_≡_, ap, _∙_}
 use mathlib.Core.List.{List}
 use native.Mathlib.Omega.{arith}
-use native.Mathlib.Numerals.{add-one}
 use denote.Ref.{now}
 use Prim.Native.Nat.{ℕ, suc, _+_, _*_, _/_, _%_}
 use lib.ListN.{set}
 use lib.Seq.{sets}
 use Rattle.rules.specs.Digits.{digits, leBytes}
 use Rattle.rules.specs.Bytes.{countBytes}
-use Rattle.wire.proofs.Laws.{more-0, more-1, more-2}
+use Rattle.rules.proofs.Sizes.{more-0, more-1, more-2}
 use borrow.Author.Needs.{needs}
 use Rattle.wire.proofs.write_count.Statement.{statement}
 use Rattle.wire.proofs.write_count.Tie as tie

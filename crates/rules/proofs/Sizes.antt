@@ -1,0 +1,72 @@
+-- How long the parts of a block are. Assumes nothing.
+use mathlib.Core.Path.{_≡_, refl, ap, _∙_}
+use mathlib.Core.List.{List, [], _∷_}
+use Prim.Native.Nat.{ℕ, zero, suc, _+_, _*_, _^_, _≤_, _<_}
+use native.Mathlib.Omega.{arith}
+use borrow.Author.Tests.{lt-ltb, le-ltb}
+use lib.ListN.{length, length-append, length-map}
+use Rattle.rules.specs.Digits.{number, leBytes}
+use Rattle.rules.specs.Operations.{Op, codes, values}
+use Rattle.rules.specs.Record.{Record, startsFrom, differences, wordBytes, bytesAt, wordsAt}
+use Rattle.rules.specs.Bytes.{more, countBytes, nibbleBytes, flagBytes}
+use Rattle.rules.proofs.Digits.{length-leBytes}
+
+pub length-codes : (xs : List Op) → length (codes xs) ≡ length xs
+unfolding codes
+length-codes xs = length-map xs (λ (x : Op). x .code)
+
+pub length-values : (xs : List Op) → length (values xs) ≡ length xs
+unfolding values
+length-values xs = length-map xs (λ (x : Op). x .value)
+
+-- ---- records
+
+pub length-starts : (n : ℕ) (ks : List ℕ) → length (startsFrom n ks) ≡ suc (length ks)
+unfolding startsFrom
+length-starts n [] = refl
+length-starts n (k ∷ ks) = ap suc (length-starts (n + k) ks)
+
+pub length-words : (ns : List ℕ) → length (wordBytes ns) ≡ 8 * length ns
+unfolding wordBytes
+length-words [] = refl
+length-words (n ∷ ns) = length-append (leBytes 8 n) (wordBytes ns) ∙ omega (arith, length-leBytes 8 n, length-words ns)
+
+pub length-bytesAt : (k : ℕ) (s : List ℕ) (at : ℕ) → length (bytesAt k s at) ≡ k
+unfolding bytesAt
+length-bytesAt zero s at = refl
+length-bytesAt (suc k) s at = ap suc (length-bytesAt k s (at + 1))
+
+pub length-wordsAt : (k : ℕ) (s : List ℕ) (at : ℕ) → length (wordsAt k s at) ≡ k
+unfolding wordsAt
+length-wordsAt zero s at = refl
+length-wordsAt (suc k) s at = ap suc (length-wordsAt k s (at + 8))
+
+-- ---- the items of a block's bytes
+
+pub more-0 : (v : ℕ) → v < 128 → more v ≡ 0
+unfolding more
+more-0 v h = simp (lt-ltb v 128 h)
+
+pub more-1 : (v : ℕ) → 128 ≤ v → v < 16384 → more v ≡ 1
+unfolding more
+more-1 v l h = simp (le-ltb v 128 l, lt-ltb v 16384 h)
+
+pub more-2 : (v : ℕ) → 16384 ≤ v → more v ≡ 2
+unfolding more
+more-2 v l = simp (le-ltb v 128 (omega arith), le-ltb v 16384 l)
+
+pub length-count : (v : ℕ) → length (countBytes v) ≡ more v + 1
+unfolding countBytes
+length-count v = length-leBytes (more v + 1) ((2 * v + 1) * 2 ^ more v)
+
+pub length-nibbles : (rs : List Record) → length (nibbleBytes rs) ≡ 4 * length rs
+unfolding nibbleBytes
+length-nibbles [] = refl
+length-nibbles (r ∷ rs) =
+    let v = number 16 (differences (r .starts)) in
+    length-append (leBytes 4 v) (nibbleBytes rs) ∙ omega (arith, length-leBytes 4 v, length-nibbles rs)
+
+pub length-flags : (rs : List Record) → length (flagBytes rs) ≡ length rs
+unfolding flagBytes
+length-flags [] = refl
+length-flags (r ∷ rs) = ap suc (length-flags rs)
