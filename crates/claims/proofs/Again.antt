@@ -17,7 +17,7 @@ use Rattle.rules.specs.Record.{Record, Block, startsFrom, codesNumber, recordBy
 use Rattle.rules.specs.Bytes.{countBy, countAt, valueAt, opAt, opsAt, batchCountAt, upTo, sizesAt, bitsAt, nibblesAt, flagsAt}
 use Rattle.rules.specs.Block.{Room, part, emptyBefore, slots, cut, paddingRight, batchAt, batchesAt, immediates}
 use Rattle.rules.specs.Checks.{ninth, startsRight, recordRight}
-use Rattle.rules.specs.Functions.{decoded}
+use Rattle.rules.specs.Functions.{decoded, roomFor}
 use Rattle.rules.proofs.Answer.{item, settle}
 use Rattle.rules.proofs.Digits.{length-digits}
 use Rattle.rules.proofs.Runs.{fitted-length}
@@ -407,10 +407,12 @@ pub record Encodable (w : ℕ) (t : List ℕ) (blk : Block) : Type 0 where
   pub sized : All Sized (blk .records)
   pub allowed : All (λ x. admissible t x ≡ true) (blk .ops)
 
-pub encodable : (w : ℕ) (t s : List ℕ) (at : ℕ) (room : Room) (blk : Block) (next : ℕ) → decoded w t s at room ≡ found blk next → Encodable w t blk
-encodable w t s at room blk next h = go (stages w t s at room blk next h)
+-- what was decoded, and the room that it had
+block-made : (w : ℕ) (t s : List ℕ) (at : ℕ) (room : Room) (blk : Block) (next : ℕ) → decoded w t s at room ≡ found blk next → Encodable w t blk × (roomFor blk room ≡ true)
+unfolding roomFor
+block-made w t s at room blk next h = go (stages w t s at room blk next h)
   where
-    go : Found w t s at blk next → Encodable w t blk
+    go : Found w t s at room blk next → Encodable w t blk × (roomFor blk room ≡ true)
     go f =
         let d = f .head in
         let i = f .items in
@@ -420,12 +422,23 @@ encodable w t s at room blk next h = go (stages w t s at room blk next h)
         let q₄ = ops-allowed s w t (d .n) (d .a₁) 0 (blk .ops) (d .a₂) (d .codes) in
         let q₃ = batches-made w t (blk .ops) (q₄ .1) (l .sizes) (l .flags) 0 0 (blk .records) (f .used) (q₁ .0 ∙ sym (q₂ .0)) (q₁ .1) (q₂ .1) zero-le (f .records .batches) in
         let g = q₃ .0 in
-        record {
-          table = f .table;
-          few = omega (arith, q₄ .0, count-limit s w (d .n) at (d .a₁) (d .count));
-          less = omega (arith, q₃ .1, q₁ .0, batchCount-limit s w (f .k) (d .a₂) (f .a₁) (d .batches));
-          right = g .right;
-          sum = omega (arith, g .after, g .inside, f .records .all);
-          sized = g .sized;
-          allowed = q₄ .1;
-        }
+        let fits : length (blk .records) ≤ room .records = omega (arith, d .many, q₃ .1, q₁ .0) in
+        let c = true-left (leb (d .n) (room .codes)) (leb (d .n) (room .values)) (d .wide) in
+        let v = true-right (leb (d .n) (room .codes)) (leb (d .n) (room .values)) (d .wide) in (
+          record {
+            table = f .table;
+            few = omega (arith, q₄ .0, count-limit s w (d .n) at (d .a₁) (d .count));
+            less = omega (arith, q₃ .1, q₁ .0, batchCount-limit s w (f .k) (d .a₂) (f .a₁) (d .batches));
+            right = g .right;
+            sum = omega (arith, g .after, g .inside, f .records .all);
+            sized = g .sized;
+            allowed = q₄ .1;
+          },
+          rw (q₄ .0, c, v, le-leb (length (blk .records)) (room .records) fits),
+        )
+
+pub encodable : (w : ℕ) (t s : List ℕ) (at : ℕ) (room : Room) (blk : Block) (next : ℕ) → decoded w t s at room ≡ found blk next → Encodable w t blk
+encodable w t s at room blk next h = block-made w t s at room blk next h .0
+
+pub had-room : (w : ℕ) (t s : List ℕ) (at : ℕ) (room : Room) (blk : Block) (next : ℕ) → decoded w t s at room ≡ found blk next → roomFor blk room ≡ true
+had-room w t s at room blk next h = block-made w t s at room blk next h .1

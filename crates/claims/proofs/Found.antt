@@ -29,15 +29,17 @@ came r f b e h = L.came r f (record { item = b; next = e }) h
 
 -- ---- a block, stage by stage
 
-pub record FoundHead (t s : List ℕ) (at : ℕ) (h : Head) (end : ℕ) : Type 0 where
+pub record FoundHead (t s : List ℕ) (at : ℕ) (room : Room) (h : Head) (end : ℕ) : Type 0 where
   pub n : ℕ
   pub a₁ : ℕ
   pub a₂ : ℕ
   pub count : countAt s at ≡ found n a₁
   pub codes : opsAt t s n a₁ 0 ≡ found (h .ops) a₂
   pub batches : batchCountAt s a₂ ≡ found (h .batches) end
+  pub wide : (leb n (room .codes) && leb n (room .values)) ≡ true
+  pub many : h .batches ≤ room .records
 
-found-head : (t s : List ℕ) (at : ℕ) (room : Room) (h : Head) (end : ℕ) → headAt t s at room ≡ found h end → FoundHead t s at h end
+found-head : (t s : List ℕ) (at : ℕ) (room : Room) (h : Head) (end : ℕ) → headAt t s at room ≡ found h end → FoundHead t s at room h end
 unfolding headAt
 found-head t s at room h end e =
     let c = came (countAt s at) _ h end e in
@@ -45,8 +47,8 @@ found-head t s at room h end e =
     let o = came (opsAt t s (c .got) (c .to) 0) _ h end (g .1) in
     let b = came (batchCountAt s (o .to)) _ h end (o .rest) in
     let k = passed (ltb (room .records) (b .got)) 13 0 _ h end (b .rest) in
-    settle (λ h end. FoundHead t s at h end) (record { ops = o .got; batches = b .got }) h (b .to) end (k .1)
-    (record { n = c .got; a₁ = c .to; a₂ = o .to; count = c .first; codes = o .first; batches = b .first })
+    settle (λ h end. FoundHead t s at room h end) (record { ops = o .got; batches = b .got }) h (b .to) end (k .1)
+    (record { n = c .got; a₁ = c .to; a₂ = o .to; count = c .first; codes = o .first; batches = b .first; wide = not-false _ (g .0); many = ltb-false (room .records) (b .got) (k .0) })
 
 module _ (w : ℕ) where
   pub record FoundLayout (s : List ℕ) (k at : ℕ) (l : Layout) (end : ℕ) : Type 0 where
@@ -72,18 +74,18 @@ module _ (w : ℕ) where
       let g = passed (ltb (b .to) (length xs)) 11 0 _ rs end (b .rest) in
       settle (λ rs end. FoundRecords t xs l rs end) (b .got) rs (b .to) end (g .1) (record { batches = b .first; all = ltb-false (b .to) (length xs) (g .0) })
 
-  pub record Found (t s : List ℕ) (at : ℕ) (blk : Block) (end : ℕ) : Type 0 where
+  pub record Found (t s : List ℕ) (at : ℕ) (room : Room) (blk : Block) (end : ℕ) : Type 0 where
     pub table : goodTable t ≡ true
     pub place : at ≤ length s
     pub k : ℕ
     pub a₁ : ℕ
     pub layout : Layout
     pub used : ℕ
-    pub head : FoundHead t s at (record { ops = blk .ops; batches = k }) a₁
+    pub head : FoundHead t s at room (record { ops = blk .ops; batches = k }) a₁
     pub items : FoundLayout s k a₁ layout end
     pub records : FoundRecords t (blk .ops) layout (blk .records) used
 
-  pub stages : (t s : List ℕ) (at : ℕ) (room : Room) (blk : Block) (end : ℕ) → decoded w t s at room ≡ found blk end → Found t s at blk end
+  pub stages : (t s : List ℕ) (at : ℕ) (room : Room) (blk : Block) (end : ℕ) → decoded w t s at room ≡ found blk end → Found t s at room blk end
   unfolding decoded blockAt
   stages t s at room blk end e =
       let g₁ = passed (ltb 1048576 (length s)) 3 0 _ blk end e in
@@ -92,7 +94,7 @@ module _ (w : ℕ) where
       let h = came (headAt t s at room) _ blk end (g₃ .1) in
       let l = came (layoutAt w s ((h .got) .batches) (h .to)) _ blk end (h .rest) in
       let r = came (batchesBy w t ((h .got) .ops) (l .got)) _ blk end (l .rest) in
-      settle (λ blk end. Found t s at blk end) (record { ops = (h .got) .ops; records = r .got }) blk (l .to) end (r .rest)
+      settle (λ blk end. Found t s at room blk end) (record { ops = (h .got) .ops; records = r .got }) blk (l .to) end (r .rest)
       (record {
         table = not-false (goodTable t) (g₂ .0);
         place = ltb-false (length s) at (g₃ .0);

@@ -13,3 +13,4 @@ pub mod Demand3
 pub mod Passes
 pub mod Demand1
 pub mod Settled
+pub mod Finished

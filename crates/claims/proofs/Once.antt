@@ -289,7 +289,7 @@ module _ (s : List ℕ) (bytes : (i : ℕ) → getD s i 0 < 256) where
   pub block-taken : (w : ℕ) (t : List ℕ) (at : ℕ) (room : Room) (blk : Block) (next : ℕ) → decoded w t s at room ≡ found blk next → Taken (blockBytes t blk) s at next
   block-taken w t at room blk next h = go (stages w t s at room blk next h)
     where
-      go : Found w t s at blk next → Taken (blockBytes t blk) s at next
+      go : Found w t s at room blk next → Taken (blockBytes t blk) s at next
       go f =
           let d = f .head in
           let i = f .items in

@@ -185,7 +185,7 @@ pub decode-passes : (w : ℕ) (t s : List ℕ) (at : ℕ) (room : Room) (blk : B
 unfolding held
 decode-passes w t s at room blk next h = go (stages w t s at room blk next h)
   where
-    go : Found w t s at blk next → Passes w t blk
+    go : Found w t s at room blk next → Passes w t blk
     go f =
         let d = f .head in
         let i = f .items in
