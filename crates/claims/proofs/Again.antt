@@ -263,7 +263,7 @@ module _ (t : List ℕ) where
   abbrev Allowed : List Op → Type 0
   Allowed xs = All (λ x. admissible t x ≡ true) xs
 
-  codes-below : (xs : List Op) → Allowed xs → All (λ c. c < 128) (codes xs)
+  pub codes-below : (xs : List Op) → Allowed xs → All (λ c. c < 128) (codes xs)
   unfolding codes
   codes-below [] h = tt
   codes-below (x ∷ xs) h = (to-admissible t x (h .0) .code, codes-below xs (h .1))
@@ -296,7 +296,7 @@ module _ (t : List ℕ) where
   all-drop (suc n) [] h = tt
   all-drop (suc n) (x ∷ xs) h = all-drop n xs (h .1)
 
-  part-allowed : (n : ℕ) (xs : List Op) (at : ℕ) → Allowed xs → Allowed (part n xs at)
+  pub part-allowed : (n : ℕ) (xs : List Op) (at : ℕ) → Allowed xs → Allowed (part n xs at)
   part-allowed n xs at h = all-take n (drop at xs) (all-drop at xs h)
 
   part-short : (n : ℕ) (xs : List Op) (at : ℕ) → length (part n xs at) ≤ n

@@ -12,5 +12,7 @@ pub mod Again
 pub mod Demand3
 pub mod Passes
 pub mod Demand1
+pub mod Checked
 pub mod Settled
 pub mod Finished
+pub mod OneList

@@ -1,43 +1,34 @@
 -- What passes the three checks, encoded and decoded. Assumes nothing.
 use mathlib.Core.Path.{_≡_, refl, sym, ap, ap₂, _∙_}
 use mathlib.Core.List.{List, [], _∷_, _++_, map}
-use mathlib.Core.Bool.{Bool, true, false, cond, not}
-use Prim.Native.Nat.{ℕ, zero, suc, _+_, _-_, _*_, _/_, _%_, _≤_, _<_}
+use mathlib.Core.Bool.{Bool, true, false, cond}
+use Prim.Native.Nat.{ℕ, zero, suc, _+_, _≤_, _<_}
 use native.Mathlib.Nat.{add-zero, zero-add}
 use native.Mathlib.Omega.{arith}
-use borrow.Author.Tests.{le-ltb, leb-true, eqb-true, not-false}
+use borrow.Author.Tests.{le-ltb, leb-true, eqb-true}
 use lib.ListN.{length, getD, take, drop, length-take, length-append}
 use lib.Dec.{leb, eqb}
 use Rattle.rules.specs.Lists.{fitted, total, every}
-use Rattle.rules.specs.Answer.{Answer, good, found, refuseFirst}
-use Rattle.rules.specs.Operations.{Op, goodTable, opFault, admissible}
-use Rattle.rules.specs.Record.{Record, Block, startsFrom, differences, codesNumber, recordBy, recordAt, recordsFrom, recordsIn}
+use Rattle.rules.specs.Answer.{good, found}
+use Rattle.rules.specs.Operations.{Op}
+use Rattle.rules.specs.Record.{Record, Block, differences, codesNumber, recordBy}
 use Rattle.rules.specs.Bytes.{upTo}
 use Rattle.rules.specs.Block.{blockBytes, part, cut, immediates, emptyBefore, slots, endsInNoop, paddingRight, batchAt, batchesAt}
-use Rattle.rules.specs.Checks.{ninth, startsRight, recordRight, structureFaults, heldFrom, held, paddingFault, paddingFaults, placingFault, begins, orElse, groupsFault, emptyZero, commitmentFault, commitmentFaults}
-use Rattle.rules.specs.Functions.{Arena, blockIn, within, paddingChecked, commitmentChecked}
+use Rattle.rules.specs.Checks.{ninth, recordRight, heldFrom, held, paddingFault, placingFault, begins, groupsFault, emptyZero, commitmentFault}
+use Rattle.rules.specs.Functions.{Arena, blockIn, paddingChecked, commitmentChecked}
 use Rattle.rules.specs.Open.{document}
-use Rattle.rules.proofs.Answer.{clash, passed, first-append}
-use Rattle.rules.proofs.Operations.{true-left, true-right, true-both, length-operations, to-admissible}
+use Rattle.rules.proofs.Operations.{true-left, true-right, true-both, to-admissible}
 use Rattle.claims.specs.Shape.{All}
 use Rattle.claims.specs.Settled.{before, counted, settled, settledBlock, Settled, Returns, Needed}
 use Rattle.claims.proofs.Back.{sizesOf, Wire, read-back}
 use Rattle.claims.proofs.Arena.{roomed}
 use Rattle.claims.proofs.Demand3.{written-in}
-use Rattle.claims.proofs.Again.{start-at, take-total, total-split, laid, laid-front}
+use Rattle.claims.proofs.Again.{total-split, laid, laid-front}
+use Rattle.claims.proofs.Checked.{or-first, no-cond, group-right, Shaped, Made, made, Facts, facts, no-padding-fault, limits, shaped-in}
 use Rattle.claims.proofs.Passes.{part-some, Right, here}
-use Rattle.rules.proofs.Sizes.{length-bytesAt, length-wordsAt}
 use Rattle.claims.proofs.Lists.{all-map}
 
 -- ---- the slots that the commitment check found right are those that decoding takes
-
-or-first : (m n : ℕ) → orElse m n ≡ 0 → (m ≡ 0) × (n ≡ 0)
-or-first zero n h = (refl, h)
-or-first (suc m) n h = absurd (omega arith)
-
-no-cond : (b : Bool) (n : ℕ) → cond b 0 (suc n) ≡ 0 → b ≡ true
-no-cond true n h = refl
-no-cond false n h = absurd (omega arith)
 
 module _ (t : List ℕ) (b : ℕ) where
   -- where nothing has operations and nothing is due, nothing counts
@@ -91,11 +82,7 @@ module _ (t : List ℕ) (b : ℕ) where
   after-group : (g : List Op) (gs : List (List Op)) (n : ℕ) (ns : List ℕ) → 1 ≤ length g → Right t b [] (g ∷ gs) (n ∷ ns) → (n ≡ codesNumber g) × Right t b (immediates t g) gs ns
   unfolding groupsFault emptyZero
   after-group [] gs n ns l r = absurd (omega arith)
-  after-group (x ∷ g) gs n ns l r =
-      let h₁ = or-first _ _ (r .groups) in
-      let h₂ = or-first _ _ (h₁ .1) in
-      let h₃ = or-first _ _ (h₂ .1) in
-      (eqb-true n (codesNumber (x ∷ g)) (no-cond _ 15 (h₁ .0)), record { groups = h₃ .1; zeros = r .zeros; values = no-cond _ 15 (h₃ .0); placed = h₂ .0 })
+  after-group (x ∷ g) gs n ns l r = let h = group-right t (x ∷ g) gs n ns l (r .groups) in (h .0, record { groups = h .3; zeros = r .zeros; values = h .2; placed = h .1 })
 
   -- an immediate that is due has an empty group under the count to go to
   no-room : (v : ℕ) (due ns : List ℕ) → Right t b (v ∷ due) [] ns → ⊥
@@ -172,75 +159,6 @@ other-groups (n ∷ ns) xs at (suc j) (suc c) (f ∷ fs) z h =
     let one = cond (eqb f 0) true (endsInNoop (part n xs at)) in
     let rest = paddingRight (take c (cut ns xs (at + n))) fs in
     true-both one (paddingRight (take j (cut ns xs (at + n))) fs) (true-left one rest h) (other-groups ns xs (at + n) j c fs z (true-right one rest h))
-
--- ---- a record that passed the structure check is made of its sizes
-
-starts-back : (a : ℕ) (s : List ℕ) → startsRight (a ∷ s) ≡ true → startsFrom a (differences (a ∷ s)) ≡ a ∷ s
-unfolding startsFrom differences startsRight
-starts-back a [] h = refl
-starts-back a (b ∷ s) h =
-    let up = leb-true a b (true-left (leb a b) _ h) in
-    let e : a + (b - a) ≡ b = omega arith in
-    rw e (ap (λ (l : List ℕ). a ∷ l) (starts-back b s (true-right (leb b (a + 9)) _ (true-right (leb a b) _ h))))
-
-sizes-small : (a : ℕ) (s : List ℕ) → startsRight (a ∷ s) ≡ true → All (λ n. n ≤ 9) (differences (a ∷ s))
-unfolding differences startsRight
-sizes-small a [] h = tt
-sizes-small a (b ∷ s) h =
-    let rest = true-right (leb a b) _ h in
-    let most = leb-true b (a + 9) (true-left (leb b (a + 9)) _ rest) in
-    (omega arith, sizes-small b s (true-right (leb b (a + 9)) _ rest))
-
-sizes-many : (a : ℕ) (s : List ℕ) → length (differences (a ∷ s)) ≡ length s
-unfolding differences
-sizes-many a [] = refl
-sizes-many a (b ∷ s) = ap suc (sizes-many b s)
-
--- how many elements a record has where it lies in a run
-record Shaped (r : Record) : Type 0 where
-  starts : length (r .starts) ≡ 9
-  flags : length (r .flags) ≡ 8
-  numbers : length (r .numbers) ≡ 8
-
--- what the structure check says of such a record
-record Made (w : ℕ) (r : Record) : Type 0 where
-  shaped : Shaped r
-  few : r .count ≤ w
-  bits : upTo 1 (r .flags) ≡ true
-  starts : startsFrom 0 (differences (r .starts)) ≡ r .starts
-  small : All (λ n. n ≤ 9) (differences (r .starts))
-  many : length (differences (r .starts)) ≡ 8
-  sum : total (differences (r .starts)) ≡ ninth r
-  rest : total (drop (r .count) (differences (r .starts))) ≡ 0
-
-whole : (s : List ℕ) → length s ≡ 9 → getD s 0 0 ≡ 0 → startsRight s ≡ true → (startsFrom 0 (differences s) ≡ s) × All (λ n. n ≤ 9) (differences s) × (length (differences s) ≡ 8)
-whole [] l e h = absurd (omega arith)
-whole (a ∷ s) l e h = (ap (λ (k : ℕ). startsFrom k (differences (a ∷ s))) (sym e) ∙ starts-back a s h, sizes-small a s h, omega (arith, sizes-many a s))
-
-made : (w : ℕ) (w8 : w ≤ 8) (r : Record) → Shaped r → recordRight w r ≡ true → Made w r
-unfolding recordRight
-made w w8 r z h =
-    let h₁ = true-right (leb (r .count) w) _ h in
-    let h₂ = true-right (upTo 1 (r .flags)) _ h₁ in
-    let h₃ = true-right (eqb (getD (r .starts) 0 0) 0) _ h₂ in
-    let few = leb-true (r .count) w (true-left (leb (r .count) w) _ h) in
-    let ns = differences (r .starts) in
-    let q = whole (r .starts) (z .starts) (eqb-true (getD (r .starts) 0 0) 0 (true-left (eqb (getD (r .starts) 0 0) 0) _ h₂)) (true-left (startsRight (r .starts)) _ h₃) in
-    let end = eqb-true (getD (r .starts) (r .count) 0) (ninth r) (true-right (startsRight (r .starts)) _ h₃) in
-    let m : length ns ≡ 8 = q .2 in
-    let at-count : getD (r .starts) (r .count) 0 ≡ 0 + total (take (r .count) ns) = rw (q .0) at (start-at (r .count) 0 ns (omega arith)) in
-    let at-end : getD (r .starts) 8 0 ≡ 0 + total (take 8 ns) = rw (q .0) at (start-at 8 0 ns (omega arith)) in
-    let all = take-total ns 8 m in
-    record {
-      shaped = z;
-      few = few;
-      bits = true-left (upTo 1 (r .flags)) _ h₁;
-      starts = q .0;
-      small = q .1;
-      many = m;
-      sum = omega arith;
-      rest = omega (arith, total-split (r .count) ns);
-    }
 
 -- ---- a batch
 
@@ -325,67 +243,6 @@ module _ (w : ℕ) (w8 : w ≤ 8) (t : List ℕ) (xs : List Op) where
   on-wires [] at h = tt
   on-wires (r ∷ rs) at h = (on-wire at r (h .0), on-wires rs (at + ninth r) (h .1))
 
--- ---- what the checks said of an arena
-
-first-none : {A B : Type 0} (f : B → ℕ) (i : ℕ) (xs : List B) (r : Answer A) (a : A) → refuseFirst i (map f xs) r ≡ good a → All (λ x. f x ≡ 0) xs × (r ≡ good a)
-unfolding refuseFirst
-first-none f i [] r a h = (tt, h)
-first-none f i (x ∷ xs) r a h = go (f x) refl (λ k. first-none f (i + 1) xs r a k) h
-  where
-    go : (n : ℕ) → f x ≡ n → (refuseFirst (i + 1) (map f xs) r ≡ good a → All (λ x. f x ≡ 0) xs × (r ≡ good a)) → refuseFirst i (n ∷ map f xs) r ≡ good a → ((f x ≡ 0) × All (λ x. f x ≡ 0) xs) × (r ≡ good a)
-    go zero e ih k = let q = ih k in ((e, q .0), q .1)
-    go (suc n) e ih k = absurd (clash (suc n) i a k)
-
-structured : {A : Type 0} (w : ℕ) (b : Block) (r : Answer A) (a : A) → refuseFirst 0 (structureFaults w b) r ≡ good a
-    → All (λ x. recordRight w x ≡ true) (b .records) × (total (map ninth (b .records)) ≡ length (b .ops)) × (r ≡ good a)
-unfolding structureFaults
-structured w b r a h =
-    let f : Record → ℕ = λ (x : Record). cond (recordRight w x) 0 15 in
-    let c = eqb (total (map ninth (b .records))) (length (b .ops)) in
-    let q = first-none f 0 (b .records) _ a (sym (first-append 0 (map f (b .records)) (cond c 0 15 ∷ []) r) ∙ h) in
-    let e = first-none (λ (z : Bool). cond z 0 15) (0 + length (map f (b .records))) (c ∷ []) r a (q .1) in
-    (all-map (λ x k. no-cond (recordRight w x) 14 k) (b .records) (q .0), eqb-true (total (map ninth (b .records))) (length (b .ops)) (no-cond c 14 (e .0 .0)), e .1)
-
-record Facts (w : ℕ) (t : List ℕ) (a : Arena) : Type 0 where
-  inside : within a ≡ true
-  table : goodTable t ≡ true
-  right : All (λ r. recordRight w r ≡ true) (blockIn a .records)
-  sum : total (map ninth (blockIn a .records)) ≡ length (blockIn a .ops)
-  allowed : All (λ x. admissible t x ≡ true) (blockIn a .ops)
-  padding : All (λ h. paddingFault h ≡ 0) (held (blockIn a))
-  commitment : All (λ h. commitmentFault t h ≡ 0) (held (blockIn a))
-
-facts : (w : ℕ) (t : List ℕ) (a : Arena) → paddingChecked w a ≡ good tt → commitmentChecked w t a ≡ good tt → Facts w t a
-unfolding paddingChecked commitmentChecked paddingFaults commitmentFaults opFault
-facts w t a p c =
-    let b = blockIn a in
-    let p₁ = passed (not (within a)) 3 0 _ tt p in
-    let p₂ = structured w b _ tt (p₁ .1) in
-    let p₃ = first-none paddingFault 0 (held b) _ tt (p₂ .2) in
-    let c₁ = passed (not (within a)) 3 0 _ tt c in
-    let c₂ = passed (not (goodTable t)) 14 0 _ tt (c₁ .1) in
-    let c₃ = structured w b _ tt (c₂ .1) in
-    let c₄ = first-none (opFault t) 0 (b .ops) _ tt (c₃ .2) in
-    let c₅ = first-none (commitmentFault t) 0 (held b) _ tt (c₄ .1) in
-    record {
-      inside = not-false (within a) (p₁ .0);
-      table = not-false (goodTable t) (c₂ .0);
-      right = p₂ .0;
-      sum = p₂ .1;
-      allowed = all-map (λ x k. no-cond (admissible t x) 3 k) (b .ops) (c₄ .0);
-      padding = p₃ .0;
-      commitment = c₅ .0;
-    }
-
--- ---- records as they lie in a run
-
-shaped-from : (k : ℕ) (s : List ℕ) (b : ℕ) → All Shaped (recordsFrom k s b) × (length (recordsFrom k s b) ≡ k)
-unfolding recordsFrom recordAt
-shaped-from zero s b = (tt, refl)
-shaped-from (suc k) s b =
-    let ih = shaped-from k s (b + 1) in
-    ((record { starts = length-bytesAt 9 s (82 * b); flags = length-bytesAt 8 s (82 * b + 9); numbers = length-wordsAt 8 s (82 * b + 17) }, ih .0), ap suc (ih .1))
-
 module _ (w : ℕ) (w8 : w ≤ 8) (t : List ℕ) (xs : List Op) where
   gather : (rs : List Record) (at : ℕ) → All Shaped rs → All (λ r. recordRight w r ≡ true) rs → All (λ h. paddingFault h ≡ 0) (heldFrom rs xs at) → All (λ h. commitmentFault t h ≡ 0) (heldFrom rs xs at)
       → at + total (map ninth rs) ≤ length xs → Batches w w8 t xs at rs
@@ -446,29 +303,13 @@ module _ (w : ℕ) (w8 : w ≤ 8) (t : List ℕ) (xs : List Op) where
 
 -- ---- the theorem
 
-limits : (a : Arena) → within a ≡ true → (length (blockIn a .ops) ≤ 65535) × (length (blockIn a .records) ≤ 16384)
-unfolding within blockIn recordsIn
-limits a h =
-    let n = length (a .codes) in
-    let k = length (a .records) in
-    let equal = eqb n (length (a .values)) in
-    let whole = eqb (k % 82) 0 in
-    let h₁ = true-right equal _ h in
-    let h₂ = true-right whole _ (true-right (leb n 65535) _ h₁) in
-    let l = length-operations (a .codes) (a .values) (eqb-true n (length (a .values)) (true-left equal _ h)) in
-    (rw l (leb-true n 65535 (true-left (leb n 65535) _ h₁)), rw (shaped-from (k / 82) (a .records) 0 .1) (leb-true (k / 82) 16384 h₂))
-
-shaped-in : (a : Arena) → All Shaped (blockIn a .records)
-unfolding blockIn recordsIn
-shaped-in a = shaped-from (length (a .records) / 82) (a .records) 0 .0
-
-module _ (w : ℕ) (w8 : w ≤ 8) (t : List ℕ) (a : Arena) (f : Facts w t a) where
+module _ (w : ℕ) (w8 : w ≤ 8) (t : List ℕ) (a : Arena) (f : Facts w t a) (p : All (λ h. paddingFault h ≡ 0) (held (blockIn a))) where
   abbrev b : Block
   b = blockIn a
 
   batches : Batches w w8 t (b .ops) 0 (b .records)
   unfolding held
-  batches = gather w w8 t (b .ops) (b .records) 0 (shaped-in a) (f .right) (f .padding) (f .commitment) (let s = f .sum in omega arith)
+  batches = gather w w8 t (b .ops) (b .records) 0 (shaped-in a) (f .right) p (f .commitment) (let s = f .sum in omega arith)
 
   read : batchesAt w t (b .ops) 0 0 (map sizesOf (b .records)) (map (λ r. r .flags) (b .records)) ≡ found (map (settled t) (held b)) (length (b .ops))
   unfolding held
@@ -491,7 +332,7 @@ module _ (w : ℕ) (w8 : w ≤ 8) (t : List ℕ) (a : Arena) (f : Facts w t a) w
       }
 
 pub returns : (w : ℕ) (w8 : w ≤ 8) (t : List ℕ) (a : Arena) → paddingChecked w a ≡ good tt → commitmentChecked w t a ≡ good tt → Returns w t a
-returns w w8 t a p c = returned w w8 t a (facts w t a p c)
+returns w w8 t a p c = returned w w8 t a (facts w t a c) (no-padding-fault w a p)
 
 pub needed : Needed
 unfolding document counted settled settledBlock

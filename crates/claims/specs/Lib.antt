@@ -4,3 +4,4 @@ pub mod Passes
 pub mod Demand1
 pub mod Settled
 pub mod Finished
+pub mod OneList
