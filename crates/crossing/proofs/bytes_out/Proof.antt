@@ -1,0 +1,42 @@
+use Rattle.crossing.proofs.Copies.{bytes-left}
+use Rattle.rules.specs.Lists.{fitted}
+use lib.ListN.{length, take}
+use native.Mathlib.Omega.{arith}
+use Prim.Native.Nat.{ℕ, _*_}
+use mathlib.Core.List.{List}
+use mathlib.Core.Path.{_≡_, ap, _∙_}
+use borrow.Author.Needs.{needs}
+use Rattle.crossing.proofs.bytes_out.Statement.{statement}
+use Rattle.crossing.proofs.bytes_out.Tie as tie
+use Rattle.crossing.proofs.bytes_out.Reads as reads
+use Rattle.crossing.proofs.bytes_out.Lts as lts
+use Rattle.crossing.proofs.put_words.Reads as put-words-reads
+use Rattle.word.proofs.zero_bytes.Reads as zero-bytes-reads
+
+-- src/lib.rt:64:5
+put-words-requires : tie.Need-put-words-requires
+put-words-requires c κs = search needs
+
+-- src/lib.rt:65:27
+mul-zero-bytes : tie.Need-mul-zero-bytes
+mul-zero-bytes c = search needs
+
+-- src/lib.rt:65:5
+zero-bytes-requires : tie.Need-zero-bytes-requires
+zero-bytes-requires c κs = search needs
+
+-- src/lib.rt:60:1
+same-length : tie.Need-same-length
+same-length c = search needs
+
+-- src/lib.rt:60:1
+returns : tie.Need-returns
+returns c =
+    let a = c .before .before .before .before .before .before .before .before .before .before .args in
+    c .before .before .zero-bytes .ensures
+    ∙ ap (λ (d : List ℕ). fitted (length d) (take (8 * length (a .words .now)) d)) (c .before .before .before .before .before .before .put-words .ensures)
+    ∙ bytes-left (a .out .now) (a .words .now) (c .before .before .before .before .before .before .before .before .before .before .pre)
+
+pub bytes-out-spec : {M : Type 1} → statement M
+bytes-out-spec =
+    tie.close (tie.spec put-words-requires mul-zero-bytes zero-bytes-requires same-length returns)

@@ -1,0 +1,15 @@
+-- Runs of 64-bit numbers as bytes: eight to a number, little-endian.
+use mathlib.Core.Bool.{Bool, _&&_}
+use mathlib.Core.List.{List}
+use Prim.Native.Nat.{ℕ, _/_, _%_}
+use lib.ListN.{length}
+use lib.Dec.{leb, eqb}
+use Rattle.rules.specs.Record.{wordsAt}
+
+-- the numbers that lie in a run of bytes; bytes after the last whole one are left out
+unfoldable pub wordsIn : List ℕ → List ℕ
+wordsIn s = wordsAt (length s / 8) s 0
+
+-- whole numbers, and no more of them than a block has operations
+unfoldable pub fewWords : List ℕ → Bool
+fewWords s = eqb (length s % 8) 0 && leb (length s / 8) 65535

@@ -1,0 +1,66 @@
+// Runs of 64-bit numbers that cross the language boundary as little-endian bytes.
+ghost use mathlib.Core.Path.{_≡_};
+ghost use Prim.Native.Nat.{_*_, _/_, _≤_};
+ghost use lib.ListN.{length, take};
+ghost use lib.Seq.{sets};
+ghost use Rattle.rules.specs.Lists.{fitted};
+ghost use Rattle.rules.specs.Record.{wordBytes};
+ghost use Rattle.crossing.specs.Words.{wordsIn, fewWords};
+
+// No block has more operations, so none has more values.
+const MOST: usize = 65535;
+
+// Room for the values of the largest block. The `ensures` gives the length, which lending an array asks for.
+pub fn room() -> [u64; 65535]
+    ensures { λ r. ⌜ 65535 ≡ length r ⌝ }
+{
+    [0; 65535]
+}
+
+pub fn few_words(s: &[u8]) -> bool
+    ensures { λ r. ⌜ r ≡ fewWords (now (s .entry)) ⌝ }
+{
+    if s.len() % 8 != 0 {
+        return false;
+    }
+    s.len() / 8 <= MOST
+}
+
+// ---- in
+
+// The numbers of a run, at the front of the work space.
+pub fn words(s: &[u8]) -> [u64; 65535]
+    requires { ⌜ length (now s) / 8 ≤ 65535 ⌝ }
+    ensures { λ r. ⌜ (65535 ≡ length r) × (take (length (now (s .entry)) / 8) r ≡ wordsIn (now (s .entry))) ⌝ }
+{
+    let mut out = room();
+    let n = s.len() / 8;
+    let mut i: usize = 0;
+    while i < n {
+        out[i] = word::le8(s, 8 * i);
+        i += 1;
+    }
+    out
+}
+
+// ---- out
+
+fn put_words(words: &[u64], out: &mut [u8])
+    requires { ⌜ 8 * length (now words) ≤ length (now out) ⌝ }
+    ensures { λ _. ⌜ now (out .exit) ≡ sets (now (out .entry)) 0 (wordBytes (now (words .entry))) ⌝ }
+{
+    let mut i: usize = 0;
+    while i < words.len() {
+        word::put8(out, 8 * i, words[i]);
+        i += 1;
+    }
+}
+
+// The numbers as bytes, then zeros.
+pub fn bytes_out(words: &[u64], out: &mut [u8])
+    requires { ⌜ 8 * length (now words) ≤ length (now out) ⌝ }
+    ensures { λ _. ⌜ now (out .exit) ≡ fitted (length (now (out .entry))) (wordBytes (now (words .entry))) ⌝ }
+{
+    put_words(words, out);
+    word::zero_bytes(out, 8 * words.len());
+}
