@@ -1,9 +1,9 @@
 -- The replies that cross to Rust, by the definitions' answers: number 0 where nothing is refused, every length and total 0 where something is.
 use mathlib.Core.Path.{_≡_}
-use mathlib.Core.Bool.{not}
+use mathlib.Core.Bool.{not, cond}
 use mathlib.Core.List.{List}
 use mathlib.Core.Option.{Option, none, some}
-use Prim.Native.Nat.{ℕ, _-_}
+use Prim.Native.Nat.{ℕ, _-_, _%_}
 use lib.ListN.{length}
 use lib.Dec.{eqb}
 use Rattle.rules.specs.Answer.{Answer, good, refused, refuse, Read}
@@ -77,3 +77,13 @@ abbrev pub nextReply : Answer (Option ℕ) → NextReply
 nextReply (good none) = record { number = 0; place = 0; found = 0; group = 0 }
 nextReply (good (some g)) = record { number = 0; place = 0; found = 1; group = g }
 nextReply (refused n p) = record { number = n; place = p; found = 0; group = 0 }
+
+-- ---- runs of 64-bit numbers that cross as little-endian bytes
+
+-- an input that is not whole numbers is refused with 3, before everything else
+unfoldable pub wholeWords : {A : Type 0} → List ℕ → Answer A → Answer A
+wholeWords s r = refuse (not (eqb (length s % 8) 0)) 3 0 r
+
+-- and an index lookup in one finds nothing
+unfoldable pub inWhole : List ℕ → Option ℕ → Option ℕ
+inWhole s r = cond (eqb (length s % 8) 0) r none

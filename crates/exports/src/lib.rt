@@ -5,7 +5,8 @@ ghost use lib.ListN.{length};
 ghost use Rattle.rules.specs.Record.{recordAt};
 ghost use Rattle.rules.specs.Lookups.{paddedIndex, rawIndex};
 ghost use Rattle.rules.specs.Functions.{arena, built, encoded, decoded, structureChecked, paddingChecked, commitmentChecked, rawTabled, paddedTabled, groupLookup, nextLookup};
-ghost use Rattle.exports.specs.Replies.{Builds, Writes, Reads, checkReply, Tables, indexReply, oneRecord, groupReply, nextReply};
+ghost use Rattle.crossing.specs.Words.{wordsIn};
+ghost use Rattle.exports.specs.Replies.{Builds, Writes, Reads, checkReply, Tables, indexReply, oneRecord, wholeWords, inWhole, groupReply, nextReply};
 ghost use Rattle.exports.specs.Flat.{flatBuilt, flatEncoded, flatDecoded, flatVerdict, flatTabled, flatPadded, flatRaw, flatGroup, flatNext};
 use build::Built;
 use decoder::Decoded;
@@ -408,4 +409,29 @@ pub extern "C" fn oli_next_group(run: &[u8], group: usize) -> NextReply
     let batch = op_batch::load(run, 0);
     let r = batch.next_op_group_index(group);
     flat_next(r)
+}
+
+// ---- the same, with runs of 64-bit numbers as little-endian bytes
+
+#[no_mangle]
+pub extern "C" fn oli_encode_le(
+    table: &[u8],
+    codes: &[u8],
+    values: &[u8],
+    records: &[u8],
+    out: &mut [u8],
+    at: usize,
+) -> EncodeReply
+    ensures { λ r. ⌜ Writes (wholeWords (now (values .entry)) (encoded 8 (now (table .entry)) (arena (now (codes .entry)) (wordsIn (now (values .entry))) (now (records .entry))) (length (now (out .entry))) at)) at r (now (out .entry)) (now (out .exit)) ⌝ }
+{
+    if !crossing::few_words(values) {
+        return EncodeReply {
+            number: 3,
+            place: 0,
+            length: 0,
+        };
+    }
+    let n = values.len() / 8;
+    let work = crossing::words(values);
+    oli_encode(table, codes, &work[..n], records, out, at)
 }

@@ -1,0 +1,52 @@
+-- Inputs that cross as bytes: refused where the numbers are not whole or too many, and otherwise the numbers that were copied. Assumes nothing.
+use mathlib.Core.Path.{_≡_, refl, sym, ap, _∙_}
+use mathlib.Core.Bool.{Bool, true, false, not, _&&_, _||_}
+use mathlib.Core.List.{List}
+use Prim.Native.Nat.{ℕ, _/_, _%_, _≤_, _<_}
+use native.Mathlib.Omega.{arith}
+use borrow.Author.Tests.{lt-leb, eqb-true, leb-true, leb-false}
+use lib.ListN.{length, take}
+use lib.Dec.{leb, ltb, eqb}
+use lib.Seq.{length-take-le}
+use Rattle.rules.specs.Answer.{Answer, refused, refuse}
+use Rattle.rules.specs.Functions.{Arena, arena, within, encoded}
+use Rattle.rules.proofs.Operations.{true-left, true-right}
+use Rattle.crossing.specs.Words.{wordsIn, fewWords}
+use Rattle.crossing.proofs.Copies.{length-in}
+use Rattle.exports.specs.Replies.{wholeWords}
+
+-- the limit on operations binds the values too
+outside : (cs vs rs : List ℕ) → 65535 < length vs → within (arena cs vs rs) ≡ false
+unfolding within
+outside cs vs rs h = go (eqb (length cs) (length vs)) refl
+  where
+    go : (b : Bool) → eqb (length cs) (length vs) ≡ b → b && (leb (length cs) 65535 && (eqb (length rs % 82) 0 && leb (length rs / 82) 16384)) ≡ false
+    go true e = rw (lt-leb (length cs) 65535 (omega (arith, eqb-true (length cs) (length vs) e)))
+    go false e = refl
+
+module _ (s : List ℕ) where
+  pub few : fewWords s ≡ true → length s / 8 ≤ 65535
+  unfolding fewWords
+  few h = leb-true (length s / 8) 65535 (true-right (eqb (length s % 8) 0) (leb (length s / 8) 65535) h)
+
+  pub whole : {A : Type 0} (r : Answer A) → fewWords s ≡ true → wholeWords s r ≡ r
+  unfolding fewWords wholeWords
+  whole r h = rw (true-left (eqb (length s % 8) 0) (leb (length s / 8) 65535) h)
+
+  -- where too many numbers are refused with 3 anyway
+  broken : {A : Type 0} (over : Bool) (r : Answer A) → (65535 < length (wordsIn s) → over ≡ true) → fewWords s ≡ false → wholeWords s (refuse over 3 0 r) ≡ refused 3 0
+  unfolding fewWords wholeWords
+  broken {A} over r f h = go (eqb (length s % 8) 0) (leb (length s / 8) 65535) refl h
+    where
+      go : (e l : Bool) → leb (length s / 8) 65535 ≡ l → (e && l) ≡ false → _≡_ {A = Answer A} (refuse (not e) 3 0 (refuse over 3 0 r)) (refused 3 0)
+      go false l k h = refl
+      go true l k h = rw (f (omega (arith, length-in s, leb-false (length s / 8) 65535 (k ∙ h))))
+
+  module _ (cs rs : List ℕ) (h : fewWords s ≡ false) where
+    pub encoded-broken : (w : ℕ) (t : List ℕ) (size at : ℕ) → wholeWords s (encoded w t (arena cs (wordsIn s) rs) size at) ≡ refused 3 0
+    unfolding encoded
+    encoded-broken w t size at = broken (not (within (arena cs (wordsIn s) rs)) || ltb 1048576 size) _ (λ l. rw (outside cs (wordsIn s) rs l)) h
+
+-- the copied numbers stand for the bytes
+pub front : (w : List ℕ) (n : ℕ) → 65535 ≡ length w → n ≤ 65535 → n ≡ length (take n w)
+front w n e h = sym (length-take-le n w (omega arith))
