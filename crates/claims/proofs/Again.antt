@@ -199,7 +199,7 @@ module _ (s : List ℕ) (w : ℕ) where
 
   -- ---- counts and operations
 
-  count-limit : (v at next : ℕ) → countAt s at ≡ found v next → v ≤ 65535
+  pub count-limit : (v at next : ℕ) → countAt s at ≡ found v next → v ≤ 65535
   unfolding countAt countBy
   count-limit v at next h =
       let a = passed (leb (length s) at) 2 at _ v next h in

@@ -10,6 +10,6 @@ use Rattle.rules.specs.Record.{wordsAt}
 unfoldable pub wordsIn : List ℕ → List ℕ
 wordsIn s = wordsAt (length s / 8) s 0
 
--- whole numbers, and no more of them than a block has operations
+-- whole numbers, and few enough for the work space; a block has fewer values
 unfoldable pub fewWords : List ℕ → Bool
-fewWords s = eqb (length s % 8) 0 && leb (length s / 8) 65535
+fewWords s = eqb (length s % 8) 0 && leb (length s / 8) 65536

@@ -1,20 +1,20 @@
 // Runs of 64-bit numbers that cross the language boundary as little-endian bytes.
 ghost use mathlib.Core.Path.{_≡_};
-ghost use Prim.Native.Nat.{_*_, _/_, _≤_};
+ghost use Prim.Native.Nat.{_*_, _/_, _≤_, min};
 ghost use lib.ListN.{length, take};
 ghost use lib.Seq.{sets};
 ghost use Rattle.rules.specs.Lists.{fitted};
 ghost use Rattle.rules.specs.Record.{wordBytes};
 ghost use Rattle.crossing.specs.Words.{wordsIn, fewWords};
 
-// No block has more operations, so none has more values.
-const MOST: usize = 65535;
+// The longest index table of a block has so many entries, one more than the values of the largest block.
+const MOST: usize = 65536;
 
-// Room for the values of the largest block. The `ensures` gives the length, which lending an array asks for.
-pub fn room() -> [u64; 65535]
-    ensures { λ r. ⌜ 65535 ≡ length r ⌝ }
+// The work space. The `ensures` gives the length, which lending an array asks for.
+pub fn room() -> [u64; 65536]
+    ensures { λ r. ⌜ 65536 ≡ length r ⌝ }
 {
-    [0; 65535]
+    [0; 65536]
 }
 
 pub fn few_words(s: &[u8]) -> bool
@@ -29,9 +29,9 @@ pub fn few_words(s: &[u8]) -> bool
 // ---- in
 
 // The numbers of a run, at the front of the work space.
-pub fn words(s: &[u8]) -> [u64; 65535]
-    requires { ⌜ length (now s) / 8 ≤ 65535 ⌝ }
-    ensures { λ r. ⌜ (65535 ≡ length r) × (take (length (now (s .entry)) / 8) r ≡ wordsIn (now (s .entry))) ⌝ }
+pub fn words(s: &[u8]) -> [u64; 65536]
+    requires { ⌜ length (now s) / 8 ≤ 65536 ⌝ }
+    ensures { λ r. ⌜ (65536 ≡ length r) × (take (length (now (s .entry)) / 8) r ≡ wordsIn (now (s .entry))) ⌝ }
 {
     let mut out = room();
     let n = s.len() / 8;
@@ -44,6 +44,16 @@ pub fn words(s: &[u8]) -> [u64; 65535]
 }
 
 // ---- out
+
+// How many numbers are lent for an output of n bytes: those that fit, as far as a block can use them.
+pub fn lent(n: usize) -> usize
+    ensures { λ r. ⌜ r ≡ min (n / 8) 65536 ⌝ }
+{
+    if MOST < n / 8 {
+        return MOST;
+    }
+    n / 8
+}
 
 fn put_words(words: &[u64], out: &mut [u8])
     requires { ⌜ 8 * length (now words) ≤ length (now out) ⌝ }

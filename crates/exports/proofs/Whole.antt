@@ -25,22 +25,22 @@ outside cs vs rs h = go (eqb (length cs) (length vs)) refl
     go false e = refl
 
 module _ (s : List ℕ) where
-  pub few : fewWords s ≡ true → length s / 8 ≤ 65535
+  pub few : fewWords s ≡ true → length s / 8 ≤ 65536
   unfolding fewWords
-  few h = leb-true (length s / 8) 65535 (true-right (eqb (length s % 8) 0) (leb (length s / 8) 65535) h)
+  few h = leb-true (length s / 8) 65536 (true-right (eqb (length s % 8) 0) (leb (length s / 8) 65536) h)
 
   pub whole : {A : Type 0} (r : Answer A) → fewWords s ≡ true → wholeWords s r ≡ r
   unfolding fewWords wholeWords
-  whole r h = rw (true-left (eqb (length s % 8) 0) (leb (length s / 8) 65535) h)
+  whole r h = rw (true-left (eqb (length s % 8) 0) (leb (length s / 8) 65536) h)
 
   -- where too many numbers are refused with 3 anyway
   broken : {A : Type 0} (over : Bool) (r : Answer A) → (65535 < length (wordsIn s) → over ≡ true) → fewWords s ≡ false → wholeWords s (refuse over 3 0 r) ≡ refused 3 0
   unfolding fewWords wholeWords
-  broken {A} over r f h = go (eqb (length s % 8) 0) (leb (length s / 8) 65535) refl h
+  broken {A} over r f h = go (eqb (length s % 8) 0) (leb (length s / 8) 65536) refl h
     where
-      go : (e l : Bool) → leb (length s / 8) 65535 ≡ l → (e && l) ≡ false → _≡_ {A = Answer A} (refuse (not e) 3 0 (refuse over 3 0 r)) (refused 3 0)
+      go : (e l : Bool) → leb (length s / 8) 65536 ≡ l → (e && l) ≡ false → _≡_ {A = Answer A} (refuse (not e) 3 0 (refuse over 3 0 r)) (refused 3 0)
       go false l k h = refl
-      go true l k h = rw (f (omega (arith, length-in s, leb-false (length s / 8) 65535 (k ∙ h))))
+      go true l k h = rw (f (omega (arith, length-in s, leb-false (length s / 8) 65536 (k ∙ h))))
 
   module _ (cs rs : List ℕ) (h : fewWords s ≡ false) where
     pub encoded-broken : (w : ℕ) (t : List ℕ) (size at : ℕ) → wholeWords s (encoded w t (arena cs (wordsIn s) rs) size at) ≡ refused 3 0
@@ -48,5 +48,5 @@ module _ (s : List ℕ) where
     encoded-broken w t size at = broken (not (within (arena cs (wordsIn s) rs)) || ltb 1048576 size) _ (λ l. rw (outside cs (wordsIn s) rs l)) h
 
 -- the copied numbers stand for the bytes
-pub front : (w : List ℕ) (n : ℕ) → 65535 ≡ length w → n ≤ 65535 → n ≡ length (take n w)
+pub front : (w : List ℕ) (n : ℕ) → 65536 ≡ length w → n ≤ 65536 → n ≡ length (take n w)
 front w n e h = sym (length-take-le n w (omega arith))

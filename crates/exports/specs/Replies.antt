@@ -3,14 +3,16 @@ use mathlib.Core.Path.{_≡_}
 use mathlib.Core.Bool.{not, cond}
 use mathlib.Core.List.{List}
 use mathlib.Core.Option.{Option, none, some}
-use Prim.Native.Nat.{ℕ, _-_, _%_}
+use Prim.Native.Nat.{ℕ, _-_, _/_, _%_}
 use lib.ListN.{length}
 use lib.Dec.{eqb}
 use Rattle.rules.specs.Answer.{Answer, good, refused, refuse, Read}
-use Rattle.rules.specs.Record.{Block, recordSize, recordAt}
+use Rattle.rules.specs.Lists.{fitted}
+use Rattle.rules.specs.Operations.{codes, values}
+use Rattle.rules.specs.Record.{Block, recordSize, recordAt, wordBytes, recordsBytes}
 use Rattle.rules.specs.Block.{Room}
 use Rattle.rules.specs.Lookups.{Place}
-use Rattle.rules.specs.Functions.{Arena, roomIn, filled, blockLeft, written, readLeft, tableLeft, groupLookup, nextLookup}
+use Rattle.rules.specs.Functions.{Arena, arena, roomIn, filled, blockLeft, written, readLeft, tableLeft, groupLookup, nextLookup}
 use Rattle.exports.specs.declared.BuildReply.{BuildReply}
 use Rattle.exports.specs.declared.EncodeReply.{EncodeReply}
 use Rattle.exports.specs.declared.DecodeReply.{DecodeReply}
@@ -87,3 +89,20 @@ wholeWords s r = refuse (not (eqb (length s % 8) 0)) 3 0 r
 -- and an index lookup in one finds nothing
 unfoldable pub inWhole : List ℕ → Option ℕ → Option ℕ
 inWhole s r = cond (eqb (length s % 8) 0) r none
+
+-- the room of an arena whose values are bytes: whole numbers
+unfoldable pub roomBytes : Arena → Room
+roomBytes a = record { codes = length (a .codes); values = length (a .values) / 8; records = length (a .records) / recordSize }
+
+-- such an arena with a block in it: content, then zeros
+unfoldable pub filledBytes : Arena → Block → Arena
+filledBytes a b =
+    arena
+    (fitted (length (a .codes)) (codes (b .ops)))
+    (fitted (length (a .values)) (wordBytes (values (b .ops))))
+    (fitted (length (a .records)) (recordsBytes (b .records)))
+
+-- decode's reply and what it leaves in the lent runs
+pub record ReadsBytes (answer : Room → Read Block) (at : ℕ) (r : DecodeReply) (before after : Arena) : Type 0 where
+  pub reply : r ≡ decodeReply at (answer (roomBytes before))
+  pub runs : after ≡ filledBytes before (readLeft (answer (roomBytes before)))

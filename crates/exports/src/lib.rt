@@ -1,12 +1,13 @@
 // What a Rust or C program calls: the public functions over numbers and slices, with replies as plain structs. In each reply number 0 means that
 // nothing was refused; a refusal has every length and total 0.
 ghost use mathlib.Core.Path.{_≡_};
+ghost use Prim.Native.Nat.{_/_, min};
 ghost use lib.ListN.{length};
 ghost use Rattle.rules.specs.Record.{recordAt};
 ghost use Rattle.rules.specs.Lookups.{paddedIndex, rawIndex};
 ghost use Rattle.rules.specs.Functions.{arena, built, encoded, decoded, structureChecked, paddingChecked, commitmentChecked, rawTabled, paddedTabled, groupLookup, nextLookup};
 ghost use Rattle.crossing.specs.Words.{wordsIn};
-ghost use Rattle.exports.specs.Replies.{Builds, Writes, Reads, checkReply, Tables, indexReply, oneRecord, wholeWords, inWhole, groupReply, nextReply};
+ghost use Rattle.exports.specs.Replies.{Builds, Writes, Reads, checkReply, Tables, indexReply, oneRecord, wholeWords, inWhole, ReadsBytes, groupReply, nextReply};
 ghost use Rattle.exports.specs.Flat.{flatBuilt, flatEncoded, flatDecoded, flatVerdict, flatTabled, flatPadded, flatRaw, flatGroup, flatNext};
 use build::Built;
 use decoder::Decoded;
@@ -434,4 +435,46 @@ pub extern "C" fn oli_encode_le(
     let n = values.len() / 8;
     let work = crossing::words(values);
     oli_encode(table, codes, &work[..n], records, out, at)
+}
+
+// The values go through `work`, as long as what the lent bytes have room for.
+fn decode_through(
+    table: &[u8],
+    bytes: &[u8],
+    at: usize,
+    out_codes: &mut [u8],
+    work: &mut [u64],
+    out_values: &mut [u8],
+    records: &mut [u8],
+) -> DecodeReply
+    requires { ⌜ length (now work) ≡ min (length (now «out_values») / 8) 65536 ⌝ }
+    ensures { λ r. ⌜ ReadsBytes (decoded 8 (now (table .entry)) (now (bytes .entry)) at) at r (arena (now («out_codes» .entry)) (now («out_values» .entry)) (now (records .entry))) (arena (now («out_codes» .exit)) (now («out_values» .exit)) (now (records .exit))) ⌝ }
+{
+    let r = oli_decode(table, bytes, at, out_codes, work, records);
+    crossing::bytes_out(work, out_values);
+    r
+}
+
+#[no_mangle]
+pub extern "C" fn oli_decode_le(
+    table: &[u8],
+    bytes: &[u8],
+    at: usize,
+    out_codes: &mut [u8],
+    out_values: &mut [u8],
+    records: &mut [u8],
+) -> DecodeReply
+    ensures { λ r. ⌜ ReadsBytes (decoded 8 (now (table .entry)) (now (bytes .entry)) at) at r (arena (now («out_codes» .entry)) (now («out_values» .entry)) (now (records .entry))) (arena (now («out_codes» .exit)) (now («out_values» .exit)) (now (records .exit))) ⌝ }
+{
+    let n = crossing::lent(out_values.len());
+    let mut work = crossing::room();
+    decode_through(
+        table,
+        bytes,
+        at,
+        out_codes,
+        &mut work[..n],
+        out_values,
+        records,
+    )
 }

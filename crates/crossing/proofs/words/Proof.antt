@@ -14,7 +14,7 @@ use Rattle.crossing.proofs.room.Reads as room-reads
 use Rattle.word.proofs.le8.Reads as le8-reads
 
 abbrev Inv-loop : tie.InvT-loop
-Inv-loop s out₀ n i₀ out i = (n ≡ length s / 8) × (length out ≡ 65535) × (sets out i (left s i) ≡ sets out₀ 0 (wordsIn s))
+Inv-loop s out₀ n i₀ out i = (n ≡ length s / 8) × (length out ≡ 65536) × (sets out i (left s i) ≡ sets out₀ 0 (wordsIn s))
 
 abbrev μ-loop : tie.MeasureT-loop
 μ-loop s out₀ n i₀ out i = n - i

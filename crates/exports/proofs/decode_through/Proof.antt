@@ -1,0 +1,52 @@
+use Rattle.exports.proofs.Rooms.{reads-out}
+use borrow.Author.Needs.{needs}
+use Rattle.exports.proofs.decode_through.Statement.{statement}
+use Rattle.exports.proofs.decode_through.Tie as tie
+use Rattle.exports.proofs.decode_through.Reads as reads
+use Rattle.exports.proofs.decode_through.Lts as lts
+use Rattle.crossing.proofs.bytes_out.Reads as bytes-out-reads
+use Rattle.exports.proofs.oli_decode.Reads as oli-decode-reads
+
+-- src/lib.rt:453:9
+oli-decode-requires : tie.Need-oli-decode-requires
+oli-decode-requires c κs = search needs
+
+-- src/lib.rt:454:5
+bytes-out-requires : tie.Need-bytes-out-requires
+bytes-out-requires c κs = search needs
+
+-- src/lib.rt:441:1
+same-length : tie.Need-same-length
+same-length c = search needs
+
+-- src/lib.rt:441:1
+same-length-2 : tie.Need-same-length-2
+same-length-2 c = search needs
+
+-- src/lib.rt:441:1
+same-length-3 : tie.Need-same-length-3
+same-length-3 c = search needs
+
+-- src/lib.rt:441:1
+same-length-4 : tie.Need-same-length-4
+same-length-4 c = search needs
+
+-- src/lib.rt:441:1
+returns : tie.Need-returns
+returns c =
+    let a = c .before .before .before .before .before .before .before .before .before .before .before .before .before .before .before .before .before .before .before .before .before .args in
+    let d = c .before .before .before .before .before .before .before .before .before .before .before .oli-decode in
+    reads-out (a .table .now) (a .bytes .now) (a .at) (a .out-codes .now) (a .work .now) (a .records .now) (a .out-values .now) (c .before .before .before .before .before .before .before .before .before .before .before .before .before .before .before .before .before .before .before .before .before .pre)
+    _ _ _ _ _ (d .ensures) (c .before .before .bytes-out .ensures)
+
+pub decode-through-spec : {M : Type 1} → statement M
+decode-through-spec =
+    tie.close
+    (tie.spec
+    oli-decode-requires
+    bytes-out-requires
+    same-length
+    same-length-2
+    same-length-3
+    same-length-4
+    returns)
