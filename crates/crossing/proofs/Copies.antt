@@ -10,7 +10,7 @@ use Rattle.rules.specs.Lists.{fitted}
 use Rattle.rules.specs.Digits.{leAt, leBytes}
 use Rattle.rules.specs.Record.{wordBytes, wordsAt}
 use Rattle.rules.proofs.Runs.{zeroed}
-use Rattle.op_batch.proofs.Bytes.{words-length}
+use Rattle.op_batch.proofs.Bytes.{words-length, word}
 use Rattle.op_batch.proofs.Loads.{words-turn, words-end}
 use Rattle.decoder.proofs.Stores as out
 use Rattle.decoder.proofs.Stores.{length-words}
@@ -19,6 +19,10 @@ use Rattle.crossing.specs.Words.{wordsIn}
 pub length-in : (s : List ℕ) → length (wordsIn s) ≡ length s / 8
 unfolding wordsIn
 length-in s = words-length (length s / 8) s 0
+
+pub word-in : (s : List ℕ) (i : ℕ) → i < length s / 8 → getD (wordsIn s) i 0 ≡ leAt 8 s (8 * i)
+unfolding wordsIn
+word-in s i h = rw (zero-add (8 * i)) at (word (length s / 8) s 0 i h)
 
 -- ---- the loop that reads, from the i-th number on
 

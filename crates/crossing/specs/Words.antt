@@ -3,7 +3,7 @@ use mathlib.Core.Bool.{Bool, _&&_}
 use mathlib.Core.List.{List}
 use Prim.Native.Nat.{ℕ, _/_, _%_}
 use lib.ListN.{length}
-use lib.Dec.{leb, eqb}
+use lib.Dec.{leb, ltb, eqb}
 use Rattle.rules.specs.Record.{wordsAt}
 
 -- the numbers that lie in a run of bytes; bytes after the last whole one are left out
@@ -13,3 +13,7 @@ wordsIn s = wordsAt (length s / 8) s 0
 -- whole numbers, and few enough for the work space; a block has fewer values
 unfoldable pub fewWords : List ℕ → Bool
 fewWords s = eqb (length s % 8) 0 && leb (length s / 8) 65536
+
+-- whether whole numbers lie in a run, and an i-th among them
+unfoldable pub hasWord : List ℕ → ℕ → Bool
+hasWord s i = eqb (length s % 8) 0 && ltb i (length s / 8)

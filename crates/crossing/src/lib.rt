@@ -5,7 +5,7 @@ ghost use lib.ListN.{length, take};
 ghost use lib.Seq.{sets};
 ghost use Rattle.rules.specs.Lists.{fitted};
 ghost use Rattle.rules.specs.Record.{wordBytes};
-ghost use Rattle.crossing.specs.Words.{wordsIn, fewWords};
+ghost use Rattle.crossing.specs.Words.{wordsIn, fewWords, hasWord};
 
 // The longest index table of a block has so many entries, one more than the values of the largest block.
 const MOST: usize = 65536;
@@ -24,6 +24,15 @@ pub fn few_words(s: &[u8]) -> bool
         return false;
     }
     s.len() / 8 <= MOST
+}
+
+pub fn has_word(s: &[u8], i: usize) -> bool
+    ensures { λ r. ⌜ r ≡ hasWord (now (s .entry)) i ⌝ }
+{
+    if s.len() % 8 != 0 {
+        return false;
+    }
+    i < s.len() / 8
 }
 
 // ---- in

@@ -1,3 +1,4 @@
 pub mod Cross
 pub mod Whole
 pub mod Rooms
+pub mod Indexes

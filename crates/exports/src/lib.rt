@@ -478,3 +478,27 @@ pub extern "C" fn oli_decode_le(
         records,
     )
 }
+
+#[no_mangle]
+pub extern "C" fn oli_padded_index_le(table: &[u8], raw: usize) -> IndexReply
+    ensures { λ r. ⌜ r ≡ indexReply (inWhole (now (table .entry)) (paddedIndex (wordsIn (now (table .entry))) raw)) ⌝ }
+{
+    if !crossing::has_word(table, raw) {
+        return IndexReply { found: 0, index: 0 };
+    }
+    let entry = word::le8(table, 8 * raw);
+    let r = prefix::padded_by(entry, RawIndex(raw));
+    flat_padded(r)
+}
+
+#[no_mangle]
+pub extern "C" fn oli_raw_index_le(table: &[u8], padded: usize) -> IndexReply
+    ensures { λ r. ⌜ r ≡ indexReply (inWhole (now (table .entry)) (rawIndex (wordsIn (now (table .entry))) padded)) ⌝ }
+{
+    if !crossing::has_word(table, padded) {
+        return IndexReply { found: 0, index: 0 };
+    }
+    let entry = word::le8(table, 8 * padded);
+    let r = prefix::raw_by(entry, PaddedIndex(padded));
+    flat_raw(r)
+}

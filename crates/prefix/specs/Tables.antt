@@ -6,10 +6,10 @@ use mathlib.Core.Option.{Option, none, some}
 use Prim.Native.Nat.{ℕ, zero, suc, _+_, _-_}
 use lib.ListN.{length, drop}
 use lib.Seq.{sets}
-use lib.Dec.{eqb}
+use lib.Dec.{leb, eqb}
 use Rattle.rules.specs.Answer.{Answer, good, refused}
 use Rattle.rules.specs.Record.{Record, Block, differences}
-use Rattle.rules.specs.Lookups.{marksOf, rawEntries, paddedEntries, rawTable, paddedTable}
+use Rattle.rules.specs.Lookups.{marksOf, rawEntries, paddedEntries, rawTable, paddedTable, largest}
 use Rattle.rules.specs.Functions.{tableLeft}
 use Rattle.prefix.specs.declared.PaddedFound.{PaddedFound}
 use Rattle.prefix.specs.declared.PaddedFound.the-variants as padded
@@ -26,6 +26,13 @@ paddedFound (some i) = padded.At (record { 0 = i })
 abbrev pub rawFound : Option ℕ → RawFound
 rawFound none = raw.Nothing
 rawFound (some i) = raw.At (record { 0 = i })
+
+-- where an index leads, by its entry: the second half of `paddedIndex` and of `rawIndex`
+abbrev pub paddedBy : ℕ → ℕ → Option ℕ
+paddedBy entry i = cond (leb (i + entry) largest) (some (i + entry)) none
+
+abbrev pub rawBy : ℕ → ℕ → Option ℕ
+rawBy entry i = cond (leb entry i) (some (i - entry)) none
 
 -- a table's reply: how many entries it has
 abbrev pub tabledOf : Answer (List ℕ) → Tabled

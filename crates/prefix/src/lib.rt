@@ -8,7 +8,7 @@ ghost use Rattle.rules.specs.Record.{recordAt, recordsIn};
 ghost use Rattle.rules.specs.Checks.{recordRight};
 ghost use Rattle.rules.specs.Lookups.{marks, paddedIndex, rawIndex};
 ghost use Rattle.rules.specs.Functions.{arena, rawTabled, paddedTabled, tableOf};
-ghost use Rattle.prefix.specs.Tables.{paddedFound, rawFound, tableBy, tableFrom, padsIn, keptIn, marksAt, Goes, Filling, Answered};
+ghost use Rattle.prefix.specs.Tables.{paddedFound, rawFound, paddedBy, rawBy, tableBy, tableFrom, padsIn, keptIn, marksAt, Goes, Filling, Answered};
 use op_batch::RECORD;
 use operation::Verdict;
 
@@ -36,6 +36,18 @@ pub enum Tabled {
 
 const LARGEST: usize = 18446744073709551615;
 
+// Where the entry of a raw index leads.
+pub fn padded_by(entry: u64, i: RawIndex) -> PaddedFound
+    ensures { λ r. ⌜ r ≡ paddedFound (paddedBy entry (i .0)) ⌝ }
+{
+    let raw = i.0;
+    let paddings = entry as usize;
+    if LARGEST - raw < paddings {
+        return PaddedFound::Nothing;
+    }
+    PaddedFound::At(PaddedIndex(raw + paddings))
+}
+
 pub fn raw_to_padded_index(table: &[u64], i: RawIndex) -> PaddedFound
     ensures { λ r. ⌜ r ≡ paddedFound (paddedIndex (now (table .entry)) (i .0)) ⌝ }
 {
@@ -43,11 +55,19 @@ pub fn raw_to_padded_index(table: &[u64], i: RawIndex) -> PaddedFound
     if table.len() <= raw {
         return PaddedFound::Nothing;
     }
-    let entry = table[raw] as usize;
-    if LARGEST - raw < entry {
-        return PaddedFound::Nothing;
+    padded_by(table[raw], i)
+}
+
+// Where the entry of a padded index leads.
+pub fn raw_by(entry: u64, i: PaddedIndex) -> RawFound
+    ensures { λ r. ⌜ r ≡ rawFound (rawBy entry (i .0)) ⌝ }
+{
+    let padded = i.0;
+    let paddings = entry as usize;
+    if padded < paddings {
+        return RawFound::Nothing;
     }
-    PaddedFound::At(PaddedIndex(raw + entry))
+    RawFound::At(RawIndex(padded - paddings))
 }
 
 pub fn padded_to_raw_index(table: &[u64], i: PaddedIndex) -> RawFound
@@ -57,11 +77,7 @@ pub fn padded_to_raw_index(table: &[u64], i: PaddedIndex) -> RawFound
     if table.len() <= padded {
         return RawFound::Nothing;
     }
-    let entry = table[padded] as usize;
-    if padded < entry {
-        return RawFound::Nothing;
-    }
-    RawFound::At(RawIndex(padded - entry))
+    raw_by(table[padded], i)
 }
 
 // ---- tables: `padded` says which of the two, and is all they differ in

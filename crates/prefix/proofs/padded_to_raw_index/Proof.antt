@@ -1,36 +1,35 @@
-use borrow.Author.Needs.{needs}
-use borrow.Author.Tests.{lt-ltb, le-ltb, le-leb, lt-leb}
-use lib.ListN.{length, getD}
 use Rattle.rules.specs.Lookups.{rawIndex}
+use lib.ListN.{length}
+use borrow.Author.Tests.{lt-ltb, le-ltb}
+use borrow.Author.Needs.{needs}
 use Rattle.prefix.proofs.padded_to_raw_index.Statement.{statement}
 use Rattle.prefix.proofs.padded_to_raw_index.Tie as tie
 use Rattle.prefix.proofs.padded_to_raw_index.Reads as reads
 use Rattle.prefix.proofs.padded_to_raw_index.Lts as lts
+use Rattle.prefix.proofs.raw_by.Reads as raw-by-reads
 
+-- src/lib.rt:78:9
 returns : tie.Need-returns
 unfolding rawIndex
-returns c = let a = c .before .args in simp (le-ltb (a .i .0) (length (a .table .now)) (c .if1 .taken))
+returns c = let a = c .before .before .args in simp (le-ltb (a .i .0) (length (a .table .now)) (c .if1 .taken))
 
-mul-entry : tie.Need-mul-entry
-mul-entry c = search needs
+-- src/lib.rt:80:12
+mul-raw-by : tie.Need-mul-raw-by
+mul-raw-by c = search needs
 
-shared-slice-read-entry : tie.Need-shared-slice-read-entry
-shared-slice-read-entry c = search needs
+-- src/lib.rt:80:12
+shared-slice-read-raw-by : tie.Need-shared-slice-read-raw-by
+shared-slice-read-raw-by c = search needs
 
+-- src/lib.rt:80:5
+raw-by-requires : tie.Need-raw-by-requires
+raw-by-requires c κs = search needs
+
+-- src/lib.rt:73:1
 returns-2 : tie.Need-returns-2
 unfolding rawIndex
-returns-2 c =
-    let a = c .before .before .before .args in
-    let t = a .table .now in
-    simp (lt-ltb (a .i .0) (length t) (c .before .before .if1 .left), lt-leb (getD t (a .i .0) 0) (a .i .0) (c .if2 .taken))
-
-returns-3 : tie.Need-returns-3
-unfolding rawIndex
-returns-3 c =
-    let a = c .before .before .before .args in
-    let t = a .table .now in
-    simp (lt-ltb (a .i .0) (length t) (c .before .before .if1 .left), le-leb (getD t (a .i .0) 0) (a .i .0) (c .if2 .left))
+returns-2 c = let a = c .before .before .before .before .args in rw (lt-ltb (a .i .0) (length (a .table .now)) (c .before .before .if1 .left)) (c .raw-by .ensures)
 
 pub padded-to-raw-index-spec : {M : Type 1} → statement M
 padded-to-raw-index-spec =
-    tie.close (tie.spec returns mul-entry shared-slice-read-entry returns-2 returns-3)
+    tie.close (tie.spec returns mul-raw-by shared-slice-read-raw-by raw-by-requires returns-2)

@@ -1,45 +1,36 @@
-use Prim.Native.Nat.{_+_}
-use native.Mathlib.Omega.{arith}
+use Rattle.rules.specs.Lookups.{paddedIndex}
+use lib.ListN.{length}
+use borrow.Author.Tests.{lt-ltb, le-ltb}
 use borrow.Author.Needs.{needs}
-use borrow.Author.Tests.{lt-ltb, le-ltb, le-leb, lt-leb}
-use lib.ListN.{length, getD}
-use Rattle.rules.specs.Lookups.{largest, paddedIndex}
 use Rattle.prefix.proofs.raw_to_padded_index.Statement.{statement}
 use Rattle.prefix.proofs.raw_to_padded_index.Tie as tie
 use Rattle.prefix.proofs.raw_to_padded_index.Reads as reads
 use Rattle.prefix.proofs.raw_to_padded_index.Lts as lts
+use Rattle.prefix.proofs.padded_by.Reads as padded-by-reads
 
+-- src/lib.rt:56:9
 returns : tie.Need-returns
 unfolding paddedIndex
-returns c = let a = c .before .args in simp (le-ltb (a .i .0) (length (a .table .now)) (c .if1 .taken))
+returns c = let a = c .before .before .args in simp (le-ltb (a .i .0) (length (a .table .now)) (c .if1 .taken))
 
-mul-entry : tie.Need-mul-entry
-mul-entry c = search needs
+-- src/lib.rt:58:15
+mul-padded-by : tie.Need-mul-padded-by
+mul-padded-by c = search needs
 
-shared-slice-read-entry : tie.Need-shared-slice-read-entry
-shared-slice-read-entry c = search needs
+-- src/lib.rt:58:15
+shared-slice-read-padded-by : tie.Need-shared-slice-read-padded-by
+shared-slice-read-padded-by c = search needs
 
-sub-if2 : tie.Need-sub-if2
-sub-if2 c = search needs
+-- src/lib.rt:58:5
+padded-by-requires : tie.Need-padded-by-requires
+padded-by-requires c κs = search needs
 
+-- src/lib.rt:51:1
 returns-2 : tie.Need-returns-2
 unfolding paddedIndex
-returns-2 c =
-    let a = c .before .before .before .args in
-    let t = a .table .now in
-    simp (lt-ltb (a .i .0) (length t) (c .before .before .if1 .left), lt-leb (a .i .0 + getD t (a .i .0) 0) largest (omega arith))
-
-add-t5 : tie.Need-add-t5
-add-t5 c = search needs
-
-returns-3 : tie.Need-returns-3
-unfolding paddedIndex
-returns-3 c =
-    let a = c .before .before .before .args in
-    let t = a .table .now in
-    simp (lt-ltb (a .i .0) (length t) (c .before .before .if1 .left), le-leb (a .i .0 + getD t (a .i .0) 0) largest (omega arith))
+returns-2 c = let a = c .before .before .before .before .args in rw (lt-ltb (a .i .0) (length (a .table .now)) (c .before .before .if1 .left)) (c .padded-by .ensures)
 
 pub raw-to-padded-index-spec : {M : Type 1} → statement M
 raw-to-padded-index-spec =
     tie.close
-    (tie.spec returns mul-entry shared-slice-read-entry sub-if2 returns-2 add-t5 returns-3)
+    (tie.spec returns mul-padded-by shared-slice-read-padded-by padded-by-requires returns-2)
