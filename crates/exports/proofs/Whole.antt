@@ -47,6 +47,10 @@ module _ (s : List ℕ) where
     unfolding encoded
     encoded-broken w t size at = broken (not (within (arena cs (wordsIn s) rs)) || ltb 1048576 size) _ (λ l. rw (outside cs (wordsIn s) rs l)) h
 
+    -- the checks and the tables begin so
+    pub checked-broken : {A : Type 0} (r : Answer A) → wholeWords s (refuse (not (within (arena cs (wordsIn s) rs))) 3 0 r) ≡ refused 3 0
+    checked-broken r = broken (not (within (arena cs (wordsIn s) rs))) r (λ l. rw (outside cs (wordsIn s) rs l)) h
+
 -- the copied numbers stand for the bytes
 pub front : (w : List ℕ) (n : ℕ) → 65536 ≡ length w → n ≤ 65536 → n ≡ length (take n w)
 front w n e h = sym (length-take-le n w (omega arith))

@@ -502,3 +502,53 @@ pub extern "C" fn oli_raw_index_le(table: &[u8], padded: usize) -> IndexReply
     let r = prefix::raw_by(entry, PaddedIndex(padded));
     flat_raw(r)
 }
+
+#[no_mangle]
+pub extern "C" fn oli_structure_le(codes: &[u8], values: &[u8], records: &[u8]) -> CheckReply
+    ensures { λ r. ⌜ r ≡ checkReply (wholeWords (now (values .entry)) (structureChecked 8 (arena (now (codes .entry)) (wordsIn (now (values .entry))) (now (records .entry))))) ⌝ }
+{
+    if !crossing::few_words(values) {
+        return CheckReply {
+            number: 3,
+            place: 0,
+        };
+    }
+    let n = values.len() / 8;
+    let work = crossing::words(values);
+    oli_structure(codes, &work[..n], records)
+}
+
+#[no_mangle]
+pub extern "C" fn oli_padding_le(codes: &[u8], values: &[u8], records: &[u8]) -> CheckReply
+    ensures { λ r. ⌜ r ≡ checkReply (wholeWords (now (values .entry)) (paddingChecked 8 (arena (now (codes .entry)) (wordsIn (now (values .entry))) (now (records .entry))))) ⌝ }
+{
+    if !crossing::few_words(values) {
+        return CheckReply {
+            number: 3,
+            place: 0,
+        };
+    }
+    let n = values.len() / 8;
+    let work = crossing::words(values);
+    oli_padding(codes, &work[..n], records)
+}
+
+#[no_mangle]
+pub extern "C" fn oli_commitment_le(
+    table: &[u8],
+    codes: &[u8],
+    values: &[u8],
+    records: &[u8],
+) -> CheckReply
+    ensures { λ r. ⌜ r ≡ checkReply (wholeWords (now (values .entry)) (commitmentChecked 8 (now (table .entry)) (arena (now (codes .entry)) (wordsIn (now (values .entry))) (now (records .entry))))) ⌝ }
+{
+    if !crossing::few_words(values) {
+        return CheckReply {
+            number: 3,
+            place: 0,
+        };
+    }
+    let n = values.len() / 8;
+    let work = crossing::words(values);
+    oli_commitment(table, codes, &work[..n], records)
+}
