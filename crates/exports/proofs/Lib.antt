@@ -2,3 +2,4 @@ pub mod Cross
 pub mod Whole
 pub mod Rooms
 pub mod Indexes
+pub mod Tables

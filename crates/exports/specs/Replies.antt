@@ -12,7 +12,7 @@ use Rattle.rules.specs.Operations.{codes, values}
 use Rattle.rules.specs.Record.{Block, recordSize, recordAt, wordBytes, recordsBytes}
 use Rattle.rules.specs.Block.{Room}
 use Rattle.rules.specs.Lookups.{Place}
-use Rattle.rules.specs.Functions.{Arena, arena, roomIn, filled, blockLeft, written, readLeft, tableLeft, groupLookup, nextLookup}
+use Rattle.rules.specs.Functions.{Arena, arena, roomIn, filled, blockLeft, written, readLeft, bytesLeft, tableLeft, groupLookup, nextLookup}
 use Rattle.exports.specs.declared.BuildReply.{BuildReply}
 use Rattle.exports.specs.declared.EncodeReply.{EncodeReply}
 use Rattle.exports.specs.declared.DecodeReply.{DecodeReply}
@@ -106,3 +106,8 @@ filledBytes a b =
 pub record ReadsBytes (answer : Room → Read Block) (at : ℕ) (r : DecodeReply) (before after : Arena) : Type 0 where
   pub reply : r ≡ decodeReply at (answer (roomBytes before))
   pub runs : after ≡ filledBytes before (readLeft (answer (roomBytes before)))
+
+-- a table's reply, and what became of the lent run
+pub record TablesBytes (answer : Answer (List ℕ)) (r : TableReply) (out out′ : List ℕ) : Type 0 where
+  pub reply : r ≡ tableReply answer
+  pub left : out′ ≡ fitted (length out) (wordBytes (bytesLeft answer))

@@ -5,9 +5,10 @@ ghost use Prim.Native.Nat.{_/_, min};
 ghost use lib.ListN.{length};
 ghost use Rattle.rules.specs.Record.{recordAt};
 ghost use Rattle.rules.specs.Lookups.{paddedIndex, rawIndex};
-ghost use Rattle.rules.specs.Functions.{arena, built, encoded, decoded, structureChecked, paddingChecked, commitmentChecked, rawTabled, paddedTabled, groupLookup, nextLookup};
+ghost use Rattle.rules.specs.Functions.{arena, built, encoded, decoded, structureChecked, paddingChecked, commitmentChecked, rawTabled, paddedTabled, tableOf, groupLookup, nextLookup};
+ghost use Rattle.prefix.specs.Tables.{tableBy};
 ghost use Rattle.crossing.specs.Words.{wordsIn};
-ghost use Rattle.exports.specs.Replies.{Builds, Writes, Reads, checkReply, Tables, indexReply, oneRecord, wholeWords, inWhole, ReadsBytes, groupReply, nextReply};
+ghost use Rattle.exports.specs.Replies.{Builds, Writes, Reads, checkReply, Tables, indexReply, oneRecord, wholeWords, inWhole, ReadsBytes, TablesBytes, groupReply, nextReply};
 ghost use Rattle.exports.specs.Flat.{flatBuilt, flatEncoded, flatDecoded, flatVerdict, flatTabled, flatPadded, flatRaw, flatGroup, flatNext};
 use build::Built;
 use decoder::Decoded;
@@ -551,4 +552,59 @@ pub extern "C" fn oli_commitment_le(
     let n = values.len() / 8;
     let work = crossing::words(values);
     oli_commitment(table, codes, &work[..n], records)
+}
+
+// The entries go through `work`, as long as what the lent bytes have room for.
+fn table_through(
+    codes: &[u8],
+    values: &[u8],
+    records: &[u8],
+    padded: bool,
+    work: &mut [u64],
+    out: &mut [u8],
+) -> TableReply
+    requires { ⌜ length (now work) ≡ min (length (now out) / 8) 65536 ⌝ }
+    ensures { λ r. ⌜ TablesBytes (wholeWords (now (values .entry)) (tableOf (tableBy padded) 8 (arena (now (codes .entry)) (wordsIn (now (values .entry))) (now (records .entry))) (length (now (out .entry)) / 8))) r (now (out .entry)) (now (out .exit)) ⌝ }
+{
+    if !crossing::few_words(values) {
+        word::zero_bytes(out, 0);
+        return TableReply {
+            number: 3,
+            place: 0,
+            entries: 0,
+        };
+    }
+    let n = values.len() / 8;
+    let numbers = crossing::words(values);
+    let r = prefix::table(codes, &numbers[..n], records, padded, work);
+    crossing::bytes_out(work, out);
+    flat_tabled(r)
+}
+
+#[no_mangle]
+pub extern "C" fn oli_raw_table_le(
+    codes: &[u8],
+    values: &[u8],
+    records: &[u8],
+    out: &mut [u8],
+) -> TableReply
+    ensures { λ r. ⌜ TablesBytes (wholeWords (now (values .entry)) (rawTabled 8 (arena (now (codes .entry)) (wordsIn (now (values .entry))) (now (records .entry))) (length (now (out .entry)) / 8))) r (now (out .entry)) (now (out .exit)) ⌝ }
+{
+    let n = crossing::lent(out.len());
+    let mut work = crossing::room();
+    table_through(codes, values, records, false, &mut work[..n], out)
+}
+
+#[no_mangle]
+pub extern "C" fn oli_padded_table_le(
+    codes: &[u8],
+    values: &[u8],
+    records: &[u8],
+    out: &mut [u8],
+) -> TableReply
+    ensures { λ r. ⌜ TablesBytes (wholeWords (now (values .entry)) (paddedTabled 8 (arena (now (codes .entry)) (wordsIn (now (values .entry))) (now (records .entry))) (length (now (out .entry)) / 8))) r (now (out .entry)) (now (out .exit)) ⌝ }
+{
+    let n = crossing::lent(out.len());
+    let mut work = crossing::room();
+    table_through(codes, values, records, true, &mut work[..n], out)
 }

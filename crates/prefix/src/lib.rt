@@ -167,7 +167,8 @@ fn fill(records: &[u8], padded: bool, out: &mut [u64]) -> usize
     done.entries + 1
 }
 
-fn table(codes: &[u8], values: &[u64], records: &[u8], padded: bool, out: &mut [u64]) -> Tabled
+// Both tables, for callers that tell them apart by a value.
+pub fn table(codes: &[u8], values: &[u64], records: &[u8], padded: bool, out: &mut [u64]) -> Tabled
     ensures { λ r. ⌜ Answered (tableOf (tableBy padded) 8 (arena (now (codes .entry)) (now (values .entry)) (now (records .entry))) (length (now (out .entry)))) r (now (out .entry)) (now (out .exit)) ⌝ }
 {
     let v = checks::padding(codes, values, records);

@@ -1,0 +1,112 @@
+-- Tables that cross as bytes: more room than the longest table has makes no difference. Assumes nothing.
+use mathlib.Core.Path.{_≡_, refl, sym, ap, _∙_}
+use mathlib.Core.Bool.{Bool, true, false, not, _&&_}
+use mathlib.Core.List.{List, [], _∷_}
+use Prim.Native.Nat.{ℕ, zero, suc, _+_, _/_, _%_, _≤_, _<_, min, zero-le}
+use native.Mathlib.Omega.{arith}
+use borrow.Author.Tests.{lt-ltb, le-ltb, ltb-true, ltb-false, leb-true, not-false}
+use lib.ListN.{length}
+use lib.Dec.{leb, ltb, eqb}
+use Rattle.rules.specs.Lists.{fitted}
+use Rattle.rules.specs.Answer.{Answer, good, refused, refuse, refuseFirst}
+use Rattle.rules.specs.Record.{wordBytes}
+use Rattle.rules.specs.Checks.{structureFaults, paddingFaults}
+use Rattle.rules.specs.Lookups.{marks, rawEntries, paddedEntries, rawTable, paddedTable}
+use Rattle.rules.specs.Functions.{Arena, blockIn, within, structureChecked, tableOf, bytesLeft, tableLeft}
+use Rattle.rules.proofs.Operations.{true-left, true-right}
+use Rattle.prefix.specs.Tables.{tableBy, tableFrom}
+use Rattle.prefix.proofs.Claims.{all-marked}
+use Rattle.exports.specs.Replies.{tableReply, TablesBytes}
+use Rattle.exports.specs.declared.TableReply.{TableReply}
+use Rattle.exports.proofs.Rooms.{written-out}
+
+-- ---- two answers behind the same guards
+
+module _ {A : Type 0} where
+  pub same-refuse : (b : Bool) (n p : ℕ) (x y : Answer A) → (b ≡ false → x ≡ y) → refuse b n p x ≡ refuse b n p y
+  same-refuse true n p x y h = refl
+  same-refuse false n p x y h = h refl
+
+  -- what follows knows that there was no fault
+  pub same-first : (i : ℕ) (ns : List ℕ) (x y : Answer A) → (_≡_ {A = Answer Unit} (refuseFirst i ns (good tt)) (good tt) → x ≡ y) → refuseFirst i ns x ≡ refuseFirst i ns y
+  unfolding refuseFirst
+  same-first i [] x y h = h refl
+  same-first i (zero ∷ ns) x y h = same-first (i + 1) ns x y h
+  same-first i (suc n ∷ ns) x y h = refl
+
+-- ---- the longest table
+
+entries : (padded : Bool) (k : ℕ) (ms : List Bool) → length (tableFrom padded k ms) ≤ suc (length ms)
+unfolding rawEntries paddedEntries
+entries true k [] = omega arith
+entries true k (true ∷ ms) = omega (arith, entries true (k + 1) ms)
+entries true k (false ∷ ms) = omega (arith, entries true k ms)
+entries false k [] = omega arith
+entries false k (true ∷ ms) = omega (arith, entries false (k + 1) ms)
+entries false k (false ∷ ms) = omega (arith, entries false k ms)
+
+few-operations : (a : Arena) → within a ≡ true → length (a .codes) ≤ 65535
+unfolding within
+few-operations a h =
+    let r = eqb (length (a .records) % 82) 0 && leb (length (a .records) / 82) 16384 in
+    let b = leb (length (a .codes)) 65535 in
+    leb-true (length (a .codes)) 65535 (true-left b r (true-right (eqb (length (a .codes)) (length (a .values))) (b && r) h))
+
+module _ (padded : Bool) (a : Arena) where
+  by-marks : (p : Bool) → length (tableBy p (blockIn a)) ≤ suc (length (marks (blockIn a .records)))
+  unfolding rawTable paddedTable
+  by-marks true = entries true 0 (marks (blockIn a .records))
+  by-marks false = entries false 0 (marks (blockIn a .records))
+
+  longest : not (within a) ≡ false → _≡_ {A = Answer Unit} (refuseFirst 0 (structureFaults 8 (blockIn a)) (good tt)) (good tt) → length (tableBy padded (blockIn a)) ≤ 65536
+  unfolding structureChecked
+  longest w s =
+      let h = not-false (within a) w in
+      let checked : structureChecked 8 a ≡ good tt = rw h s in
+      omega (arith, by-marks padded, all-marked a checked, few-operations a h)
+
+  ltb-min : (k m : ℕ) → m ≤ 65536 → ltb (min k 65536) m ≡ ltb k m
+  ltb-min k m h = go (ltb k m) refl
+    where
+      go : (b : Bool) → ltb k m ≡ b → ltb (min k 65536) m ≡ b
+      go true e = lt-ltb (min k 65536) m (omega (arith, ltb-true k m e))
+      go false e = le-ltb (min k 65536) m (omega (arith, ltb-false k m e))
+
+  table-same : (k : ℕ) → tableOf (tableBy padded) 8 a (min k 65536) ≡ tableOf (tableBy padded) 8 a k
+  unfolding tableOf
+  table-same k =
+      same-refuse (not (within a)) 3 0 _ _ (λ w. same-first 0 (structureFaults 8 (blockIn a)) _ _ (λ s. same-first 0 (paddingFaults (blockIn a)) _ _ (λ _.
+      rw (ltb-min k (length (tableBy padded (blockIn a))) (longest w s)))))
+
+-- ---- a table that was made fits
+
+module _ (m : ℕ) where
+  short-refuse : (b : Bool) (n p : ℕ) (r : Answer (List ℕ)) → (b ≡ false → length (bytesLeft r) ≤ m) → length (bytesLeft (refuse b n p r)) ≤ m
+  short-refuse true n p r h = zero-le
+  short-refuse false n p r h = h refl
+
+  short-first : (i : ℕ) (ns : List ℕ) (r : Answer (List ℕ)) → length (bytesLeft r) ≤ m → length (bytesLeft (refuseFirst i ns r)) ≤ m
+  unfolding refuseFirst
+  short-first i [] r h = h
+  short-first i (zero ∷ ns) r h = short-first (i + 1) ns r h
+  short-first i (suc n ∷ ns) r h = zero-le
+
+  table-short : (padded : Bool) (a : Arena) → length (bytesLeft (tableOf (tableBy padded) 8 a m)) ≤ m
+  unfolding tableOf
+  table-short padded a =
+      short-refuse (not (within a)) 3 0 _ (λ _. short-first 0 (structureFaults 8 (blockIn a)) _ (short-first 0 (paddingFaults (blockIn a)) _
+      (short-refuse (ltb m (length (tableBy padded (blockIn a)))) 13 0 _ (λ b. ltb-false m (length (tableBy padded (blockIn a))) b))))
+
+-- ---- a table written out
+
+module _ (padded : Bool) (a : Arena) (wk ov : List ℕ) (e : length wk ≡ min (length ov / 8) 65536) where
+  pub tables-out : (r : TableReply) (wk′ ov′ : List ℕ) → r ≡ tableReply (tableOf (tableBy padded) 8 a (length wk)) → wk′ ≡ tableLeft wk (tableOf (tableBy padded) 8 a (length wk))
+      → ov′ ≡ fitted (length ov) (wordBytes wk′) → TablesBytes (tableOf (tableBy padded) 8 a (length ov / 8)) r ov ov′
+  unfolding tableLeft
+  tables-out r wk′ ov′ x y z =
+      let d = tableOf (tableBy padded) 8 a (length wk) in
+      let same : d ≡ tableOf (tableBy padded) 8 a (length ov / 8) = rw e (table-same padded a (length ov / 8)) in
+      record {
+        reply = x ∙ ap tableReply same;
+        left = z ∙ ap (λ (l : List ℕ). fitted (length ov) (wordBytes l)) y ∙ written-out (length ov) (length wk) (bytesLeft d) (table-short (length wk) padded a) ∙ ap (λ (q : Answer (List ℕ)). fitted (length ov) (wordBytes (bytesLeft q))) same;
+      }
