@@ -130,7 +130,7 @@ module _ (t : List ℕ) where
         let d = grown-batch gs in
         (simp length-append (omega (arith, ih .0)), simp length-append (omega (arith, ih .1)))
 
-    few-batches : (xs : List Op) → (2 * length (batchesOf w t xs) ≤ length xs + 2) × (length (paddedOf (batchesOf w t xs)) ≤ 3 * length xs + 8)
+    pub few-batches : (xs : List Op) → (2 * length (batchesOf w t xs) ≤ length xs + 2) × (length (paddedOf (batchesOf w t xs)) ≤ 3 * length xs + 8)
     unfolding batchesOf endBatch
     few-batches xs = go (steps w t xs (start)) refl (whole-batches w width t plain xs) (right-batches w width t plain xs)
       where

@@ -18,21 +18,8 @@ use Rattle.prefix.specs.Tables.{tableBy, tableFrom}
 use Rattle.prefix.proofs.Claims.{all-marked}
 use Rattle.exports.specs.Replies.{tableReply, TablesBytes}
 use Rattle.exports.specs.declared.TableReply.{TableReply}
+use Rattle.exports.proofs.Guards.{same-refuse, same-first, short-refuse, short-first}
 use Rattle.exports.proofs.Rooms.{written-out}
-
--- ---- two answers behind the same guards
-
-module _ {A : Type 0} where
-  pub same-refuse : (b : Bool) (n p : ℕ) (x y : Answer A) → (b ≡ false → x ≡ y) → refuse b n p x ≡ refuse b n p y
-  same-refuse true n p x y h = refl
-  same-refuse false n p x y h = h refl
-
-  -- what follows knows that there was no fault
-  pub same-first : (i : ℕ) (ns : List ℕ) (x y : Answer A) → (_≡_ {A = Answer Unit} (refuseFirst i ns (good tt)) (good tt) → x ≡ y) → refuseFirst i ns x ≡ refuseFirst i ns y
-  unfolding refuseFirst
-  same-first i [] x y h = h refl
-  same-first i (zero ∷ ns) x y h = same-first (i + 1) ns x y h
-  same-first i (suc n ∷ ns) x y h = refl
 
 -- ---- the longest table
 
@@ -78,24 +65,13 @@ module _ (padded : Bool) (a : Arena) where
       same-refuse (not (within a)) 3 0 _ _ (λ w. same-first 0 (structureFaults 8 (blockIn a)) _ _ (λ s. same-first 0 (paddingFaults (blockIn a)) _ _ (λ _.
       rw (ltb-min k (length (tableBy padded (blockIn a))) (longest w s)))))
 
--- ---- a table that was made fits
-
-module _ (m : ℕ) where
-  short-refuse : (b : Bool) (n p : ℕ) (r : Answer (List ℕ)) → (b ≡ false → length (bytesLeft r) ≤ m) → length (bytesLeft (refuse b n p r)) ≤ m
-  short-refuse true n p r h = zero-le
-  short-refuse false n p r h = h refl
-
-  short-first : (i : ℕ) (ns : List ℕ) (r : Answer (List ℕ)) → length (bytesLeft r) ≤ m → length (bytesLeft (refuseFirst i ns r)) ≤ m
-  unfolding refuseFirst
-  short-first i [] r h = h
-  short-first i (zero ∷ ns) r h = short-first (i + 1) ns r h
-  short-first i (suc n ∷ ns) r h = zero-le
-
-  table-short : (padded : Bool) (a : Arena) → length (bytesLeft (tableOf (tableBy padded) 8 a m)) ≤ m
-  unfolding tableOf
-  table-short padded a =
-      short-refuse (not (within a)) 3 0 _ (λ _. short-first 0 (structureFaults 8 (blockIn a)) _ (short-first 0 (paddingFaults (blockIn a)) _
-      (short-refuse (ltb m (length (tableBy padded (blockIn a)))) 13 0 _ (λ b. ltb-false m (length (tableBy padded (blockIn a))) b))))
+-- a table that was made fits
+table-short : (m : ℕ) (padded : Bool) (a : Arena) → length (bytesLeft (tableOf (tableBy padded) 8 a m)) ≤ m
+unfolding tableOf
+table-short m padded a =
+    let size : Answer (List ℕ) → ℕ = λ d. length (bytesLeft d) in
+    short-refuse size m (λ n p. zero-le) (not (within a)) 3 0 _ (λ _. short-first size m (λ n p. zero-le) 0 (structureFaults 8 (blockIn a)) _ (short-first size m (λ n p. zero-le) 0 (paddingFaults (blockIn a)) _
+    (short-refuse size m (λ n p. zero-le) (ltb m (length (tableBy padded (blockIn a)))) 13 0 _ (λ b. ltb-false m (length (tableBy padded (blockIn a))) b))))
 
 -- ---- a table written out
 

@@ -34,7 +34,7 @@ module _ (s : List ℕ) where
   whole r h = rw (true-left (eqb (length s % 8) 0) (leb (length s / 8) 65536) h)
 
   -- where too many numbers are refused with 3 anyway
-  broken : {A : Type 0} (over : Bool) (r : Answer A) → (65535 < length (wordsIn s) → over ≡ true) → fewWords s ≡ false → wholeWords s (refuse over 3 0 r) ≡ refused 3 0
+  pub broken : {A : Type 0} (over : Bool) (r : Answer A) → (65536 < length (wordsIn s) → over ≡ true) → fewWords s ≡ false → wholeWords s (refuse over 3 0 r) ≡ refused 3 0
   unfolding fewWords wholeWords
   broken {A} over r f h = go (eqb (length s % 8) 0) (leb (length s / 8) 65536) refl h
     where
@@ -45,11 +45,11 @@ module _ (s : List ℕ) where
   module _ (cs rs : List ℕ) (h : fewWords s ≡ false) where
     pub encoded-broken : (w : ℕ) (t : List ℕ) (size at : ℕ) → wholeWords s (encoded w t (arena cs (wordsIn s) rs) size at) ≡ refused 3 0
     unfolding encoded
-    encoded-broken w t size at = broken (not (within (arena cs (wordsIn s) rs)) || ltb 1048576 size) _ (λ l. rw (outside cs (wordsIn s) rs l)) h
+    encoded-broken w t size at = broken (not (within (arena cs (wordsIn s) rs)) || ltb 1048576 size) _ (λ l. rw (outside cs (wordsIn s) rs (omega arith))) h
 
     -- the checks and the tables begin so
     pub checked-broken : {A : Type 0} (r : Answer A) → wholeWords s (refuse (not (within (arena cs (wordsIn s) rs))) 3 0 r) ≡ refused 3 0
-    checked-broken r = broken (not (within (arena cs (wordsIn s) rs))) r (λ l. rw (outside cs (wordsIn s) rs l)) h
+    checked-broken r = broken (not (within (arena cs (wordsIn s) rs))) r (λ l. rw (outside cs (wordsIn s) rs (omega arith))) h
 
 -- the copied numbers stand for the bytes
 pub front : (w : List ℕ) (n : ℕ) → 65536 ≡ length w → n ≤ 65536 → n ≡ length (take n w)

@@ -102,12 +102,17 @@ filledBytes a b =
     (fitted (length (a .values)) (wordBytes (values (b .ops))))
     (fitted (length (a .records)) (recordsBytes (b .records)))
 
--- decode's reply and what it leaves in the lent runs
+-- build's reply and what it leaves in the lent runs; `answer` is what the rules answer for a room
+pub record BuildsBytes (answer : Room → Answer Block) (r : BuildReply) (before after : Arena) : Type 0 where
+  pub reply : r ≡ buildReply (answer (roomBytes before))
+  pub runs : after ≡ filledBytes before (blockLeft (answer (roomBytes before)))
+
+-- decode's
 pub record ReadsBytes (answer : Room → Read Block) (at : ℕ) (r : DecodeReply) (before after : Arena) : Type 0 where
   pub reply : r ≡ decodeReply at (answer (roomBytes before))
   pub runs : after ≡ filledBytes before (readLeft (answer (roomBytes before)))
 
--- a table's reply, and what became of the lent run
+-- a table's
 pub record TablesBytes (answer : Answer (List ℕ)) (r : TableReply) (out out′ : List ℕ) : Type 0 where
   pub reply : r ≡ tableReply answer
   pub left : out′ ≡ fitted (length out) (wordBytes (bytesLeft answer))

@@ -3,12 +3,13 @@
 ghost use mathlib.Core.Path.{_≡_};
 ghost use Prim.Native.Nat.{_/_, min};
 ghost use lib.ListN.{length};
-ghost use Rattle.rules.specs.Record.{recordAt};
+ghost use Rattle.rules.specs.Record.{recordAt, noBlock};
+ghost use Rattle.rules.specs.Block.{Room};
 ghost use Rattle.rules.specs.Lookups.{paddedIndex, rawIndex};
 ghost use Rattle.rules.specs.Functions.{arena, built, encoded, decoded, structureChecked, paddingChecked, commitmentChecked, rawTabled, paddedTabled, tableOf, groupLookup, nextLookup};
 ghost use Rattle.prefix.specs.Tables.{tableBy};
 ghost use Rattle.crossing.specs.Words.{wordsIn};
-ghost use Rattle.exports.specs.Replies.{Builds, Writes, Reads, checkReply, Tables, indexReply, oneRecord, wholeWords, inWhole, ReadsBytes, TablesBytes, groupReply, nextReply};
+ghost use Rattle.exports.specs.Replies.{Builds, Writes, Reads, checkReply, Tables, indexReply, oneRecord, wholeWords, inWhole, filledBytes, BuildsBytes, ReadsBytes, TablesBytes, groupReply, nextReply};
 ghost use Rattle.exports.specs.Flat.{flatBuilt, flatEncoded, flatDecoded, flatVerdict, flatTabled, flatPadded, flatRaw, flatGroup, flatNext};
 use build::Built;
 use decoder::Decoded;
@@ -607,4 +608,65 @@ pub extern "C" fn oli_padded_table_le(
     let n = crossing::lent(out.len());
     let mut work = crossing::room();
     table_through(codes, values, records, true, &mut work[..n], out)
+}
+
+fn clear(out_codes: &mut [u8], out_values: &mut [u8], records: &mut [u8])
+    ensures { λ _. ⌜ arena (now («out_codes» .exit)) (now («out_values» .exit)) (now (records .exit)) ≡ filledBytes (arena (now («out_codes» .entry)) (now («out_values» .entry)) (now (records .entry))) noBlock ⌝ }
+{
+    word::zero_bytes(out_codes, 0);
+    word::zero_bytes(out_values, 0);
+    word::zero_bytes(records, 0);
+}
+
+// The values that build fills in go through `work`, as long as what the lent bytes have room for.
+fn build_through(
+    table: &[u8],
+    codes: &[u8],
+    values: &[u8],
+    out_codes: &mut [u8],
+    work: &mut [u64],
+    out_values: &mut [u8],
+    records: &mut [u8],
+) -> BuildReply
+    requires { ⌜ length (now work) ≡ min (length (now «out_values») / 8) 65536 ⌝ }
+    ensures { λ r. ⌜ BuildsBytes (λ (room : Room). wholeWords (now (values .entry)) (built 8 (now (table .entry)) (now (codes .entry)) (wordsIn (now (values .entry))) room)) r (arena (now («out_codes» .entry)) (now («out_values» .entry)) (now (records .entry))) (arena (now («out_codes» .exit)) (now («out_values» .exit)) (now (records .exit))) ⌝ }
+{
+    if !crossing::few_words(values) {
+        clear(out_codes, out_values, records);
+        return BuildReply {
+            number: 3,
+            place: 0,
+            batches: 0,
+            operations: 0,
+        };
+    }
+    let n = values.len() / 8;
+    let numbers = crossing::words(values);
+    let r = oli_build(table, codes, &numbers[..n], out_codes, work, records);
+    crossing::bytes_out(work, out_values);
+    r
+}
+
+#[no_mangle]
+pub extern "C" fn oli_build_le(
+    table: &[u8],
+    codes: &[u8],
+    values: &[u8],
+    out_codes: &mut [u8],
+    out_values: &mut [u8],
+    records: &mut [u8],
+) -> BuildReply
+    ensures { λ r. ⌜ BuildsBytes (λ (room : Room). wholeWords (now (values .entry)) (built 8 (now (table .entry)) (now (codes .entry)) (wordsIn (now (values .entry))) room)) r (arena (now («out_codes» .entry)) (now («out_values» .entry)) (now (records .entry))) (arena (now («out_codes» .exit)) (now («out_values» .exit)) (now (records .exit))) ⌝ }
+{
+    let n = crossing::lent(out_values.len());
+    let mut work = crossing::room();
+    build_through(
+        table,
+        codes,
+        values,
+        out_codes,
+        &mut work[..n],
+        out_values,
+        records,
+    )
 }
