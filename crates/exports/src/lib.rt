@@ -414,7 +414,71 @@ pub extern "C" fn oli_next_group(run: &[u8], group: usize) -> NextReply
     flat_next(r)
 }
 
-// ---- the same, with runs of 64-bit numbers as little-endian bytes
+// ---- the same functions with runs of 64-bit numbers as little-endian bytes, eight to a number
+//
+// An input that is not whole numbers is refused with 3, and a lookup in one finds nothing. Of an output only whole numbers are room; the bytes left
+// over are zeroed too. Numbers go through work space on the stack.
+
+fn clear(out_codes: &mut [u8], out_values: &mut [u8], records: &mut [u8])
+    ensures { λ _. ⌜ arena (now («out_codes» .exit)) (now («out_values» .exit)) (now (records .exit)) ≡ filledBytes (arena (now («out_codes» .entry)) (now («out_values» .entry)) (now (records .entry))) noBlock ⌝ }
+{
+    word::zero_bytes(out_codes, 0);
+    word::zero_bytes(out_values, 0);
+    word::zero_bytes(records, 0);
+}
+
+// The values that build fills in go through `work`, as long as what the lent bytes have room for.
+fn build_through(
+    table: &[u8],
+    codes: &[u8],
+    values: &[u8],
+    out_codes: &mut [u8],
+    work: &mut [u64],
+    out_values: &mut [u8],
+    records: &mut [u8],
+) -> BuildReply
+    requires { ⌜ length (now work) ≡ min (length (now «out_values») / 8) 65536 ⌝ }
+    ensures { λ r. ⌜ BuildsBytes (λ (room : Room). wholeWords (now (values .entry)) (built 8 (now (table .entry)) (now (codes .entry)) (wordsIn (now (values .entry))) room)) r (arena (now («out_codes» .entry)) (now («out_values» .entry)) (now (records .entry))) (arena (now («out_codes» .exit)) (now («out_values» .exit)) (now (records .exit))) ⌝ }
+{
+    if !crossing::few_words(values) {
+        clear(out_codes, out_values, records);
+        return BuildReply {
+            number: 3,
+            place: 0,
+            batches: 0,
+            operations: 0,
+        };
+    }
+    let n = values.len() / 8;
+    let numbers = crossing::words(values);
+    let r = oli_build(table, codes, &numbers[..n], out_codes, work, records);
+    crossing::bytes_out(work, out_values);
+    r
+}
+
+#[no_mangle]
+pub extern "C" fn oli_build_le(
+    table: &[u8],
+    codes: &[u8],
+    values: &[u8],
+    out_codes: &mut [u8],
+    out_values: &mut [u8],
+    records: &mut [u8],
+) -> BuildReply
+    ensures { λ r. ⌜ BuildsBytes (λ (room : Room). wholeWords (now (values .entry)) (built 8 (now (table .entry)) (now (codes .entry)) (wordsIn (now (values .entry))) room)) r (arena (now («out_codes» .entry)) (now («out_values» .entry)) (now (records .entry))) (arena (now («out_codes» .exit)) (now («out_values» .exit)) (now (records .exit))) ⌝ }
+{
+    let n = crossing::lent(out_values.len());
+    let mut work = crossing::room();
+    build_through(
+        table,
+        codes,
+        values,
+        out_codes,
+        &mut work[..n],
+        out_values,
+        records,
+    )
+}
 
 #[no_mangle]
 pub extern "C" fn oli_encode_le(
@@ -479,30 +543,6 @@ pub extern "C" fn oli_decode_le(
         out_values,
         records,
     )
-}
-
-#[no_mangle]
-pub extern "C" fn oli_padded_index_le(table: &[u8], raw: usize) -> IndexReply
-    ensures { λ r. ⌜ r ≡ indexReply (inWhole (now (table .entry)) (paddedIndex (wordsIn (now (table .entry))) raw)) ⌝ }
-{
-    if !crossing::has_word(table, raw) {
-        return IndexReply { found: 0, index: 0 };
-    }
-    let entry = word::le8(table, 8 * raw);
-    let r = prefix::padded_by(entry, RawIndex(raw));
-    flat_padded(r)
-}
-
-#[no_mangle]
-pub extern "C" fn oli_raw_index_le(table: &[u8], padded: usize) -> IndexReply
-    ensures { λ r. ⌜ r ≡ indexReply (inWhole (now (table .entry)) (rawIndex (wordsIn (now (table .entry))) padded)) ⌝ }
-{
-    if !crossing::has_word(table, padded) {
-        return IndexReply { found: 0, index: 0 };
-    }
-    let entry = word::le8(table, 8 * padded);
-    let r = prefix::raw_by(entry, PaddedIndex(padded));
-    flat_raw(r)
 }
 
 #[no_mangle]
@@ -610,63 +650,26 @@ pub extern "C" fn oli_padded_table_le(
     table_through(codes, values, records, true, &mut work[..n], out)
 }
 
-fn clear(out_codes: &mut [u8], out_values: &mut [u8], records: &mut [u8])
-    ensures { λ _. ⌜ arena (now («out_codes» .exit)) (now («out_values» .exit)) (now (records .exit)) ≡ filledBytes (arena (now («out_codes» .entry)) (now («out_values» .entry)) (now (records .entry))) noBlock ⌝ }
+#[no_mangle]
+pub extern "C" fn oli_padded_index_le(table: &[u8], raw: usize) -> IndexReply
+    ensures { λ r. ⌜ r ≡ indexReply (inWhole (now (table .entry)) (paddedIndex (wordsIn (now (table .entry))) raw)) ⌝ }
 {
-    word::zero_bytes(out_codes, 0);
-    word::zero_bytes(out_values, 0);
-    word::zero_bytes(records, 0);
-}
-
-// The values that build fills in go through `work`, as long as what the lent bytes have room for.
-fn build_through(
-    table: &[u8],
-    codes: &[u8],
-    values: &[u8],
-    out_codes: &mut [u8],
-    work: &mut [u64],
-    out_values: &mut [u8],
-    records: &mut [u8],
-) -> BuildReply
-    requires { ⌜ length (now work) ≡ min (length (now «out_values») / 8) 65536 ⌝ }
-    ensures { λ r. ⌜ BuildsBytes (λ (room : Room). wholeWords (now (values .entry)) (built 8 (now (table .entry)) (now (codes .entry)) (wordsIn (now (values .entry))) room)) r (arena (now («out_codes» .entry)) (now («out_values» .entry)) (now (records .entry))) (arena (now («out_codes» .exit)) (now («out_values» .exit)) (now (records .exit))) ⌝ }
-{
-    if !crossing::few_words(values) {
-        clear(out_codes, out_values, records);
-        return BuildReply {
-            number: 3,
-            place: 0,
-            batches: 0,
-            operations: 0,
-        };
+    if !crossing::has_word(table, raw) {
+        return IndexReply { found: 0, index: 0 };
     }
-    let n = values.len() / 8;
-    let numbers = crossing::words(values);
-    let r = oli_build(table, codes, &numbers[..n], out_codes, work, records);
-    crossing::bytes_out(work, out_values);
-    r
+    let entry = word::le8(table, 8 * raw);
+    let r = prefix::padded_by(entry, RawIndex(raw));
+    flat_padded(r)
 }
 
 #[no_mangle]
-pub extern "C" fn oli_build_le(
-    table: &[u8],
-    codes: &[u8],
-    values: &[u8],
-    out_codes: &mut [u8],
-    out_values: &mut [u8],
-    records: &mut [u8],
-) -> BuildReply
-    ensures { λ r. ⌜ BuildsBytes (λ (room : Room). wholeWords (now (values .entry)) (built 8 (now (table .entry)) (now (codes .entry)) (wordsIn (now (values .entry))) room)) r (arena (now («out_codes» .entry)) (now («out_values» .entry)) (now (records .entry))) (arena (now («out_codes» .exit)) (now («out_values» .exit)) (now (records .exit))) ⌝ }
+pub extern "C" fn oli_raw_index_le(table: &[u8], padded: usize) -> IndexReply
+    ensures { λ r. ⌜ r ≡ indexReply (inWhole (now (table .entry)) (rawIndex (wordsIn (now (table .entry))) padded)) ⌝ }
 {
-    let n = crossing::lent(out_values.len());
-    let mut work = crossing::room();
-    build_through(
-        table,
-        codes,
-        values,
-        out_codes,
-        &mut work[..n],
-        out_values,
-        records,
-    )
+    if !crossing::has_word(table, padded) {
+        return IndexReply { found: 0, index: 0 };
+    }
+    let entry = word::le8(table, 8 * padded);
+    let r = prefix::raw_by(entry, PaddedIndex(padded));
+    flat_raw(r)
 }
