@@ -38,18 +38,16 @@ pub fn has_word(s: &[u8], i: usize) -> bool
 // ---- in
 
 // The numbers of a run, at the front of the work space.
-pub fn words(s: &[u8]) -> [u64; 65536]
-    requires { ⌜ length (now s) / 8 ≤ 65536 ⌝ }
-    ensures { λ r. ⌜ (65536 ≡ length r) × (take (length (now (s .entry)) / 8) r ≡ wordsIn (now (s .entry))) ⌝ }
+pub fn read_words(s: &[u8], work: &mut [u64])
+    requires { ⌜ length (now s) / 8 ≤ length (now work) ⌝ }
+    ensures { λ _. ⌜ take (length (now (s .entry)) / 8) (now (work .exit)) ≡ wordsIn (now (s .entry)) ⌝ }
 {
-    let mut out = room();
     let n = s.len() / 8;
     let mut i: usize = 0;
     while i < n {
-        out[i] = word::le8(s, 8 * i);
+        work[i] = word::le8(s, 8 * i);
         i += 1;
     }
-    out
 }
 
 // ---- out

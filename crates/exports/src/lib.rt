@@ -450,7 +450,8 @@ fn build_through(
         };
     }
     let n = values.len() / 8;
-    let numbers = crossing::words(values);
+    let mut numbers = crossing::room();
+    crossing::read_words(values, &mut numbers);
     let r = oli_build(table, codes, &numbers[..n], out_codes, work, records);
     crossing::bytes_out(work, out_values);
     r
@@ -499,7 +500,8 @@ pub extern "C" fn oli_encode_le(
         };
     }
     let n = values.len() / 8;
-    let work = crossing::words(values);
+    let mut work = crossing::room();
+    crossing::read_words(values, &mut work);
     oli_encode(table, codes, &work[..n], records, out, at)
 }
 
@@ -556,7 +558,8 @@ pub extern "C" fn oli_structure_le(codes: &[u8], values: &[u8], records: &[u8]) 
         };
     }
     let n = values.len() / 8;
-    let work = crossing::words(values);
+    let mut work = crossing::room();
+    crossing::read_words(values, &mut work);
     oli_structure(codes, &work[..n], records)
 }
 
@@ -571,7 +574,8 @@ pub extern "C" fn oli_padding_le(codes: &[u8], values: &[u8], records: &[u8]) ->
         };
     }
     let n = values.len() / 8;
-    let work = crossing::words(values);
+    let mut work = crossing::room();
+    crossing::read_words(values, &mut work);
     oli_padding(codes, &work[..n], records)
 }
 
@@ -591,7 +595,8 @@ pub extern "C" fn oli_commitment_le(
         };
     }
     let n = values.len() / 8;
-    let work = crossing::words(values);
+    let mut work = crossing::room();
+    crossing::read_words(values, &mut work);
     oli_commitment(table, codes, &work[..n], records)
 }
 
@@ -616,7 +621,8 @@ fn table_through(
         };
     }
     let n = values.len() / 8;
-    let numbers = crossing::words(values);
+    let mut numbers = crossing::room();
+    crossing::read_words(values, &mut numbers);
     let r = prefix::table(codes, &numbers[..n], records, padded, work);
     crossing::bytes_out(work, out);
     flat_tabled(r)

@@ -1,9 +1,11 @@
 use Rattle.exports.proofs.Builds.{built-broken, builds-out}
-use Rattle.exports.proofs.Whole.{few, front}
+use Rattle.exports.proofs.Whole.{few}
 use Rattle.exports.specs.Replies.{buildReply, roomBytes, filledBytes}
 use Rattle.rules.specs.Functions.{arena, blockLeft}
 use Rattle.rules.specs.Record.{Block}
 use Rattle.rules.specs.Answer.{Answer}
+use Rattle.crossing.proofs.Copies.{length-in}
+use lib.ListN.{length}
 use borrow.Author.Tests.{not-true, not-false}
 use native.Mathlib.Omega.{arith}
 use mathlib.Core.Path.{_≡_, refl, sym, ap, _∙_}
@@ -14,82 +16,90 @@ use Rattle.exports.proofs.build_through.Reads as reads
 use Rattle.exports.proofs.build_through.Lts as lts
 use Rattle.crossing.proofs.bytes_out.Reads as bytes-out-reads
 use Rattle.crossing.proofs.few_words.Reads as few-words-reads
-use Rattle.crossing.proofs.words.Reads as words-reads
+use Rattle.crossing.proofs.read_words.Reads as read-words-reads
+use Rattle.crossing.proofs.room.Reads as room-reads
 use Rattle.exports.proofs.clear.Reads as clear-reads
 use Rattle.exports.proofs.oli_build.Reads as oli-build-reads
 
--- src/lib.rt:634:9
+-- src/lib.rt:443:9
 few-words-requires : tie.Need-few-words-requires
 few-words-requires c κs = search needs
 
--- src/lib.rt:635:9
+-- src/lib.rt:444:9
 clear-requires : tie.Need-clear-requires
 clear-requires c κs = search needs
 
--- src/lib.rt:636:9
+-- src/lib.rt:445:9
 same-length : tie.Need-same-length
 same-length c = search needs
 
--- src/lib.rt:636:9
+-- src/lib.rt:445:9
 same-length-2 : tie.Need-same-length-2
 same-length-2 c = search needs
 
--- src/lib.rt:636:9
+-- src/lib.rt:445:9
 same-length-3 : tie.Need-same-length-3
 same-length-3 c = search needs
 
--- src/lib.rt:636:9
+-- src/lib.rt:445:9
 returns : tie.Need-returns
 returns c =
     let a = c .before .before .before .before .before .before .before .before .before .before .before .before .before .before .before .before .before .before .before .args in
-    let e = sym (c .before .before .before .before .before .before .before .before .before .before .before .few-words .ensures) ∙ not-true (c .before .before .before .before .before .before .before .before .before .before .before .few-words .result) (c .before .before .before .before .before .before .before .before .before .before .if1 .taken) in
     let s = arena (a .out-codes .now) (a .out-values .now) (a .records .now) in
-    let d = sym (built-broken (a .values .now) (a .table .now) (a .codes .now) (roomBytes s) e) in
+    let d = sym (built-broken (a .values .now) (a .table .now) (a .codes .now) (roomBytes s) (sym (c .before .before .before .before .before .before .before .before .before .before .before .few-words .ensures) ∙ not-true (c .before .before .before .before .before .before .before .before .before .before .before .few-words .result) (c .before .before .before .before .before .before .before .before .before .before .if1 .taken))) in
     record { reply = ap buildReply d; runs = c .before .before .before .before .before .before .clear .ensures ∙ ap (λ (x : Answer Block). filledBytes s (blockLeft x)) d }
 
--- src/lib.rt:644:19
-words-requires : tie.Need-words-requires
-words-requires c κs = few _ (sym (c .before .few-words .ensures) ∙ not-false (c .before .few-words .result) (c .if1 .left))
+-- src/lib.rt:453:23
+room-requires : tie.Need-room-requires
+room-requires c κs = search needs
 
--- src/lib.rt:645:37
+-- src/lib.rt:454:34
+slice-aggregate-read-words : tie.Need-slice-aggregate-read-words
+slice-aggregate-read-words c = search needs
+
+-- src/lib.rt:454:5
+read-words-requires : tie.Need-read-words-requires
+read-words-requires c κs = omega (arith, c .before .room .ensures, few (c .before .before .before .before .before .before .before .before .before .before .before .args .values .now) (sym (c .before .before .before .few-words .ensures) ∙ not-false (c .before .before .before .few-words .result) (c .before .before .if1 .left)))
+
+-- src/lib.rt:455:37
 array-share-prefix-numbers : tie.Need-array-share-prefix-numbers
-array-share-prefix-numbers c = omega (arith, c .words .ensures .0, few _ (sym (c .before .before .few-words .ensures) ∙ not-false (c .before .before .few-words .result) (c .before .if1 .left)))
+array-share-prefix-numbers c = omega (arith, c .before .read-words .kept, c .before .before .before .room .ensures, few (c .before .before .before .before .before .before .before .before .before .before .before .before .before .args .values .now) (sym (c .before .before .before .before .before .few-words .ensures) ∙ not-false (c .before .before .before .before .before .few-words .result) (c .before .before .before .before .if1 .left)))
 
--- src/lib.rt:645:37
+-- src/lib.rt:455:37
 slice-aggregate-oli-build : tie.Need-slice-aggregate-oli-build
-slice-aggregate-oli-build c = front _ _ (c .before .words .ensures .0) (few _ (sym (c .before .before .before .few-words .ensures) ∙ not-false (c .before .before .before .few-words .result) (c .before .before .if1 .left)))
+slice-aggregate-oli-build c = sym (ap length (c .before .before .read-words .ensures) ∙ length-in (c .before .before .before .before .before .before .before .before .before .before .before .before .before .before .args .values .now))
 
--- src/lib.rt:645:9
+-- src/lib.rt:455:9
 oli-build-requires : tie.Need-oli-build-requires
 oli-build-requires c κs = search needs
 
--- src/lib.rt:646:5
+-- src/lib.rt:456:5
 bytes-out-requires : tie.Need-bytes-out-requires
 bytes-out-requires c κs = search needs
 
--- src/lib.rt:622:1
+-- src/lib.rt:431:1
 same-length-4 : tie.Need-same-length-4
 same-length-4 c = search needs
 
--- src/lib.rt:622:1
+-- src/lib.rt:431:1
 same-length-5 : tie.Need-same-length-5
 same-length-5 c = search needs
 
--- src/lib.rt:622:1
+-- src/lib.rt:431:1
 same-length-6 : tie.Need-same-length-6
 same-length-6 c = search needs
 
--- src/lib.rt:622:1
+-- src/lib.rt:431:1
 same-length-7 : tie.Need-same-length-7
 same-length-7 c = search needs
 
--- src/lib.rt:622:1
+-- src/lib.rt:431:1
 returns-2 : tie.Need-returns-2
 returns-2 c =
-    let a = c .before .before .before .before .before .before .before .before .before .before .before .before .before .before .before .before .before .before .before .before .before .before .before .before .before .before .args in
-    let e = sym (c .before .before .before .before .before .before .before .before .before .before .before .before .before .before .before .before .before .before .few-words .ensures) ∙ not-false (c .before .before .before .before .before .before .before .before .before .before .before .before .before .before .before .before .before .before .few-words .result) (c .before .before .before .before .before .before .before .before .before .before .before .before .before .before .before .before .before .if1 .left) in
-    builds-out (a .values .now) (a .table .now) (a .codes .now) e (a .out-codes .now) (a .work .now) (a .records .now) (a .out-values .now) (c .before .before .before .before .before .before .before .before .before .before .before .before .before .before .before .before .before .before .before .before .before .before .before .before .before .before .pre)
-    _ _ _ _ _ (rw (c .before .before .before .before .before .before .before .before .before .before .before .before .before .before .before .before .words .ensures .1) at (c .before .before .before .before .before .before .before .before .before .before .before .oli-build .ensures)) (c .before .before .bytes-out .ensures)
+    let a = c .before .before .before .before .before .before .before .before .before .before .before .before .before .before .before .before .before .before .before .before .before .before .before .before .before .before .before .before .before .args in
+    builds-out (a .values .now) (a .table .now) (a .codes .now) (sym (c .before .before .before .before .before .before .before .before .before .before .before .before .before .before .before .before .before .before .before .before .before .few-words .ensures) ∙ not-false (c .before .before .before .before .before .before .before .before .before .before .before .before .before .before .before .before .before .before .before .before .before .few-words .result) (c .before .before .before .before .before .before .before .before .before .before .before .before .before .before .before .before .before .before .before .before .if1 .left))
+    (a .out-codes .now) (a .work .now) (a .records .now) (a .out-values .now) (c .before .before .before .before .before .before .before .before .before .before .before .before .before .before .before .before .before .before .before .before .before .before .before .before .before .before .before .before .before .pre)
+    _ _ _ _ _ (rw (c .before .before .before .before .before .before .before .before .before .before .before .before .before .before .before .before .before .read-words .ensures) at (c .before .before .before .before .before .before .before .before .before .before .before .oli-build .ensures)) (c .before .before .bytes-out .ensures)
 
 pub build-through-spec : {M : Type 1} → statement M
 build-through-spec =
@@ -101,7 +111,9 @@ build-through-spec =
     same-length-2
     same-length-3
     returns
-    words-requires
+    room-requires
+    slice-aggregate-read-words
+    read-words-requires
     array-share-prefix-numbers
     slice-aggregate-oli-build
     oli-build-requires

@@ -1,51 +1,56 @@
-use Rattle.exports.proofs.Whole.{few, whole, front, checked-broken}
-use Rattle.exports.specs.Replies.{checkReply}
+use Rattle.exports.proofs.Whole.{few, whole, checked-broken}
 use Rattle.rules.specs.Functions.{paddingChecked}
+use Rattle.crossing.proofs.Copies.{length-in}
+use lib.ListN.{length}
 use borrow.Author.Tests.{not-true, not-false}
 use native.Mathlib.Omega.{arith}
-use mathlib.Core.Path.{_≡_, sym, ap, _∙_}
+use mathlib.Core.Path.{_≡_, refl, sym, ap, _∙_}
 use borrow.Author.Needs.{needs}
 use Rattle.exports.proofs.oli_padding_le.Statement.{statement}
 use Rattle.exports.proofs.oli_padding_le.Tie as tie
 use Rattle.exports.proofs.oli_padding_le.Reads as reads
 use Rattle.exports.proofs.oli_padding_le.Lts as lts
 use Rattle.crossing.proofs.few_words.Reads as few-words-reads
-use Rattle.crossing.proofs.words.Reads as words-reads
+use Rattle.crossing.proofs.read_words.Reads as read-words-reads
+use Rattle.crossing.proofs.room.Reads as room-reads
 use Rattle.exports.proofs.oli_padding.Reads as oli-padding-reads
 
--- src/lib.rt:533:9
+-- src/lib.rt:570:9
 few-words-requires : tie.Need-few-words-requires
 few-words-requires c κs = search needs
 
--- src/lib.rt:534:9
+-- src/lib.rt:571:9
 returns : tie.Need-returns
 unfolding paddingChecked
-returns c =
-    let a = c .before .before .before .before .before .args in
-    let e = sym (c .before .few-words .ensures) ∙ not-true (c .before .few-words .result) (c .if1 .taken) in
-    rw (checked-broken (a .values .now) (a .codes .now) (a .records .now) e)
+returns c = let a = c .before .before .before .before .before .args in rw (checked-broken (a .values .now) (a .codes .now) (a .records .now) (sym (c .before .few-words .ensures) ∙ not-true (c .before .few-words .result) (c .if1 .taken)))
 
--- src/lib.rt:540:16
-words-requires : tie.Need-words-requires
-words-requires c κs = few _ (sym (c .before .few-words .ensures) ∙ not-false (c .before .few-words .result) (c .if1 .left))
+-- src/lib.rt:577:20
+room-requires : tie.Need-room-requires
+room-requires c κs = search needs
 
--- src/lib.rt:541:24
+-- src/lib.rt:578:34
+slice-aggregate-read-words : tie.Need-slice-aggregate-read-words
+slice-aggregate-read-words c = search needs
+
+-- src/lib.rt:578:5
+read-words-requires : tie.Need-read-words-requires
+read-words-requires c κs = omega (arith, c .before .room .ensures, few (c .before .before .before .before .before .before .before .args .values .now) (sym (c .before .before .before .few-words .ensures) ∙ not-false (c .before .before .before .few-words .result) (c .before .before .if1 .left)))
+
+-- src/lib.rt:579:24
 array-share-prefix-work : tie.Need-array-share-prefix-work
-array-share-prefix-work c = omega (arith, c .words .ensures .0, few _ (sym (c .before .before .few-words .ensures) ∙ not-false (c .before .before .few-words .result) (c .before .if1 .left)))
+array-share-prefix-work c = omega (arith, c .before .read-words .kept, c .before .before .before .room .ensures, few (c .before .before .before .before .before .before .before .before .before .args .values .now) (sym (c .before .before .before .before .before .few-words .ensures) ∙ not-false (c .before .before .before .before .before .few-words .result) (c .before .before .before .before .if1 .left)))
 
--- src/lib.rt:541:24
+-- src/lib.rt:579:24
 slice-aggregate-oli-padding : tie.Need-slice-aggregate-oli-padding
-slice-aggregate-oli-padding c = front _ _ (c .before .words .ensures .0) (few _ (sym (c .before .before .before .few-words .ensures) ∙ not-false (c .before .before .before .few-words .result) (c .before .before .if1 .left)))
+slice-aggregate-oli-padding c = sym (ap length (c .before .before .read-words .ensures) ∙ length-in (c .before .before .before .before .before .before .before .before .before .before .args .values .now))
 
--- src/lib.rt:541:5
+-- src/lib.rt:579:5
 oli-padding-requires : tie.Need-oli-padding-requires
 oli-padding-requires c κs = search needs
 
--- src/lib.rt:525:1
+-- src/lib.rt:566:1
 returns-2 : tie.Need-returns-2
-returns-2 c =
-    let e = sym (c .before .before .before .before .few-words .ensures) ∙ not-false (c .before .before .before .before .few-words .result) (c .before .before .before .if1 .left) in
-    rw (whole (c .before .before .before .before .before .before .before .before .args .values .now) _ e) (rw (c .before .before .words .ensures .1) at (c .oli-padding .ensures))
+returns-2 c = rw (whole (c .before .before .before .before .before .before .before .before .before .before .before .args .values .now) _ (sym (c .before .before .before .before .before .before .before .few-words .ensures) ∙ not-false (c .before .before .before .before .before .before .before .few-words .result) (c .before .before .before .before .before .before .if1 .left))) (rw (c .before .before .before .read-words .ensures) at (c .oli-padding .ensures))
 
 pub oli-padding-le-spec : {M : Type 1} → statement M
 oli-padding-le-spec =
@@ -53,7 +58,9 @@ oli-padding-le-spec =
     (tie.spec
     few-words-requires
     returns
-    words-requires
+    room-requires
+    slice-aggregate-read-words
+    read-words-requires
     array-share-prefix-work
     slice-aggregate-oli-padding
     oli-padding-requires

@@ -1,11 +1,12 @@
 use Rattle.exports.proofs.Tables.{tables-out}
-use Rattle.exports.proofs.Whole.{few, whole, front, checked-broken}
+use Rattle.exports.proofs.Whole.{few, whole, checked-broken}
 use Rattle.exports.proofs.Cross.{cross-tabled}
 use Rattle.exports.specs.Flat.{flatTabled}
 use Rattle.crossing.specs.Words.{wordsIn}
 use Rattle.prefix.specs.Tables.{tableBy}
 use Rattle.rules.specs.Record.{wordBytes}
 use Rattle.rules.specs.Functions.{arena, tableOf}
+use Rattle.crossing.proofs.Copies.{length-in}
 use lib.ListN.{length}
 use borrow.Author.Tests.{not-true, not-false}
 use native.Mathlib.Omega.{arith}
@@ -17,72 +18,79 @@ use Rattle.exports.proofs.table_through.Reads as reads
 use Rattle.exports.proofs.table_through.Lts as lts
 use Rattle.crossing.proofs.bytes_out.Reads as bytes-out-reads
 use Rattle.crossing.proofs.few_words.Reads as few-words-reads
-use Rattle.crossing.proofs.words.Reads as words-reads
+use Rattle.crossing.proofs.read_words.Reads as read-words-reads
+use Rattle.crossing.proofs.room.Reads as room-reads
 use Rattle.exports.proofs.flat_tabled.Reads as flat-tabled-reads
 use Rattle.prefix.proofs.table.Reads as table-reads
 use Rattle.word.proofs.zero_bytes.Reads as zero-bytes-reads
 
--- src/lib.rt:569:9
+-- src/lib.rt:615:9
 few-words-requires : tie.Need-few-words-requires
 few-words-requires c κs = search needs
 
--- src/lib.rt:570:9
+-- src/lib.rt:616:9
 zero-bytes-requires : tie.Need-zero-bytes-requires
 zero-bytes-requires c κs = search needs
 
--- src/lib.rt:571:9
+-- src/lib.rt:617:9
 same-length : tie.Need-same-length
 same-length c = search needs
 
--- src/lib.rt:571:9
+-- src/lib.rt:617:9
 returns : tie.Need-returns
 unfolding tableOf wordBytes
 returns c =
     let a = c .before .before .before .before .before .before .before .before .before .before .before .args in
-    let e = sym (c .before .before .before .before .before .few-words .ensures) ∙ not-true (c .before .before .before .before .before .few-words .result) (c .before .before .before .before .if1 .taken) in
-    rw (checked-broken (a .values .now) (a .codes .now) (a .records .now) e) (record { reply = refl; left = c .before .before .zero-bytes .ensures })
+    rw (checked-broken (a .values .now) (a .codes .now) (a .records .now) (sym (c .before .before .before .before .before .few-words .ensures) ∙ not-true (c .before .before .before .before .before .few-words .result) (c .before .before .before .before .if1 .taken))) (record { reply = refl; left = c .before .before .zero-bytes .ensures })
 
--- src/lib.rt:578:19
-words-requires : tie.Need-words-requires
-words-requires c κs = few _ (sym (c .before .few-words .ensures) ∙ not-false (c .before .few-words .result) (c .if1 .left))
+-- src/lib.rt:624:23
+room-requires : tie.Need-room-requires
+room-requires c κs = search needs
 
--- src/lib.rt:579:34
+-- src/lib.rt:625:34
+slice-aggregate-read-words : tie.Need-slice-aggregate-read-words
+slice-aggregate-read-words c = search needs
+
+-- src/lib.rt:625:5
+read-words-requires : tie.Need-read-words-requires
+read-words-requires c κs = omega (arith, c .before .room .ensures, few (c .before .before .before .before .before .before .before .before .before .args .values .now) (sym (c .before .before .before .few-words .ensures) ∙ not-false (c .before .before .before .few-words .result) (c .before .before .if1 .left)))
+
+-- src/lib.rt:626:34
 array-share-prefix-numbers : tie.Need-array-share-prefix-numbers
-array-share-prefix-numbers c = omega (arith, c .words .ensures .0, few _ (sym (c .before .before .few-words .ensures) ∙ not-false (c .before .before .few-words .result) (c .before .if1 .left)))
+array-share-prefix-numbers c = omega (arith, c .before .read-words .kept, c .before .before .before .room .ensures, few (c .before .before .before .before .before .before .before .before .before .before .before .args .values .now) (sym (c .before .before .before .before .before .few-words .ensures) ∙ not-false (c .before .before .before .before .before .few-words .result) (c .before .before .before .before .if1 .left)))
 
--- src/lib.rt:579:34
+-- src/lib.rt:626:34
 slice-aggregate-table : tie.Need-slice-aggregate-table
-slice-aggregate-table c = front _ _ (c .before .words .ensures .0) (few _ (sym (c .before .before .before .few-words .ensures) ∙ not-false (c .before .before .before .few-words .result) (c .before .before .if1 .left)))
+slice-aggregate-table c = sym (ap length (c .before .before .read-words .ensures) ∙ length-in (c .before .before .before .before .before .before .before .before .before .before .before .before .args .values .now))
 
--- src/lib.rt:579:9
+-- src/lib.rt:626:9
 table-requires : tie.Need-table-requires
 table-requires c κs = search needs
 
--- src/lib.rt:580:5
+-- src/lib.rt:627:5
 bytes-out-requires : tie.Need-bytes-out-requires
 bytes-out-requires c κs = search needs
 
--- src/lib.rt:581:5
+-- src/lib.rt:628:5
 flat-tabled-requires : tie.Need-flat-tabled-requires
 flat-tabled-requires c κs = search needs
 
--- src/lib.rt:558:1
+-- src/lib.rt:604:1
 same-length-2 : tie.Need-same-length-2
 same-length-2 c = search needs
 
--- src/lib.rt:558:1
+-- src/lib.rt:604:1
 same-length-3 : tie.Need-same-length-3
 same-length-3 c = search needs
 
--- src/lib.rt:558:1
+-- src/lib.rt:604:1
 returns-2 : tie.Need-returns-2
 returns-2 c =
-    let a = c .before .before .before .before .before .before .before .before .before .before .before .before .before .before .before .before .before .before .before .args in
-    let e = sym (c .before .before .before .before .before .before .before .before .before .before .before .before .before .few-words .ensures) ∙ not-false (c .before .before .before .before .before .before .before .before .before .before .before .before .before .few-words .result) (c .before .before .before .before .before .before .before .before .before .before .before .before .if1 .left) in
+    let a = c .before .before .before .before .before .before .before .before .before .before .before .before .before .before .before .before .before .before .before .before .before .before .args in
     let s = arena (a .codes .now) (wordsIn (a .values .now)) (a .records .now) in
-    let d = rw (c .before .before .before .before .before .before .before .before .before .before .before .words .ensures .1) at (c .before .before .before .before .before .before .before .before .table .ensures) in
-    rw (whole (a .values .now) _ e)
-    (tables-out (a .padded) s (a .work .now) (a .out .now) (c .before .before .before .before .before .before .before .before .before .before .before .before .before .before .before .before .before .before .before .pre) _ _ _
+    let d = rw (c .before .before .before .before .before .before .before .before .before .before .before .before .read-words .ensures) at (c .before .before .before .before .before .before .before .before .table .ensures) in
+    rw (whole (a .values .now) _ (sym (c .before .before .before .before .before .before .before .before .before .before .before .before .before .before .before .before .few-words .ensures) ∙ not-false (c .before .before .before .before .before .before .before .before .before .before .before .before .before .before .before .before .few-words .result) (c .before .before .before .before .before .before .before .before .before .before .before .before .before .before .before .if1 .left)))
+    (tables-out (a .padded) s (a .work .now) (a .out .now) (c .before .before .before .before .before .before .before .before .before .before .before .before .before .before .before .before .before .before .before .before .before .before .pre) _ _ _
     (c .flat-tabled .ensures ∙ ap flatTabled (d .reply) ∙ cross-tabled (tableOf (tableBy (a .padded)) 8 s (length (a .work .now))))
     (d .left)
     (c .before .before .before .bytes-out .ensures))
@@ -95,7 +103,9 @@ table-through-spec =
     zero-bytes-requires
     same-length
     returns
-    words-requires
+    room-requires
+    slice-aggregate-read-words
+    read-words-requires
     array-share-prefix-numbers
     slice-aggregate-table
     table-requires
