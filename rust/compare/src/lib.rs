@@ -1,5 +1,7 @@
 //! The comparison: calls, who answers them, and what is counted.
 
+#[cfg(feature = "port")]
+pub mod bytes;
 pub mod inputs;
 pub mod known;
 #[cfg(feature = "port")]

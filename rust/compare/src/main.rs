@@ -91,24 +91,27 @@ fn all(run: &mut Run, seed: u64, count: u64, start: Instant) -> Result<(), Stopp
 fn report(tally: &Tally, name: &str) {
     println!("\nCOMPARISONS");
     println!(
-        "{:<14}{:>14}{:>16}",
+        "{:<14}{:>14}{:>14}{:>16}",
         "function",
         "port, model",
+        "bytes, model",
         &format!("{name}, original")
     );
     for function in Function::ALL {
         let at = function as usize;
         println!(
-            "{:<14}{:>14}{:>16}",
+            "{:<14}{:>14}{:>14}{:>16}",
             function.name(),
             tally.model[at],
+            tally.bytes[at],
             tally.original[at]
         );
     }
     println!(
-        "{:<14}{:>14}{:>16}",
+        "{:<14}{:>14}{:>14}{:>16}",
         "all",
         tally.model.iter().sum::<u64>(),
+        tally.bytes.iter().sum::<u64>(),
         tally.original.iter().sum::<u64>()
     );
 

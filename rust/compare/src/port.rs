@@ -12,7 +12,7 @@ fn dirty(room: Room) -> Answer {
     }
 }
 
-fn found(found: u8, first: usize, second: usize) -> Answer {
+pub(crate) fn found(found: u8, first: usize, second: usize) -> Answer {
     Answer {
         rest: [usize::from(found), first, second],
         ..Answer::default()
@@ -135,7 +135,7 @@ pub fn answer(call: Call<'_>) -> Answer {
     }
 }
 
-fn check(reply: boundary::CheckReply) -> Answer {
+pub(crate) fn check(reply: boundary::CheckReply) -> Answer {
     Answer {
         number: reply.number,
         place: reply.place,
@@ -143,7 +143,7 @@ fn check(reply: boundary::CheckReply) -> Answer {
     }
 }
 
-fn table(reply: boundary::TableReply, entries: Vec<u64>) -> Answer {
+pub(crate) fn table(reply: boundary::TableReply, entries: Vec<u64>) -> Answer {
     Answer {
         number: reply.number,
         place: reply.place,

@@ -22,6 +22,8 @@ pub struct Stopped(pub String);
 pub struct Tally {
     /// The port against the model, by function.
     pub model: [u64; 12],
+    /// The port's functions over bytes against the model, by function.
+    pub bytes: [u64; 12],
     /// The port (or the model in its place) against the original, by function.
     pub original: [u64; 12],
     /// The numbers of all answers that were compared, by function; 0 is no refusal.
@@ -36,7 +38,10 @@ pub struct Tally {
 
 impl Tally {
     pub fn total(&self) -> u64 {
-        self.model.iter().sum::<u64>() + self.original.iter().sum::<u64>()
+        [&self.model, &self.bytes, &self.original]
+            .iter()
+            .flat_map(|counts| counts.iter())
+            .sum()
     }
 }
 
@@ -71,9 +76,42 @@ impl Run {
                 return Err(stopped("port and model differ", call, &ours, &show(&model)));
             }
             self.count(call.function(), ours.number);
+            self.over_bytes(call, &ours)?;
         }
         self.beside(call, &ours)?;
         Ok(ours)
+    }
+
+    /// The function over bytes is to answer the same, however many bytes are left over in an output;
+    /// and 3 (or nothing) where an input is not whole numbers.
+    #[cfg(feature = "port")]
+    fn over_bytes(&mut self, call: Call<'_>, answer: &Answer) -> Checked<()> {
+        use crate::bytes;
+        let turn = self.tally.model[call.function() as usize];
+        if !bytes::worth(call, answer, turn) {
+            return Ok(());
+        }
+        let counts = &mut self.tally.bytes[call.function() as usize];
+        let left = (*counts % 8) as usize;
+        *counts += 1;
+        let ours = bytes::answer(call, 0, left);
+        if ours.as_ref() != Some(answer) {
+            return Err(stopped("over bytes", call, answer, &ours));
+        }
+        let more = 1 + (*counts % 7) as usize;
+        if let Some(refused) = bytes::broken(call) {
+            *counts += 1;
+            let ours = bytes::answer(call, more, left);
+            if ours.as_ref() != Some(&refused) {
+                return Err(stopped("not whole numbers", call, &refused, &ours));
+            }
+        }
+        Ok(())
+    }
+
+    #[cfg(not(feature = "port"))]
+    fn over_bytes(&mut self, _: Call<'_>, _: &Answer) -> Checked<()> {
+        Ok(())
     }
 
     fn count(&mut self, function: Function, number: u8) {

@@ -3,7 +3,7 @@
 //!
 //! A slice crosses as two arguments, pointer then length in elements. The library keeps nothing of
 //! what it is lent, writes only to what it is lent to write, and within the lengths; it is proved
-//! to answer on every input.
+//! to answer on every input. The functions of [`le`] take runs of 64-bit numbers as bytes.
 //!
 //! ```
 //! use oliastrofu::boundary::{self, IndexReply};
@@ -95,305 +95,91 @@ pub struct NextReply {
     pub group: usize,
 }
 
-unsafe extern "C" {
-    fn oli_build(
-        table: *const u8,
-        table_len: usize,
-        codes: *const u8,
-        codes_len: usize,
-        values: *const u64,
-        values_len: usize,
-        out_codes: *mut u8,
-        out_codes_len: usize,
-        out_values: *mut u64,
-        out_values_len: usize,
-        records: *mut u8,
-        records_len: usize,
-    ) -> BuildReply;
+/// Declares exports, each with a safe function over it: slices that are read, a number, slices that
+/// are written, a number.
+macro_rules! exports {
+    ($(
+        $(#[$doc:meta])*
+        $name:ident = $export:ident($($run:ident: $item:ty),*; $($first:ident)?; $($out:ident: $to:ty),*; $($last:ident)?) -> $reply:ty;
+    )*) => {
+        unsafe extern "C" {
+            $(fn $export($(_: *const $item, _: usize,)* $($first: usize,)? $(_: *mut $to, _: usize,)* $($last: usize,)?) -> $reply;)*
+        }
 
-    fn oli_encode(
-        table: *const u8,
-        table_len: usize,
-        codes: *const u8,
-        codes_len: usize,
-        values: *const u64,
-        values_len: usize,
-        records: *const u8,
-        records_len: usize,
-        out: *mut u8,
-        out_len: usize,
-        at: usize,
-    ) -> EncodeReply;
-
-    fn oli_decode(
-        table: *const u8,
-        table_len: usize,
-        bytes: *const u8,
-        bytes_len: usize,
-        at: usize,
-        out_codes: *mut u8,
-        out_codes_len: usize,
-        out_values: *mut u64,
-        out_values_len: usize,
-        records: *mut u8,
-        records_len: usize,
-    ) -> DecodeReply;
-
-    fn oli_structure(
-        codes: *const u8,
-        codes_len: usize,
-        values: *const u64,
-        values_len: usize,
-        records: *const u8,
-        records_len: usize,
-    ) -> CheckReply;
-
-    fn oli_padding(
-        codes: *const u8,
-        codes_len: usize,
-        values: *const u64,
-        values_len: usize,
-        records: *const u8,
-        records_len: usize,
-    ) -> CheckReply;
-
-    fn oli_commitment(
-        table: *const u8,
-        table_len: usize,
-        codes: *const u8,
-        codes_len: usize,
-        values: *const u64,
-        values_len: usize,
-        records: *const u8,
-        records_len: usize,
-    ) -> CheckReply;
-
-    fn oli_raw_table(
-        codes: *const u8,
-        codes_len: usize,
-        values: *const u64,
-        values_len: usize,
-        records: *const u8,
-        records_len: usize,
-        out: *mut u64,
-        out_len: usize,
-    ) -> TableReply;
-
-    fn oli_padded_table(
-        codes: *const u8,
-        codes_len: usize,
-        values: *const u64,
-        values_len: usize,
-        records: *const u8,
-        records_len: usize,
-        out: *mut u64,
-        out_len: usize,
-    ) -> TableReply;
-
-    fn oli_padded_index(table: *const u64, table_len: usize, raw: usize) -> IndexReply;
-
-    fn oli_raw_index(table: *const u64, table_len: usize, padded: usize) -> IndexReply;
-
-    fn oli_group(record: *const u8, record_len: usize, index: usize) -> GroupReply;
-
-    fn oli_next_group(record: *const u8, record_len: usize, group: usize) -> NextReply;
+        $(
+            $(#[$doc])*
+            #[inline]
+            pub fn $name($($run: &[$item],)* $($first: usize,)? $($out: &mut [$to],)* $($last: usize,)?) -> $reply {
+                // SAFETY: each pair is a slice that lives through the call; no one else has the
+                // mutable ones.
+                unsafe { $export($($run.as_ptr(), $run.len(),)* $($first,)? $($out.as_mut_ptr(), $out.len(),)* $($last,)?) }
+            }
+        )*
+    };
 }
 
-/// `oli_build` on lent slices.
-#[inline]
-pub fn build(
-    table: &[u8],
-    codes: &[u8],
-    values: &[u64],
-    out_codes: &mut [u8],
-    out_values: &mut [u64],
-    records: &mut [u8],
-) -> BuildReply {
-    // SAFETY: each pair is a slice that lives through the call; no one else has the mutable ones.
-    unsafe {
-        oli_build(
-            table.as_ptr(),
-            table.len(),
-            codes.as_ptr(),
-            codes.len(),
-            values.as_ptr(),
-            values.len(),
-            out_codes.as_mut_ptr(),
-            out_codes.len(),
-            out_values.as_mut_ptr(),
-            out_values.len(),
-            records.as_mut_ptr(),
-            records.len(),
-        )
+exports! {
+    /// `oli_build` on lent slices.
+    build = oli_build(table: u8, codes: u8, values: u64;; out_codes: u8, out_values: u64, records: u8;) -> BuildReply;
+    /// `oli_encode` on lent slices.
+    encode = oli_encode(table: u8, codes: u8, values: u64, records: u8;; out: u8; at) -> EncodeReply;
+    /// `oli_decode` on lent slices.
+    decode = oli_decode(table: u8, bytes: u8; at; out_codes: u8, out_values: u64, records: u8;) -> DecodeReply;
+    /// `oli_structure` on lent slices.
+    structure = oli_structure(codes: u8, values: u64, records: u8;;;) -> CheckReply;
+    /// `oli_padding` on lent slices.
+    padding = oli_padding(codes: u8, values: u64, records: u8;;;) -> CheckReply;
+    /// `oli_commitment` on lent slices.
+    commitment = oli_commitment(table: u8, codes: u8, values: u64, records: u8;;;) -> CheckReply;
+    /// `oli_raw_table` on lent slices.
+    raw_table = oli_raw_table(codes: u8, values: u64, records: u8;; out: u64;) -> TableReply;
+    /// `oli_padded_table` on lent slices.
+    padded_table = oli_padded_table(codes: u8, values: u64, records: u8;; out: u64;) -> TableReply;
+    /// `oli_padded_index` on a lent slice.
+    padded_index = oli_padded_index(table: u64; raw;;) -> IndexReply;
+    /// `oli_raw_index` on a lent slice.
+    raw_index = oli_raw_index(table: u64; padded;;) -> IndexReply;
+    /// `oli_group` on a lent slice, which should be one record.
+    group = oli_group(record: u8; index;;) -> GroupReply;
+    /// `oli_next_group` on a lent slice, which should be one record.
+    next_group = oli_next_group(record: u8; group;;) -> NextReply;
+}
+
+/// The same with runs of 64-bit numbers as little-endian bytes, eight to a number.
+///
+/// An input that is not whole numbers is refused with 3, and an index lookup in one finds nothing.
+/// Of an output only whole numbers are room; bytes left over are zeroed too. All but `structure`
+/// and the index lookups want stack: 512 KiB for work space; `build` and the tables 1 MiB.
+///
+/// ```
+/// use oliastrofu::boundary::{IndexReply, le};
+/// let table = [0, 0, 0, 0, 0, 0, 0, 0, 1, 0, 0, 0, 0, 0, 0, 0];
+/// assert_eq!(le::padded_index(&table, 1), IndexReply { found: 1, index: 2 });
+/// assert_eq!(le::padded_index(&table[1..], 0), IndexReply { found: 0, index: 0 });
+/// ```
+pub mod le {
+    use super::{BuildReply, CheckReply, DecodeReply, EncodeReply, IndexReply, TableReply};
+
+    exports! {
+        /// `oli_build_le` on lent slices.
+        build = oli_build_le(table: u8, codes: u8, values: u8;; out_codes: u8, out_values: u8, records: u8;) -> BuildReply;
+        /// `oli_encode_le` on lent slices.
+        encode = oli_encode_le(table: u8, codes: u8, values: u8, records: u8;; out: u8; at) -> EncodeReply;
+        /// `oli_decode_le` on lent slices.
+        decode = oli_decode_le(table: u8, bytes: u8; at; out_codes: u8, out_values: u8, records: u8;) -> DecodeReply;
+        /// `oli_structure_le` on lent slices.
+        structure = oli_structure_le(codes: u8, values: u8, records: u8;;;) -> CheckReply;
+        /// `oli_padding_le` on lent slices.
+        padding = oli_padding_le(codes: u8, values: u8, records: u8;;;) -> CheckReply;
+        /// `oli_commitment_le` on lent slices.
+        commitment = oli_commitment_le(table: u8, codes: u8, values: u8, records: u8;;;) -> CheckReply;
+        /// `oli_raw_table_le` on lent slices.
+        raw_table = oli_raw_table_le(codes: u8, values: u8, records: u8;; out: u8;) -> TableReply;
+        /// `oli_padded_table_le` on lent slices.
+        padded_table = oli_padded_table_le(codes: u8, values: u8, records: u8;; out: u8;) -> TableReply;
+        /// `oli_padded_index_le` on a lent slice.
+        padded_index = oli_padded_index_le(table: u8; raw;;) -> IndexReply;
+        /// `oli_raw_index_le` on a lent slice.
+        raw_index = oli_raw_index_le(table: u8; padded;;) -> IndexReply;
     }
-}
-
-/// `oli_encode` on lent slices.
-#[inline]
-pub fn encode(
-    table: &[u8],
-    codes: &[u8],
-    values: &[u64],
-    records: &[u8],
-    out: &mut [u8],
-    at: usize,
-) -> EncodeReply {
-    // SAFETY: as in build.
-    unsafe {
-        oli_encode(
-            table.as_ptr(),
-            table.len(),
-            codes.as_ptr(),
-            codes.len(),
-            values.as_ptr(),
-            values.len(),
-            records.as_ptr(),
-            records.len(),
-            out.as_mut_ptr(),
-            out.len(),
-            at,
-        )
-    }
-}
-
-/// `oli_decode` on lent slices.
-#[inline]
-pub fn decode(
-    table: &[u8],
-    bytes: &[u8],
-    at: usize,
-    out_codes: &mut [u8],
-    out_values: &mut [u64],
-    records: &mut [u8],
-) -> DecodeReply {
-    // SAFETY: as in build.
-    unsafe {
-        oli_decode(
-            table.as_ptr(),
-            table.len(),
-            bytes.as_ptr(),
-            bytes.len(),
-            at,
-            out_codes.as_mut_ptr(),
-            out_codes.len(),
-            out_values.as_mut_ptr(),
-            out_values.len(),
-            records.as_mut_ptr(),
-            records.len(),
-        )
-    }
-}
-
-/// `oli_structure` on lent slices.
-#[inline]
-pub fn structure(codes: &[u8], values: &[u64], records: &[u8]) -> CheckReply {
-    // SAFETY: as in build.
-    unsafe {
-        oli_structure(
-            codes.as_ptr(),
-            codes.len(),
-            values.as_ptr(),
-            values.len(),
-            records.as_ptr(),
-            records.len(),
-        )
-    }
-}
-
-/// `oli_padding` on lent slices.
-#[inline]
-pub fn padding(codes: &[u8], values: &[u64], records: &[u8]) -> CheckReply {
-    // SAFETY: as in build.
-    unsafe {
-        oli_padding(
-            codes.as_ptr(),
-            codes.len(),
-            values.as_ptr(),
-            values.len(),
-            records.as_ptr(),
-            records.len(),
-        )
-    }
-}
-
-/// `oli_commitment` on lent slices.
-#[inline]
-pub fn commitment(table: &[u8], codes: &[u8], values: &[u64], records: &[u8]) -> CheckReply {
-    // SAFETY: as in build.
-    unsafe {
-        oli_commitment(
-            table.as_ptr(),
-            table.len(),
-            codes.as_ptr(),
-            codes.len(),
-            values.as_ptr(),
-            values.len(),
-            records.as_ptr(),
-            records.len(),
-        )
-    }
-}
-
-/// `oli_raw_table` on lent slices.
-#[inline]
-pub fn raw_table(codes: &[u8], values: &[u64], records: &[u8], out: &mut [u64]) -> TableReply {
-    // SAFETY: as in build.
-    unsafe {
-        oli_raw_table(
-            codes.as_ptr(),
-            codes.len(),
-            values.as_ptr(),
-            values.len(),
-            records.as_ptr(),
-            records.len(),
-            out.as_mut_ptr(),
-            out.len(),
-        )
-    }
-}
-
-/// `oli_padded_table` on lent slices.
-#[inline]
-pub fn padded_table(codes: &[u8], values: &[u64], records: &[u8], out: &mut [u64]) -> TableReply {
-    // SAFETY: as in build.
-    unsafe {
-        oli_padded_table(
-            codes.as_ptr(),
-            codes.len(),
-            values.as_ptr(),
-            values.len(),
-            records.as_ptr(),
-            records.len(),
-            out.as_mut_ptr(),
-            out.len(),
-        )
-    }
-}
-
-/// `oli_padded_index` on a lent slice.
-#[inline]
-pub fn padded_index(table: &[u64], raw: usize) -> IndexReply {
-    // SAFETY: as in build.
-    unsafe { oli_padded_index(table.as_ptr(), table.len(), raw) }
-}
-
-/// `oli_raw_index` on a lent slice.
-#[inline]
-pub fn raw_index(table: &[u64], padded: usize) -> IndexReply {
-    // SAFETY: as in build.
-    unsafe { oli_raw_index(table.as_ptr(), table.len(), padded) }
-}
-
-/// `oli_group` on a lent slice, which should be one record.
-#[inline]
-pub fn group(record: &[u8], index: usize) -> GroupReply {
-    // SAFETY: as in build.
-    unsafe { oli_group(record.as_ptr(), record.len(), index) }
-}
-
-/// `oli_next_group` on a lent slice, which should be one record.
-#[inline]
-pub fn next_group(record: &[u8], group: usize) -> NextReply {
-    // SAFETY: as in build.
-    unsafe { oli_next_group(record.as_ptr(), record.len(), group) }
 }

@@ -3,7 +3,10 @@
 //! Outputs longer than the result are filled with zeros after it. A refused build, decode or table
 //! leaves its outputs all zero; a refused encode changes no byte.
 
-use crate::{Arena, PaddedIndex, RECORD, RawIndex, Refusal, boundary};
+use crate::{
+    Arena, PaddedIndex, RECORD, RawIndex, Refusal,
+    boundary::{self, BuildReply, CheckReply, DecodeReply, EncodeReply, IndexReply, TableReply},
+};
 
 /// The runs that build and decode fill: opcodes, values, and records of 82 bytes.
 #[derive(Debug)]
@@ -50,12 +53,14 @@ pub fn build(
     values: &[u64],
     out: Outputs<'_>,
 ) -> Result<Built, Refusal> {
-    let reply = boundary::build(table, codes, values, out.codes, out.values, out.records);
-    Refusal::check(reply.number, reply.place)?;
-    Ok(Built {
-        batches: reply.batches,
-        operations: reply.operations,
-    })
+    built(boundary::build(
+        table,
+        codes,
+        values,
+        out.codes,
+        out.values,
+        out.records,
+    ))
 }
 
 /// Writes a block's bytes into a buffer from a position on; how many they are.
@@ -76,9 +81,14 @@ pub fn encode(
     buffer: &mut [u8],
     at: usize,
 ) -> Result<usize, Refusal> {
-    let reply = boundary::encode(table, block.codes, block.values, block.records, buffer, at);
-    Refusal::check(reply.number, reply.place)?;
-    Ok(reply.length)
+    encoded(boundary::encode(
+        table,
+        block.codes,
+        block.values,
+        block.records,
+        buffer,
+        at,
+    ))
 }
 
 /// Reads a block from a place in the bytes on.
@@ -95,13 +105,14 @@ pub fn encode(
 /// # Ok::<(), oliastrofu::Refusal>(())
 /// ```
 pub fn decode(table: &[u8], bytes: &[u8], at: usize, out: Outputs<'_>) -> Result<Decoded, Refusal> {
-    let reply = boundary::decode(table, bytes, at, out.codes, out.values, out.records);
-    Refusal::check(reply.number, reply.place)?;
-    Ok(Decoded {
-        batches: reply.batches,
-        operations: reply.operations,
-        used: reply.used,
-    })
+    decoded(boundary::decode(
+        table,
+        bytes,
+        at,
+        out.codes,
+        out.values,
+        out.records,
+    ))
 }
 
 /// The structure check.
@@ -114,8 +125,11 @@ pub fn decode(table: &[u8], bytes: &[u8], at: usize, out: Outputs<'_>) -> Result
 /// assert_eq!((refusal.cause, refusal.place), (Cause::Structure, 1));
 /// ```
 pub fn structure(block: Arena<'_>) -> Result<(), Refusal> {
-    let reply = boundary::structure(block.codes, block.values, block.records);
-    Refusal::check(reply.number, reply.place)
+    checked(boundary::structure(
+        block.codes,
+        block.values,
+        block.records,
+    ))
 }
 
 /// The padding check (and before it the structure check).
@@ -128,8 +142,7 @@ pub fn structure(block: Arena<'_>) -> Result<(), Refusal> {
 /// assert_eq!(lent::padding(block).unwrap_err().cause, Cause::Padding);
 /// ```
 pub fn padding(block: Arena<'_>) -> Result<(), Refusal> {
-    let reply = boundary::padding(block.codes, block.values, block.records);
-    Refusal::check(reply.number, reply.place)
+    checked(boundary::padding(block.codes, block.values, block.records))
 }
 
 /// The commitment check (and before it structure and the operations).
@@ -142,8 +155,12 @@ pub fn padding(block: Arena<'_>) -> Result<(), Refusal> {
 /// assert_eq!(lent::commitment(&table, block), Ok(()));
 /// ```
 pub fn commitment(table: &[u8], block: Arena<'_>) -> Result<(), Refusal> {
-    let reply = boundary::commitment(table, block.codes, block.values, block.records);
-    Refusal::check(reply.number, reply.place)
+    checked(boundary::commitment(
+        table,
+        block.codes,
+        block.values,
+        block.records,
+    ))
 }
 
 /// Fills the table for raw indices; how many entries it has.
@@ -157,9 +174,12 @@ pub fn commitment(table: &[u8], block: Arena<'_>) -> Result<(), Refusal> {
 /// # Ok::<(), oliastrofu::Refusal>(())
 /// ```
 pub fn raw_table(block: Arena<'_>, entries: &mut [u64]) -> Result<usize, Refusal> {
-    let reply = boundary::raw_table(block.codes, block.values, block.records, entries);
-    Refusal::check(reply.number, reply.place)?;
-    Ok(reply.entries)
+    tabled(boundary::raw_table(
+        block.codes,
+        block.values,
+        block.records,
+        entries,
+    ))
 }
 
 /// Fills the table for padded indices; how many entries it has.
@@ -171,9 +191,12 @@ pub fn raw_table(block: Arena<'_>, entries: &mut [u64]) -> Result<usize, Refusal
 /// assert_eq!(refusal.cause, Cause::Room);
 /// ```
 pub fn padded_table(block: Arena<'_>, entries: &mut [u64]) -> Result<usize, Refusal> {
-    let reply = boundary::padded_table(block.codes, block.values, block.records, entries);
-    Refusal::check(reply.number, reply.place)?;
-    Ok(reply.entries)
+    tabled(boundary::padded_table(
+        block.codes,
+        block.values,
+        block.records,
+        entries,
+    ))
 }
 
 /// The padded index of a raw index; the run is exactly the raw table's entries.
@@ -184,8 +207,7 @@ pub fn padded_table(block: Arena<'_>, entries: &mut [u64]) -> Result<usize, Refu
 /// assert_eq!(lent::padded_index(&[0, 1], RawIndex(2)), None);
 /// ```
 pub fn padded_index(raw_table: &[u64], raw: RawIndex) -> Option<PaddedIndex> {
-    let reply = boundary::padded_index(raw_table, raw.0);
-    (reply.found != 0).then_some(PaddedIndex(reply.index))
+    index(boundary::padded_index(raw_table, raw.0)).map(PaddedIndex)
 }
 
 /// The raw index of a padded index; the run is exactly the padded table's entries.
@@ -196,8 +218,7 @@ pub fn padded_index(raw_table: &[u64], raw: RawIndex) -> Option<PaddedIndex> {
 /// assert_eq!(lent::raw_index(&[1], PaddedIndex(0)), None);
 /// ```
 pub fn raw_index(padded_table: &[u64], padded: PaddedIndex) -> Option<RawIndex> {
-    let reply = boundary::raw_index(padded_table, padded.0);
-    (reply.found != 0).then_some(RawIndex(reply.index))
+    index(boundary::raw_index(padded_table, padded.0)).map(RawIndex)
 }
 
 /// The group of an operation of a batch, and its place in the group; none past the end.
@@ -228,4 +249,41 @@ pub fn next_group(record: &[u8; RECORD], group: usize) -> Result<Option<usize>, 
     let reply = boundary::next_group(record, group);
     Refusal::check(reply.number, reply.place)?;
     Ok((reply.found != 0).then_some(reply.group))
+}
+
+// Replies, as these functions and those of `le` give them.
+
+pub(crate) fn built(reply: BuildReply) -> Result<Built, Refusal> {
+    Refusal::check(reply.number, reply.place)?;
+    Ok(Built {
+        batches: reply.batches,
+        operations: reply.operations,
+    })
+}
+
+pub(crate) fn encoded(reply: EncodeReply) -> Result<usize, Refusal> {
+    Refusal::check(reply.number, reply.place)?;
+    Ok(reply.length)
+}
+
+pub(crate) fn decoded(reply: DecodeReply) -> Result<Decoded, Refusal> {
+    Refusal::check(reply.number, reply.place)?;
+    Ok(Decoded {
+        batches: reply.batches,
+        operations: reply.operations,
+        used: reply.used,
+    })
+}
+
+pub(crate) fn checked(reply: CheckReply) -> Result<(), Refusal> {
+    Refusal::check(reply.number, reply.place)
+}
+
+pub(crate) fn tabled(reply: TableReply) -> Result<usize, Refusal> {
+    Refusal::check(reply.number, reply.place)?;
+    Ok(reply.entries)
+}
+
+pub(crate) fn index(reply: IndexReply) -> Option<usize> {
+    (reply.found != 0).then_some(reply.index)
 }

@@ -2,7 +2,8 @@
 //!
 //! Every function answers on every input: with a result, or with a [`Refusal`] that has document
 //! 01's number and place. Nothing here panics. The functions of the root make room of their own;
-//! those of [`lent`] work on the caller's slices and allocate nothing.
+//! those of [`lent`] work on the caller's slices and allocate nothing; so do those of [`le`], over
+//! bytes alone.
 //!
 //! An operation is an opcode and a value. What an opcode's value is, a table of 128 kinds says: 0
 //! none; 1 an immediate, placed in a group; 2 a value that is carried but never placed; 3 the
@@ -34,6 +35,7 @@
 
 mod batch;
 pub mod boundary;
+pub mod le;
 pub mod lent;
 mod owned;
 mod refusal;
