@@ -4,6 +4,8 @@
 //! on, so that the wrapper and the comparison can be tried without the port. Nothing that is
 //! shipped depends on it.
 
+mod le;
+
 use core::slice;
 
 use model::{Answer, Arena, Room};
