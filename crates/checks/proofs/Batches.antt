@@ -25,6 +25,10 @@ pub rest-turn : (n : ℕ) (s : List ℕ) (b : ℕ) → b < n → rest n s b ≡ 
 unfolding rest total
 rest-turn n s b h = rw (records-turn n s b h)
 
+pub rest-none : (n : ℕ) (s : List ℕ) (b : ℕ) → n ≤ b → rest n s b ≡ 0
+unfolding rest total
+rest-none n s b h = rw (records-end n s b h)
+
 module _ (cs vs rs : List ℕ) (c : structureChecked 8 (arena cs vs rs) ≡ good tt) where
   pub rest-all : rest (length rs / 82) rs 0 ≡ length cs
   unfolding rest recordsIn

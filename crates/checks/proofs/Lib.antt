@@ -4,3 +4,5 @@ pub mod Groups
 pub mod Flags
 pub mod Batches
 pub mod Numbers
+pub mod Slots
+pub mod Owed

@@ -180,7 +180,7 @@ module _ (t : List ℕ) (r : Record) (cs vs : List ℕ) (from : ℕ) (x : Lying 
       group-wrong n = full ∙ rw (ne-eqb (getD (r .numbers) g 0) (codesNumber (span (operations cs vs) i to)) n)
 
       module _ (n : getD (r .numbers) g 0 ≡ codesNumber (span (operations cs vs) i to)) (m : ℕ) (d : m ≡ length (immediates t (span (operations cs vs) i to))) where
-        counted : groupsLeft t r (operations cs vs) from g
+        pub counted : groupsLeft t r (operations cs vs) from g
             ≡ orElse (placingFault m (under r (operations cs vs) from (g + 1)))
             (orElse (cond (begins (drop (g + 1) (r .numbers)) (immediates t (span (operations cs vs) i to))) 0 16)
             (groupsLeft t r (operations cs vs) from (g + 1)))

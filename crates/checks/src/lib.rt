@@ -1,5 +1,6 @@
 // The three checks of a block in a lent arena: structure, padding, commitment (document 01, "Checks").
 ghost use mathlib.Core.Path.{_≡_};
+ghost use mathlib.Core.Bool.{true};
 ghost use Prim.Native.Nat.{ℕ, _+_, _*_, _≤_, _<_};
 ghost use lib.ListN.{length, getD, drop};
 ghost use lib.Dec.{eqb};
@@ -11,6 +12,7 @@ ghost use Rattle.rules.specs.Checks.{structureFaults, paddingFault, paddingFaul
 ghost use Rattle.rules.specs.Functions.{arena, blockIn, within, structureChecked, paddingChecked, commitmentChecked};
 ghost use Rattle.operation.specs.Verdict.{verdictOf};
 ghost use Rattle.checks.specs.Batch.{heldAt, Lies, Apt, under, span};
+ghost use Rattle.checks.specs.Walk.{slotAfter, slotsAfter, admissibleFrom, AllRight, BatchRight};
 use op_batch::RECORD;
 use operation::Verdict;
 
@@ -350,7 +352,146 @@ fn commitment_fault(table: &[u8], codes: &[u8], values: &[u64], records: &[u8]) 
     Verdict::Passed
 }
 
-// Commitment: refusals 3, 14, 15, 4, then batch by batch 16, 8 or 9.
+// ---- commitment, where all is right: one walk that says only whether it is
+
+// What the walk over a group's operations found: their number, and the group after those that hold their immediates, 9 where something is not right.
+struct Walked {
+    number: u64,
+    next: usize,
+}
+
+// The group after an operation's immediate, which belongs in the j-th: j where the operation has none, 9 where it is not admissible or the group's
+// number is another.
+fn slot_after(kind: u8, v: u64, records: &[u8], b: usize, j: usize) -> usize
+    requires { ⌜ (82 * b + 82 ≤ length (now records)) × (j ≤ 8) ⌝ }
+    ensures { λ r. ⌜ r ≡ slotAfter kind v (recordAt (now (records .entry)) b .numbers) j ⌝ }
+{
+    if kind == 0 {
+        if v != 0 {
+            return 9;
+        }
+        return j;
+    }
+    if 3 <= kind {
+        return 9;
+    }
+    if operation::FIELD <= v {
+        return 9;
+    }
+    if kind == 2 {
+        return j;
+    }
+    if 8 <= j {
+        return 9;
+    }
+    if op_batch::number(records, b, j) != v {
+        return 9;
+    }
+    j + 1
+}
+
+// The operations from one index up to another, at most nine, their immediates in the groups from the g-th on.
+fn walk_group(
+    table: &[u8],
+    codes: &[u8],
+    values: &[u64],
+    records: &[u8],
+    b: usize,
+    g: usize,
+    from: usize,
+    to: usize,
+) -> Walked
+    requires { ⌜ (length (now codes) ≡ length (now values)) × (to ≤ length (now codes)) × (from ≤ to) × (to ≤ from + 9) × (length (now table) ≡ 128) ⌝ }
+    requires { ⌜ (82 * b + 82 ≤ length (now records)) × (g ≤ 8) ⌝ }
+    ensures { λ r. ⌜ r .next ≡ slotsAfter (now (table .entry)) (span (operations (now (codes .entry)) (now (values .entry))) from to) (recordAt (now (records .entry)) b .numbers) g ⌝ }
+    ensures { λ r. ⌜ (r .next ≤ 8 → r .number ≡ codesNumber (span (operations (now (codes .entry)) (now (values .entry))) from to)) ⌝ }
+{
+    let mut number: u64 = 0;
+    let mut place: u64 = 1;
+    let mut next = g;
+    let mut i = from;
+    while i < to {
+        let code = codes[i];
+        if 128 <= code {
+            return Walked { number, next: 9 };
+        }
+        next = slot_after(table[code as usize], values[i], records, b, next);
+        if 8 < next {
+            return Walked { number, next: 9 };
+        }
+        number += word::wide(code) * place;
+        place *= 128;
+        i += 1;
+    }
+    Walked { number, next }
+}
+
+// One batch, group by group; the groups under `held` hold the immediates of those before.
+fn batch_right(
+    table: &[u8],
+    codes: &[u8],
+    values: &[u64],
+    records: &[u8],
+    b: usize,
+    from: usize,
+) -> bool
+    requires { ⌜ Lies (arena (now codes) (now values) (now records)) b from × (length (now table) ≡ 128) ⌝ }
+    ensures { λ r. ⌜ (r ≡ true → BatchRight (now (table .entry)) (arena (now (codes .entry)) (now (values .entry)) (now (records .entry))) b from) ⌝ }
+{
+    let count = op_batch::count(records, b);
+    let mut held: usize = 0;
+    let mut g: usize = 0;
+    while g < count {
+        let start = from + op_batch::start(records, b, g);
+        let end = from + op_batch::start(records, b, g + 1);
+        let number = op_batch::number(records, b, g);
+        if start == end {
+            if g < held {
+                g += 1;
+                continue;
+            }
+            if number != 0 {
+                return false;
+            }
+            g += 1;
+            continue;
+        }
+        if g < held {
+            return false;
+        }
+        let w = walk_group(table, codes, values, records, b, g + 1, start, end);
+        let next = w.next;
+        if count < next {
+            return false;
+        }
+        if w.number != number {
+            return false;
+        }
+        held = next;
+        g += 1;
+    }
+    true
+}
+
+// Whether every operation is admissible and no batch has a fault, where the arena passed the structure check.
+fn all_right(table: &[u8], codes: &[u8], values: &[u64], records: &[u8]) -> bool
+    requires { ⌜ (structureChecked 8 (arena (now codes) (now values) (now records)) ≡ good tt) × (length (now table) ≡ 128) ⌝ }
+    ensures { λ r. ⌜ (r ≡ true → AllRight (now (table .entry)) (arena (now (codes .entry)) (now (values .entry)) (now (records .entry)))) ⌝ }
+{
+    let n = records.len() / RECORD;
+    let mut from: usize = 0;
+    let mut b: usize = 0;
+    while b < n {
+        if !batch_right(table, codes, values, records, b, from) {
+            return false;
+        }
+        from += op_batch::start(records, b, 8);
+        b += 1;
+    }
+    true
+}
+
+// Commitment: refusals 3, 14, 15, 4, then batch by batch 16, 8 or 9. Where not all is right, the walks above say what goes first.
 pub fn commitment(table: &[u8], codes: &[u8], values: &[u64], records: &[u8]) -> Verdict
     ensures { λ r. ⌜ r ≡ verdictOf (commitmentChecked 8 (now (table .entry)) (arena (now (codes .entry)) (now (values .entry)) (now (records .entry)))) ⌝ }
 {
@@ -370,6 +511,9 @@ pub fn commitment(table: &[u8], codes: &[u8], values: &[u64], records: &[u8]) ->
     let Verdict::Passed = structure else {
         return structure;
     };
+    if all_right(table, codes, values, records) {
+        return Verdict::Passed;
+    }
     let admissible = operation::first_fault(table, codes, values);
     let Verdict::Passed = admissible else {
         return admissible;

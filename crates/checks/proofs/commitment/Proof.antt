@@ -1,15 +1,16 @@
+use Rattle.rules.proofs.Operations.{table-128}
+use Rattle.checks.proofs.Passed.{was-good, went-on, handed-on, andThen, apt, structureStage, admissibleStage, commitmentStage, stages}
+use Rattle.checks.proofs.Walk.{equal-lengths}
+use Rattle.operation.specs.Verdict.{verdictOf}
+use Rattle.rules.specs.Functions.{arena, structureChecked, commitmentChecked}
+use borrow.Author.Tests.{not-true, not-false}
 use mathlib.Core.Path.{sym, ap, _∙_}
 use borrow.Author.Needs.{needs}
-use borrow.Author.Tests.{not-true, not-false}
-use Rattle.rules.specs.Functions.{arena, structureChecked, commitmentChecked}
-use Rattle.operation.specs.Verdict.{verdictOf}
-use Rattle.checks.proofs.Walk.{equal-lengths}
-use Rattle.checks.proofs.Passed.{was-good, went-on, handed-on, andThen, apt, structureStage, admissibleStage, commitmentStage, stages}
-use Rattle.rules.proofs.Operations.{table-128}
 use Rattle.checks.proofs.commitment.Statement.{statement}
 use Rattle.checks.proofs.commitment.Tie as tie
 use Rattle.checks.proofs.commitment.Reads as reads
 use Rattle.checks.proofs.commitment.Lts as lts
+use Rattle.checks.proofs.all_right.Reads as all-right-reads
 use Rattle.checks.proofs.commitment_fault.Reads as commitment-fault-reads
 use Rattle.checks.proofs.structure_fault.Reads as structure-fault-reads
 use Rattle.checks.proofs.within.Reads as within-reads
@@ -51,14 +52,32 @@ returns-3 c =
     let e = c .before .before .structure-fault .ensures in
     e ∙ sym (ap verdictOf (stages t n h k) ∙ handed-on (structureStage n) (andThen (admissibleStage t n) (commitmentStage t n)) _ _ (sym e ∙ c .enum-told2 .given .1))
 
-first-fault-requires : tie.Need-first-fault-requires
-first-fault-requires c κs =
+all-right-requires : tie.Need-all-right-requires
+unfolding structureChecked
+all-right-requires c κs =
     let a = c .before .before .before .before .before .before .before .before .before .before .before .args in
-    let t = a .table .now in
-    let n = arena (a .codes .now) (a .values .now) (a .records .now) in
     let h = sym (c .before .before .before .before .before .before .within .ensures) ∙ not-false _ (c .before .before .before .before .before .if1 .left) in
     let k = sym (c .before .before .before .before .good-table .ensures) ∙ not-false _ (c .before .before .before .if2 .left) in
-    (table-128 t k, equal-lengths (a .codes .now) (a .values .now) (a .records .now) h)
+    let g = was-good (structureStage (arena (a .codes .now) (a .values .now) (a .records .now))) (sym (c .before .before .structure-fault .ensures) ∙ c .enum-told .given .1) in
+    (rw h g, table-128 (a .table .now) k)
+
+returns-4 : tie.Need-returns-4
+returns-4 c =
+    let a = c .before .before .before .before .before .before .before .before .before .before .before .before .before .args in
+    let t = a .table .now in
+    let n = arena (a .codes .now) (a .values .now) (a .records .now) in
+    let h = sym (c .before .before .before .before .before .before .before .before .within .ensures) ∙ not-false _ (c .before .before .before .before .before .before .before .if1 .left) in
+    let k = sym (c .before .before .before .before .before .before .good-table .ensures) ∙ not-false _ (c .before .before .before .before .before .if2 .left) in
+    let g = was-good (structureStage n) (sym (c .before .before .before .before .structure-fault .ensures) ∙ c .before .before .enum-told .given .1) in
+    let r = c .before .all-right .ensures (c .if3 .taken) in
+    sym (ap verdictOf (stages t n h k ∙ went-on (structureStage n) (andThen (admissibleStage t n) (commitmentStage t n)) g ∙ went-on (admissibleStage t n) (commitmentStage t n) (r .admissible) ∙ r .commitment))
+
+first-fault-requires : tie.Need-first-fault-requires
+first-fault-requires c κs =
+    let a = c .before .before .before .before .before .before .before .before .before .before .before .before .before .args in
+    let h = sym (c .before .before .before .before .before .before .before .before .within .ensures) ∙ not-false _ (c .before .before .before .before .before .before .before .if1 .left) in
+    let k = sym (c .before .before .before .before .before .before .good-table .ensures) ∙ not-false _ (c .before .before .before .before .before .if2 .left) in
+    (table-128 (a .table .now) k, equal-lengths (a .codes .now) (a .values .now) (a .records .now) h)
 
 enum-told-3 : tie.Need-enum-told-3
 enum-told-3 c = search needs
@@ -66,37 +85,37 @@ enum-told-3 c = search needs
 enum-told-4 : tie.Need-enum-told-4
 enum-told-4 c = search needs
 
-returns-4 : tie.Need-returns-4
-returns-4 c =
-    let a = c .before .before .before .before .before .before .before .before .before .before .before .before .before .before .args in
+returns-5 : tie.Need-returns-5
+returns-5 c =
+    let a = c .before .before .before .before .before .before .before .before .before .before .before .before .before .before .before .before .args in
     let t = a .table .now in
     let n = arena (a .codes .now) (a .values .now) (a .records .now) in
-    let h = sym (c .before .before .before .before .before .before .before .before .before .within .ensures) ∙ not-false _ (c .before .before .before .before .before .before .before .before .if1 .left) in
-    let k = sym (c .before .before .before .before .before .before .before .good-table .ensures) ∙ not-false _ (c .before .before .before .before .before .before .if2 .left) in
-    let g = was-good (structureStage n) (sym (c .before .before .before .before .before .structure-fault .ensures) ∙ c .before .before .before .enum-told .given .1) in
+    let h = sym (c .before .before .before .before .before .before .before .before .before .before .before .within .ensures) ∙ not-false _ (c .before .before .before .before .before .before .before .before .before .before .if1 .left) in
+    let k = sym (c .before .before .before .before .before .before .before .before .before .good-table .ensures) ∙ not-false _ (c .before .before .before .before .before .before .before .before .if2 .left) in
+    let g = was-good (structureStage n) (sym (c .before .before .before .before .before .before .before .structure-fault .ensures) ∙ c .before .before .before .before .before .enum-told .given .1) in
     let e = c .before .before .first-fault .ensures in
     e ∙ sym (ap verdictOf (stages t n h k ∙ went-on (structureStage n) (andThen (admissibleStage t n) (commitmentStage t n)) g) ∙ handed-on (admissibleStage t n) (commitmentStage t n) _ _ (sym e ∙ c .enum-told4 .given .1))
 
 commitment-fault-requires : tie.Need-commitment-fault-requires
 unfolding structureChecked
 commitment-fault-requires c κs =
-    let a = c .before .before .before .before .before .before .before .before .before .before .before .before .before .before .args in
+    let a = c .before .before .before .before .before .before .before .before .before .before .before .before .before .before .before .before .args in
     let t = a .table .now in
     let n = arena (a .codes .now) (a .values .now) (a .records .now) in
-    let h = sym (c .before .before .before .before .before .before .before .before .before .within .ensures) ∙ not-false _ (c .before .before .before .before .before .before .before .before .if1 .left) in
-    let k = sym (c .before .before .before .before .before .before .before .good-table .ensures) ∙ not-false _ (c .before .before .before .before .before .before .if2 .left) in
-    let g = was-good (structureStage n) (sym (c .before .before .before .before .before .structure-fault .ensures) ∙ c .before .before .before .enum-told .given .1) in
+    let h = sym (c .before .before .before .before .before .before .before .before .before .before .before .within .ensures) ∙ not-false _ (c .before .before .before .before .before .before .before .before .before .before .if1 .left) in
+    let k = sym (c .before .before .before .before .before .before .before .before .before .good-table .ensures) ∙ not-false _ (c .before .before .before .before .before .before .before .before .if2 .left) in
+    let g = was-good (structureStage n) (sym (c .before .before .before .before .before .before .before .structure-fault .ensures) ∙ c .before .before .before .before .before .enum-told .given .1) in
     let f = was-good (admissibleStage t n) (sym (c .before .before .first-fault .ensures) ∙ c .enum-told3 .given .1) in
     (rw h g, apt t (a .codes .now) (a .values .now) k (equal-lengths (a .codes .now) (a .values .now) (a .records .now) h) f)
 
-returns-5 : tie.Need-returns-5
-returns-5 c =
-    let a = c .before .before .before .before .before .before .before .before .before .before .before .before .before .before .before .args in
+returns-6 : tie.Need-returns-6
+returns-6 c =
+    let a = c .before .before .before .before .before .before .before .before .before .before .before .before .before .before .before .before .before .args in
     let t = a .table .now in
     let n = arena (a .codes .now) (a .values .now) (a .records .now) in
-    let h = sym (c .before .before .before .before .before .before .before .before .before .before .within .ensures) ∙ not-false _ (c .before .before .before .before .before .before .before .before .before .if1 .left) in
-    let k = sym (c .before .before .before .before .before .before .before .before .good-table .ensures) ∙ not-false _ (c .before .before .before .before .before .before .before .if2 .left) in
-    let g = was-good (structureStage n) (sym (c .before .before .before .before .before .before .structure-fault .ensures) ∙ c .before .before .before .before .enum-told .given .1) in
+    let h = sym (c .before .before .before .before .before .before .before .before .before .before .before .before .within .ensures) ∙ not-false _ (c .before .before .before .before .before .before .before .before .before .before .before .if1 .left) in
+    let k = sym (c .before .before .before .before .before .before .before .before .before .before .good-table .ensures) ∙ not-false _ (c .before .before .before .before .before .before .before .before .before .if2 .left) in
+    let g = was-good (structureStage n) (sym (c .before .before .before .before .before .before .before .before .structure-fault .ensures) ∙ c .before .before .before .before .before .before .enum-told .given .1) in
     let f = was-good (admissibleStage t n) (sym (c .before .before .before .first-fault .ensures) ∙ c .before .enum-told3 .given .1) in
     c .commitment-fault .ensures
     ∙ sym (ap verdictOf (stages t n h k ∙ went-on (structureStage n) (andThen (admissibleStage t n) (commitmentStage t n)) g ∙ went-on (admissibleStage t n) (commitmentStage t n) f))
@@ -113,9 +132,11 @@ commitment-spec =
     enum-told
     enum-told-2
     returns-3
+    all-right-requires
+    returns-4
     first-fault-requires
     enum-told-3
     enum-told-4
-    returns-4
+    returns-5
     commitment-fault-requires
-    returns-5)
+    returns-6)
