@@ -2,7 +2,7 @@
 use mathlib.Core.Path.{_≡_, refl, sym, ap, _∙_}
 use mathlib.Core.Bool.{Bool, true, false, cond, _&&_}
 use mathlib.Core.List.{List, _∷_}
-use Prim.Native.Nat.{ℕ, zero, suc, _+_, _-_, _≤_, _<_}
+use Prim.Native.Nat.{ℕ, zero, suc, _+_, _-_, _*_, _/_, _≤_, _<_}
 use native.Mathlib.Nat.{add-zero}
 use native.Mathlib.Numerals.{add-one}
 use native.Mathlib.Omega.{arith}
@@ -10,6 +10,7 @@ use borrow.Author.Tests.{lt-ltb, le-ltb, eq-eqb, ne-eqb}
 use lib.ListN.{length, getD, drop, drop-of-length-le}
 use lib.Seq.{drop-cons}
 use lib.Dec.{ltb, eqb}
+use Rattle.rules.specs.Digits.{number}
 use Rattle.rules.specs.Operations.{Op, operations}
 use Rattle.rules.specs.Record.{Record, recordAt}
 use Rattle.rules.specs.Block.{part, endsInNoop, paddingRight}
@@ -85,9 +86,34 @@ module _ (r : Record) (cs vs : List ℕ) (from : ℕ) (x : Lying r cs vs from) (
         pub noop : getD cs (from + getD (r .starts) (g + 1) 0 - 1) 0 ≡ 0 → padLeft r (operations cs vs) from (g + 1) ≡ padLeft r (operations cs vs) from g
         noop c = sym (step ∙ rw (ne-eqb (getD (r .flags) g 0) 0 f, lt-ltb g (r .count) k, last, eq-eqb (getD cs (from + getD (r .starts) (g + 1) 0 - 1) 0) 0 c))
 
-pub padded : (r : Record) (cs vs : List ℕ) (from : ℕ) (x : Lying r cs vs from) (g : ℕ) → 8 ≤ g → padLeft r (operations cs vs) from g ≡ true
+padded : (r : Record) (cs vs : List ℕ) (from : ℕ) (x : Lying r cs vs from) (g : ℕ) → 8 ≤ g → padLeft r (operations cs vs) from g ≡ true
 unfolding padLeft paddingRight
 padded r cs vs from x g h = rw (drop-of-length-le (r .flags) {i = g} (omega (arith, x .flags)))
+
+-- ---- the flags ahead, as one number
+
+module _ (r : Record) (cs vs : List ℕ) (from : ℕ) (x : Lying r cs vs from) where
+  pub flagged : (g left : ℕ) → left ≡ number 256 (drop g (r .flags)) → 0 < left → g < 8
+  unfolding number
+  flagged g left e h =
+      split g 8
+      (λ k. k)
+      (λ k. let z : number 256 (drop g (r .flags)) ≡ 0 = rw (drop-of-length-le (r .flags) {i = g} (omega (arith, x .flags))) in absurd (omega arith))
+
+  -- a flag is 0 or 1, so that those after it are the rest
+  ahead : (g : ℕ) → g < 8 → number 256 (drop g (r .flags)) ≡ getD (r .flags) g 0 + 256 * number 256 (drop (g + 1) (r .flags))
+  unfolding number
+  ahead g h = rw (add-one g, drop-cons (r .flags) g 0 (omega (arith, x .flags)))
+
+  pub flags-turn : (g left : ℕ) → left ≡ number 256 (drop g (r .flags)) → g < 8 → left / 256 ≡ number 256 (drop (g + 1) (r .flags))
+  flags-turn g left e h = omega (arith, ahead g h, x .sound .flags g (omega (arith, x .flags)))
+
+  unflagged : (k g : ℕ) → g + k ≡ 8 → number 256 (drop g (r .flags)) ≡ 0 → padLeft r (operations cs vs) from g ≡ true
+  unflagged zero g h e = padded r cs vs from x g (omega arith)
+  unflagged (suc k) g h e = let a = ahead g (omega arith) in sym (plain r cs vs from x g (omega arith) (omega arith)) ∙ unflagged k (g + 1) (omega arith) (omega arith)
+
+  pub no-flags : (g left : ℕ) → g ≤ 8 → left ≡ number 256 (drop g (r .flags)) → left ≡ 0 → padLeft r (operations cs vs) from g ≡ true
+  no-flags g left h e z = unflagged (8 - g) g (omega arith) (sym e ∙ z)
 
 pub begin : (a : Arena) (b from : ℕ) → Lies a b from → cond (padLeft (recordAt (a .records) b) (operations (a .codes) (a .values)) from 0) 0 10 ≡ paddingFault (heldAt a b from)
 unfolding padLeft paddingFault

@@ -82,8 +82,10 @@ fn batch_padding(codes: &[u8], values: &[u64], records: &[u8], b: usize, from: u
     ensures { λ r. ⌜ r ≡ paddingFault (heldAt (arena (now (codes .entry)) (now (values .entry)) (now (records .entry))) b from) ⌝ }
 {
     let count = op_batch::count(records, b);
+    let mut left = op_batch::flags(records, b); // those from the g-th on
     let mut g: usize = 0;
-    while g < 8 {
+    while 0 < left {
+        left /= 256;
         if op_batch::flag(records, b, g) == 0 {
             g += 1;
             continue;

@@ -1,11 +1,11 @@
 -- Laws of bytes and words read from a run: one element, and the walk along them. Assumes nothing.
 use mathlib.Core.Path.{_≡_, refl, sym, ap, ap₂, _∙_}
-use mathlib.Core.Bool.{Bool, true, false}
+use mathlib.Core.Bool.{Bool, true, false, _&&_}
 use mathlib.Core.List.{List, _∷_}
-use Prim.Native.Nat.{ℕ, zero, suc, _+_, _-_, _*_, _≤_, _<_}
+use Prim.Native.Nat.{ℕ, zero, suc, _+_, _-_, _*_, _%_, _≤_, _<_}
 use native.Mathlib.Nat.{add-zero, zero-add}
 use native.Mathlib.Omega.{arith}
-use borrow.Author.Tests.{le-leb, lt-leb}
+use borrow.Author.Tests.{le-leb, lt-leb, leb-true}
 use lib.ListN.{length, getD}
 use lib.Seq.{ext-getD}
 use lib.Dec.{leb, eqb}
@@ -13,6 +13,8 @@ use Rattle.rules.specs.Lists.{every}
 use Rattle.rules.specs.Digits.{leAt}
 use Rattle.rules.specs.Record.{bytesAt, wordsAt}
 use Rattle.rules.specs.Checks.{startsRight, recordRight}
+use Rattle.rules.proofs.Digits.{split}
+use Rattle.rules.proofs.Operations.{true-left, true-right}
 use Rattle.op_batch.specs.OpBatch.{layout}
 
 pub bytes-length : (k : ℕ) (s : List ℕ) (at : ℕ) → length (bytesAt k s at) ≡ k
@@ -51,28 +53,48 @@ bytes-turn n s at i h =
     let f : at + i + 1 ≡ at + (i + 1) = omega arith in
     rw e (ap (λ (k : ℕ). getD s (at + i) 0 ∷ bytesAt (n - (i + 1)) s k) f)
 
+-- ---- tests that go on whatever they find
+
+swap : (a b c : Bool) → ((a && b) && c) ≡ (b && (a && c))
+swap true b c = refl
+swap false true c = refl
+swap false false c = refl
+
+join : (a b c : Bool) → ((a && b) && c) ≡ (a && (b && c))
+join true b c = refl
+join false b c = refl
+
+none-left : (a : Bool) → a ≡ (a && true)
+none-left true = refl
+none-left false = refl
+
 -- ---- flags, one after the other
 
 abbrev pub flagsFrom : List ℕ → ℕ → ℕ → Bool
 flagsFrom s at i = every (λ (f : ℕ). leb f 1) (bytesAt (8 - i) s (at + i))
 
-module _ (s : List ℕ) (at i : ℕ) (h : i < 8) where
-  pub flag-turn : getD s (at + i) 0 ≤ 1 → flagsFrom s at (i + 1) ≡ flagsFrom s at i
-  unfolding every
-  flag-turn k = rw (bytes-turn 8 s at i h, le-leb (getD s (at + i) 0) 1 k)
+pub flag-turn : (s : List ℕ) (at i : ℕ) (ok : Bool) → i < 8 → ((leb (getD s (at + i) 0) 1 && ok) && flagsFrom s at (i + 1)) ≡ (ok && flagsFrom s at i)
+unfolding every
+flag-turn s at i ok h = swap (leb (getD s (at + i) 0) 1) ok (flagsFrom s at (i + 1)) ∙ rw (bytes-turn 8 s at i h)
 
-  pub flag-stop : 1 < getD s (at + i) 0 → flagsFrom s at i ≡ false
-  unfolding every
-  flag-stop k = rw (bytes-turn 8 s at i h, lt-leb (getD s (at + i) 0) 1 k)
-
-pub flags-end : (s : List ℕ) (at i : ℕ) → 8 ≤ i → flagsFrom s at i ≡ true
+pub flags-end : (s : List ℕ) (at i : ℕ) (ok : Bool) → 8 ≤ i → ok ≡ (ok && flagsFrom s at i)
 unfolding every bytesAt
-flags-end s at i h = let e : 8 - i ≡ 0 = omega arith in rw e
+flags-end s at i ok h = let e : 8 - i ≡ 0 = omega arith in rw e (none-left ok)
 
 -- ---- starts, one pair after the other
 
 abbrev pub startsLeft : List ℕ → ℕ → ℕ → Bool
 startsLeft s at i = startsRight (bytesAt (9 - i) s (at + i))
+
+-- a difference that wraps, where the lower start is not near the top
+near : (a b : ℕ) → a ≤ 63 → b < 256 → leb ((b + 256 - a) % 256) 9 ≡ (leb a b && leb b (a + 9))
+near a b h k =
+    split b a
+    (λ l. rw (lt-leb a b l, lt-leb ((b + 256 - a) % 256) 9 (omega arith)))
+    (λ l.
+    split (a + 9) b
+    (λ m. rw (le-leb a b l, lt-leb b (a + 9) m, lt-leb ((b + 256 - a) % 256) 9 (omega arith)))
+    (λ m. rw (le-leb a b l, le-leb b (a + 9) m, le-leb ((b + 256 - a) % 256) 9 (omega arith))))
 
 module _ (s : List ℕ) (at i : ℕ) (h : i < 8) where
   two : bytesAt (9 - i) s (at + i) ≡ getD s (at + i) 0 ∷ getD s (at + i + 1) 0 ∷ bytesAt (9 - (i + 2)) s (at + (i + 2))
@@ -83,21 +105,31 @@ module _ (s : List ℕ) (at i : ℕ) (h : i < 8) where
   one : bytesAt (9 - (i + 1)) s (at + (i + 1)) ≡ getD s (at + i + 1) 0 ∷ bytesAt (9 - (i + 2)) s (at + (i + 2))
   one = bytes-turn 9 s at (i + 1) (omega arith) ∙ ap₂ (λ (j k : ℕ). getD s j 0 ∷ bytesAt (9 - k) s (at + k)) (omega arith) (omega arith)
 
-  pub start-turn : getD s (at + i) 0 ≤ getD s (at + i + 1) 0 → getD s (at + i + 1) 0 ≤ getD s (at + i) 0 + 9 → startsLeft s at (i + 1) ≡ startsLeft s at i
+  step : startsLeft s at i ≡ (leb (getD s (at + i) 0) (getD s (at + i + 1) 0) && (leb (getD s (at + i + 1) 0) (getD s (at + i) 0 + 9) && startsLeft s at (i + 1)))
   unfolding startsRight
-  start-turn a b = rw (two, one, le-leb (getD s (at + i) 0) (getD s (at + i + 1) 0) a, le-leb (getD s (at + i + 1) 0) (getD s (at + i) 0 + 9) b)
+  step = rw (two, one)
 
-  pub start-falls : getD s (at + i + 1) 0 < getD s (at + i) 0 → startsLeft s at i ≡ false
-  unfolding startsRight
-  start-falls a = rw (two, lt-leb (getD s (at + i) 0) (getD s (at + i + 1) 0) a)
+  abbrev rise : Bool
+  rise = leb ((getD s (at + i + 1) 0 + 256 - getD s (at + i) 0) % 256) 9
 
-  pub start-over : getD s (at + i) 0 ≤ getD s (at + i + 1) 0 → getD s (at + i) 0 + 9 < getD s (at + i + 1) 0 → startsLeft s at i ≡ false
-  unfolding startsRight
-  start-over a b = rw (two, le-leb (getD s (at + i) 0) (getD s (at + i + 1) 0) a, lt-leb (getD s (at + i + 1) 0) (getD s (at + i) 0 + 9) b)
+  -- either something was not right before, or the starts have risen by 9 at most
+  pub start-turn : (ok : Bool) → (ok ≡ true → getD s (at + i) 0 ≤ 9 * i) → getD s (at + i + 1) 0 < 256
+      → (((rise && ok) && startsLeft s at (i + 1)) ≡ (ok && startsLeft s at i)) × ((rise && ok) ≡ true → getD s (at + (i + 1)) 0 ≤ 9 * (i + 1))
+  start-turn true u k =
+      let a = getD s (at + i) 0 in
+      let b = getD s (at + i + 1) 0 in
+      let low : a ≤ 9 * i = u refl in
+      let more = startsLeft s at (i + 1) in
+      let n = near a b (omega arith) k in
+      let there : at + (i + 1) ≡ at + i + 1 = omega arith in (
+        swap rise true more ∙ ap (λ (x : Bool). x && more) n ∙ join (leb a b) (leb b (a + 9)) more ∙ sym step,
+        λ t. rw there (omega (arith, leb-true ((b + 256 - a) % 256) 9 (true-left rise true t))),
+      )
+  start-turn false u k = (swap rise false (startsLeft s at (i + 1)), λ t. let y = true-right rise false t in let z : _≡_ {A = ℕ} 0 1 = cc in absurd (omega arith))
 
-pub starts-end : (s : List ℕ) (at i : ℕ) → i ≡ 8 → startsLeft s at i ≡ true
+pub starts-end : (s : List ℕ) (at i : ℕ) (ok : Bool) → i ≡ 8 → ok ≡ (ok && startsLeft s at i)
 unfolding startsRight bytesAt
-starts-end s at i h = rw h
+starts-end s at i ok h = rw h (none-left ok)
 
 -- ---- the last of the structure test
 

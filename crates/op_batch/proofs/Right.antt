@@ -1,5 +1,5 @@
 -- What a record that passes the structure test has, and where its parts lie in a run. Assumes nothing.
-use mathlib.Core.Path.{_≡_}
+use mathlib.Core.Path.{_≡_, refl, ap}
 use mathlib.Core.Bool.{Bool, true, _&&_}
 use mathlib.Core.List.{List, [], _∷_}
 use Prim.Native.Nat.{ℕ, zero, suc, _+_, _-_, _*_, _≤_, _<_}
@@ -9,8 +9,8 @@ use borrow.Author.Tests.{leb-true, eqb-true}
 use lib.ListN.{length, getD}
 use lib.Dec.{leb, eqb}
 use Rattle.rules.specs.Lists.{every}
-use Rattle.rules.specs.Digits.{leAt}
-use Rattle.rules.specs.Record.{Record, recordAt}
+use Rattle.rules.specs.Digits.{number, leAt}
+use Rattle.rules.specs.Record.{Record, bytesAt, recordAt}
 use Rattle.rules.specs.Checks.{ninth, startsRight, recordRight}
 use Rattle.rules.proofs.Operations.{true-left, true-right}
 use Rattle.op_batch.proofs.Bytes.{bytes-length, words-length, byte, word}
@@ -79,6 +79,11 @@ module _ (w : ℕ) (r : Record) (x : Sound w r) (l : length (r .starts) ≡ 9) w
 
 -- ---- records of a run
 
+as-number : (k : ℕ) (s : List ℕ) (at : ℕ) → number 256 (bytesAt k s at) ≡ leAt k s at
+unfolding bytesAt number leAt
+as-number zero s at = refl
+as-number (suc k) s at = ap (λ (n : ℕ). getD s at 0 + 256 * n) (as-number k s (at + 1))
+
 module _ (s : List ℕ) (b : ℕ) where
   pub starts-length : length (recordAt s b .starts) ≡ 9
   unfolding recordAt
@@ -99,6 +104,10 @@ module _ (s : List ℕ) (b : ℕ) where
   pub flag-at : (g : ℕ) → g < 8 → getD (recordAt s b .flags) g 0 ≡ getD s (82 * b + 9 + g) 0
   unfolding recordAt
   flag-at g h = byte 8 s (82 * b + 9) g h
+
+  pub flags-at : number 256 (recordAt s b .flags) ≡ leAt 8 s (82 * b + 9)
+  unfolding recordAt
+  flags-at = as-number 8 s (82 * b + 9)
 
   pub number-at : (g : ℕ) → g < 8 → getD (recordAt s b .numbers) g 0 ≡ leAt 8 s (82 * b + 17 + 8 * g)
   unfolding recordAt

@@ -1,9 +1,11 @@
 // OpBatch: a batch's record by value, as it lies in the lent run of records, its structure test and the lookups in one batch.
 ghost use mathlib.Core.Path.{_≡_};
-ghost use Prim.Native.Nat.{ℕ, _+_, _*_, _≤_, _<_};
+ghost use mathlib.Core.Bool.{_&&_};
+ghost use Prim.Native.Nat.{ℕ, _+_, _-_, _*_, _%_, _≤_, _<_};
 ghost use lib.ListN.{length, getD, take, drop};
 ghost use lib.Dec.{leb};
 ghost use Rattle.rules.specs.Lists.{every};
+ghost use Rattle.rules.specs.Digits.{number};
 ghost use Rattle.rules.specs.Record.{differences, bytesAt, wordsAt, recordAt};
 ghost use Rattle.rules.specs.Checks.{startsRight, recordRight};
 ghost use Rattle.rules.specs.Lookups.{groupFrom};
@@ -35,39 +37,52 @@ pub enum NextGroup {
     Refused { number: u8, place: usize },
 }
 
-// ---- the structure test, where nine starts lie from one place of a run on and eight flags from a place of a run on
+// ---- the structure test, where nine starts lie from one place of a run on and eight flags from a place of a run on: all flags and all starts are looked
+// at, whatever the first ones say, so that the machine can look at them abreast
+
+fn flag_right(ok: bool, flag: u8) -> bool
+    ensures { λ r. ⌜ r ≡ (leb flag 1 && ok) ⌝ }
+{
+    if 1 < flag {
+        return false;
+    }
+    ok
+}
 
 fn flags_right(s: &[u8], at: usize) -> bool
     requires { ⌜ at + 8 ≤ length (now s) ⌝ }
     ensures { λ r. ⌜ r ≡ every (λ (f : ℕ). leb f 1) (bytesAt 8 (now (s .entry)) at) ⌝ }
 {
+    let mut ok = true;
     let mut i: usize = 0;
     while i < 8 {
-        if 1 < s[at + i] {
-            return false;
-        }
+        ok = flag_right(ok, s[at + i]);
         i += 1;
     }
-    true
+    ok
+}
+
+// The difference wraps where starts fall. Where the first is 0 and the ones before this rise by 9 at most, it is then over 9.
+fn start_right(ok: bool, start: u8, end: u8) -> bool
+    ensures { λ r. ⌜ r ≡ (leb ((end + 256 - start) % 256) 9 && ok) ⌝ }
+{
+    if 9 < std::num::wrapping_sub_u8(end, start) {
+        return false;
+    }
+    ok
 }
 
 fn starts_right(s: &[u8], at: usize) -> bool
-    requires { ⌜ at + 9 ≤ length (now s) ⌝ }
+    requires { ⌜ (at + 9 ≤ length (now s)) × (getD (now s) at 0 ≡ 0) ⌝ }
     ensures { λ r. ⌜ r ≡ startsRight (bytesAt 9 (now (s .entry)) at) ⌝ }
 {
+    let mut ok = true;
     let mut i: usize = 0;
     while i < 8 {
-        let start = word::wide(s[at + i]);
-        let end = word::wide(s[at + i + 1]);
-        if end < start {
-            return false;
-        }
-        if start + 9 < end {
-            return false;
-        }
+        ok = start_right(ok, s[at + i], s[at + i + 1]);
         i += 1;
     }
-    true
+    ok
 }
 
 fn layout_right(s: &[u8], at: usize, flags: &[u8], from: usize, count: u8) -> bool
@@ -113,6 +128,14 @@ pub fn flag(records: &[u8], b: usize, g: usize) -> u8
     ensures { λ r. ⌜ r ≡ getD (recordAt (now (records .entry)) b .flags) g 0 ⌝ }
 {
     records[RECORD * b + 9 + g]
+}
+
+// All eight as the bytes of one number, the first lowest: 0 where no flag is set.
+pub fn flags(records: &[u8], b: usize) -> u64
+    requires { ⌜ 82 * b + 82 ≤ length (now records) ⌝ }
+    ensures { λ r. ⌜ r ≡ number 256 (recordAt (now (records .entry)) b .flags) ⌝ }
+{
+    word::le8(records, RECORD * b + 9)
 }
 
 pub fn number(records: &[u8], b: usize, g: usize) -> u64

@@ -1,61 +1,45 @@
-use mathlib.Core.Path.{_≡_, sym, _∙_}
-use Prim.Native.Nat.{_-_, _≤_}
-use native.Mathlib.Omega.{arith}
-use native.Mathlib.Nat.{add-zero}
-use borrow.Author.Needs.{needs}
-use Rattle.rules.specs.Record.{bytesAt}
+use Rattle.op_batch.proofs.Bytes.{startsLeft, start-turn, starts-end}
 use Rattle.rules.specs.Checks.{startsRight}
-use Rattle.op_batch.proofs.Bytes.{startsLeft, start-turn, start-falls, start-over, starts-end}
+use Rattle.rules.specs.Record.{bytesAt}
+use lib.ListN.{getD}
+use borrow.Author.Needs.{needs}
+use native.Mathlib.Nat.{add-zero}
+use native.Mathlib.Omega.{arith}
+use Prim.Native.Nat.{ℕ, _+_, _-_, _*_, _≤_, _<_}
+use mathlib.Core.Bool.{Bool, true, _&&_}
+use mathlib.Core.Path.{_≡_, refl, sym, ap, _∙_}
 use Rattle.op_batch.proofs.starts_right.Statement.{statement}
 use Rattle.op_batch.proofs.starts_right.Tie as tie
 use Rattle.op_batch.proofs.starts_right.Reads as reads
 use Rattle.op_batch.proofs.starts_right.Lts as lts
-use Rattle.word.proofs.wide.Reads as wide-reads
+use Rattle.op_batch.proofs.start_right.Reads as start-right-reads
 
 abbrev Inv-loop : tie.InvT-loop
-Inv-loop s at i₀ i = (i ≤ 8) × (startsLeft s at i ≡ startsRight (bytesAt 9 s at))
+Inv-loop s at ok₀ i₀ ok i = (i ≤ 8) × ((ok && startsLeft s at i) ≡ startsRight (bytesAt 9 s at)) × (ok ≡ true → getD s (at + i) 0 ≤ 9 * i)
 
 abbrev μ-loop : tie.MeasureT-loop
-μ-loop s at i₀ i = 8 - i
+μ-loop s at ok₀ i₀ ok i = 8 - i
 
 loop-holds : tie.Need-loop-holds Inv-loop μ-loop
-loop-holds c = (omega arith, rw add-zero)
+loop-holds c = (omega arith, rw add-zero, λ e. rw add-zero (omega (arith, c .before .pre .1)))
 
-add-wide : tie.Need-add-wide Inv-loop μ-loop
-add-wide c = search needs
+add-start-right : tie.Need-add-start-right Inv-loop μ-loop
+add-start-right c = search needs
 
-shared-slice-read-wide : tie.Need-shared-slice-read-wide Inv-loop μ-loop
-shared-slice-read-wide c = search needs
+shared-slice-read-start-right : tie.Need-shared-slice-read-start-right Inv-loop μ-loop
+shared-slice-read-start-right c = search needs
 
-wide-requires : tie.Need-wide-requires Inv-loop μ-loop
-wide-requires c κs = search needs
+add-start-right-2 : tie.Need-add-start-right-2 Inv-loop μ-loop
+add-start-right-2 c = search needs
 
-add-wide-2 : tie.Need-add-wide-2 Inv-loop μ-loop
-add-wide-2 c = search needs
+add-start-right-3 : tie.Need-add-start-right-3 Inv-loop μ-loop
+add-start-right-3 c = search needs
 
-add-wide-3 : tie.Need-add-wide-3 Inv-loop μ-loop
-add-wide-3 c = search needs
+shared-slice-read-start-right-2 : tie.Need-shared-slice-read-start-right-2 Inv-loop μ-loop
+shared-slice-read-start-right-2 c = search needs
 
-shared-slice-read-wide-2 : tie.Need-shared-slice-read-wide-2 Inv-loop μ-loop
-shared-slice-read-wide-2 c = search needs
-
-wide-requires-2 : tie.Need-wide-requires-2 Inv-loop μ-loop
-wide-requires-2 c κs = search needs
-
-returns : tie.Need-returns Inv-loop μ-loop
-returns c =
-    let l = c .before .before .before .before .before .before .loop in
-    let a = c .before .before .before .before .before .before .before .before .args in
-    sym (start-falls (a .s .now) (a .at) (l .i) (omega arith) (omega arith)) ∙ l .inv .1
-
-add-if2 : tie.Need-add-if2 Inv-loop μ-loop
-add-if2 c = search needs
-
-returns-2 : tie.Need-returns-2 Inv-loop μ-loop
-returns-2 c =
-    let l = c .before .before .before .before .before .before .before .loop in
-    let a = c .before .before .before .before .before .before .before .before .before .args in
-    sym (start-over (a .s .now) (a .at) (l .i) (omega arith) (omega arith) (omega arith)) ∙ l .inv .1
+start-right-requires : tie.Need-start-right-requires Inv-loop μ-loop
+start-right-requires c κs = search needs
 
 add-i : tie.Need-add-i Inv-loop μ-loop
 add-i c = search needs
@@ -65,15 +49,17 @@ loop-less c = search needs
 
 loop-again : tie.Need-loop-again Inv-loop μ-loop
 loop-again c =
-    let l = c .before .before .before .before .before .before .before .loop in
-    let a = c .before .before .before .before .before .before .before .before .before .args in
-    (omega arith, start-turn (a .s .now) (a .at) (l .i) (omega arith) (omega arith) (omega arith) ∙ l .inv .1)
+    let l = c .before .before .before .before .loop in
+    let a = c .before .before .before .before .before .before .args in
+    let t = start-turn (a .s .now) (a .at) (l .i) (omega arith) (l .ok) (l .inv .2) (omega (arith, c .before .shared-slice-known3 .given (a .at + l .i + 1))) in
+    let e = c .start-right .ensures in
+    (omega arith, ap (λ (x : Bool). x && startsLeft (a .s .now) (a .at) (l .i + 1)) e ∙ t .0 ∙ l .inv .1, λ k. t .1 (sym e ∙ k))
 
-returns-3 : tie.Need-returns-3 Inv-loop μ-loop
-returns-3 c =
+returns : tie.Need-returns Inv-loop μ-loop
+returns c =
     let l = c .before .loop in
     let a = c .before .before .before .args in
-    sym (starts-end (a .s .now) (a .at) (l .i) (omega arith)) ∙ l .inv .1
+    starts-end (a .s .now) (a .at) (l .i) (l .ok) (omega arith) ∙ l .inv .1
 
 pub starts-right-spec : {M : Type 1} → statement M
 starts-right-spec =
@@ -82,17 +68,13 @@ starts-right-spec =
     Inv-loop
     μ-loop
     loop-holds
-    add-wide
-    shared-slice-read-wide
-    wide-requires
-    add-wide-2
-    add-wide-3
-    shared-slice-read-wide-2
-    wide-requires-2
-    returns
-    add-if2
-    returns-2
+    add-start-right
+    shared-slice-read-start-right
+    add-start-right-2
+    add-start-right-3
+    shared-slice-read-start-right-2
+    start-right-requires
     add-i
     loop-less
     loop-again
-    returns-3)
+    returns)
