@@ -2,16 +2,18 @@
 use mathlib.Core.Path.{_≡_, refl, ap}
 use mathlib.Core.Bool.{Bool, true, _&&_}
 use mathlib.Core.List.{List, [], _∷_}
-use Prim.Native.Nat.{ℕ, zero, suc, _+_, _-_, _*_, _≤_, _<_}
+use Prim.Native.Nat.{ℕ, zero, suc, _+_, _-_, _*_, _/_, _≤_, _<_}
 use native.Mathlib.Numerals.{add-one}
 use native.Mathlib.Omega.{arith}
 use borrow.Author.Tests.{leb-true, eqb-true}
-use lib.ListN.{length, getD}
+use lib.ListN.{length, getD, drop, drop-of-length-le}
+use lib.Seq.{drop-cons}
 use lib.Dec.{leb, eqb}
 use Rattle.rules.specs.Lists.{every}
 use Rattle.rules.specs.Digits.{number, leAt}
 use Rattle.rules.specs.Record.{Record, bytesAt, recordAt}
 use Rattle.rules.specs.Checks.{ninth, startsRight, recordRight}
+use Rattle.rules.proofs.Digits.{split}
 use Rattle.rules.proofs.Operations.{true-left, true-right}
 use Rattle.op_batch.proofs.Bytes.{bytes-length, words-length, byte, word}
 
@@ -76,6 +78,24 @@ module _ (w : ℕ) (r : Record) (x : Sound w r) (l : length (r .starts) ≡ 9) w
 
   pub below-ninth : (g : ℕ) → g < 9 → getD (r .starts) g 0 ≤ ninth r
   below-ninth g h = down (8 - g) g (omega arith)
+
+-- ---- the eight flags from the g-th on, as one number
+
+module _ (w : ℕ) (r : Record) (x : Sound w r) (l : length (r .flags) ≡ 8) where
+  pub flagged : (g left : ℕ) → left ≡ number 256 (drop g (r .flags)) → 0 < left → g < 8
+  unfolding number
+  flagged g left e h =
+      split g 8
+      (λ k. k)
+      (λ k. let z : number 256 (drop g (r .flags)) ≡ 0 = rw (drop-of-length-le (r .flags) {i = g} (omega arith)) in absurd (omega arith))
+
+  pub flags-ahead : (g : ℕ) → g < 8 → number 256 (drop g (r .flags)) ≡ getD (r .flags) g 0 + 256 * number 256 (drop (g + 1) (r .flags))
+  unfolding number
+  flags-ahead g h = rw (add-one g, drop-cons (r .flags) g 0 (omega arith))
+
+  -- a flag is 0 or 1, so that those after it are the rest
+  pub flags-turn : (g left : ℕ) → left ≡ number 256 (drop g (r .flags)) → g < 8 → left / 256 ≡ number 256 (drop (g + 1) (r .flags))
+  flags-turn g left e h = omega (arith, flags-ahead g h, x .flags g (omega arith))
 
 -- ---- records of a run
 

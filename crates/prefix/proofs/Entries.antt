@@ -2,8 +2,8 @@
 use mathlib.Core.Path.{_≡_, refl, sym, ap, ap₂, _∙_}
 use mathlib.Core.Bool.{Bool, true, false, cond, not}
 use mathlib.Core.List.{List, [], _∷_, _++_, append-assoc}
-use Prim.Native.Nat.{ℕ, zero, suc, _+_, _-_, _≤_, _<_}
-use native.Mathlib.Nat.{add-zero, sub-zero}
+use Prim.Native.Nat.{ℕ, zero, suc, _+_, _-_, _*_, _≤_, _<_}
+use native.Mathlib.Nat.{add-zero, zero-add, suc-add, sub-zero}
 use native.Mathlib.Numerals.{add-one}
 use native.Mathlib.Omega.{arith}
 use borrow.Author.Tests.{lt-ltb, le-ltb}
@@ -11,19 +11,21 @@ use lib.ListN.{length, getD, take, drop, replicate, length-append, length-replic
 use lib.Seq.{sets, sets-eq, drop-cons, take-append-seam}
 use lib.Dec.{ltb, eqb}
 use Rattle.rules.specs.Lists.{fitted}
+use Rattle.rules.specs.Digits.{number}
 use Rattle.rules.specs.Answer.{Answer, good, refuse, refuseFirst}
 use Rattle.rules.specs.Record.{Record, Block, differences, recordAt, recordsFrom, recordsIn}
-use Rattle.rules.specs.Checks.{structureFaults, paddingFaults}
+use Rattle.rules.specs.Checks.{ninth, structureFaults, paddingFaults}
 use Rattle.rules.specs.Lookups.{marksIn, marksOf, marks, rawEntries, paddedEntries, rawTable, paddedTable}
 use Rattle.rules.specs.Functions.{Arena, blockIn, within, paddingChecked, tableOf, tableLeft}
 use Rattle.rules.proofs.Digits.{sets-append}
 use Rattle.rules.proofs.Runs.{zeroed}
 use Rattle.operation.specs.Verdict.{verdictOf}
 use Rattle.operation.specs.declared.Verdict.the-variants.{Refused}
+use Rattle.op_batch.proofs.Right.{Sound, rise, below-ninth, flags-ahead}
 use Rattle.checks.proofs.Walk.{records-turn, records-end}
 use Rattle.checks.proofs.Passed.{was-refused, andThen, refuse-then, first-then, went-on}
 use Rattle.prefix.specs.declared.Tabled.the-variants as tabled
-use Rattle.prefix.specs.Tables.{Answered, tableBy, tableFrom, padsIn, keptIn, marksAt, Filling}
+use Rattle.prefix.specs.Tables.{Answered, tableBy, tableFrom, padsIn, keptIn, marksAt, ahead, Filling}
 
 -- ---- the marks of a batch
 
@@ -71,24 +73,79 @@ group padded (suc n) f k rest =
 
 -- ---- a turn of the walk over groups, and its end, in the form of `Goes`
 
-module _ (padded : Bool) (r : Record) (s : length (r .starts) ≡ 9) (f : length (r .flags) ≡ 8) (g : ℕ) (h : g < 8) (k n p : ℕ)
+ends : (w k : ℕ) → replicate w k ++ (k ∷ []) ≡ replicate (w + 1) k
+ends zero k = refl
+ends (suc w) k = ap (λ (l : List ℕ). k ∷ l) (ends w k) ∙ ap (λ (m : ℕ). replicate m k) (sym (suc-add w 1))
+
+copies : (w n k : ℕ) (es : List ℕ) → replicate w k ++ (replicate n k ++ es) ≡ replicate (w + n) k ++ es
+copies zero n k es = ap (λ (m : ℕ). replicate m k ++ es) (sym (zero-add n))
+copies (suc w) n k es = ap (λ (l : List ℕ). k ∷ l) (copies w n k es) ∙ ap (λ (m : ℕ). replicate m k ++ es) (sym (suc-add w n))
+
+module _ (padded : Bool) (r : Record) (s : length (r .starts) ≡ 9) (f : length (r .flags) ≡ 8) (g : ℕ) (h : g < 8) (k w n p : ℕ)
     (en : n ≡ keptIn padded (getD (r .starts) (g + 1) 0 - getD (r .starts) g 0) p)
     (ep : p ≡ padsIn (getD (r .starts) (g + 1) 0 - getD (r .starts) g 0) (getD (r .flags) g 0)) (rest : List Bool) where
-  one : tableFrom padded k (marksAt r g ++ rest) ≡ replicate n k ++ tableFrom padded (k + p) (marksAt r (g + 1) ++ rest)
+  one : ahead padded w k (marksAt r g ++ rest) ≡ replicate (w + n) k ++ tableFrom padded (k + p) (marksAt r (g + 1) ++ rest)
   one =
-      ap (λ (ms : List Bool). tableFrom padded k (ms ++ rest)) (marks-turn r s f g h)
-      ∙ ap (tableFrom padded k) (append-assoc (marksIn (getD (r .starts) (g + 1) 0 - getD (r .starts) g 0) (getD (r .flags) g 0)) (marksAt r (g + 1)) rest)
-      ∙ group padded (getD (r .starts) (g + 1) 0 - getD (r .starts) g 0) (getD (r .flags) g 0) k (marksAt r (g + 1) ++ rest)
-      ∙ rw (en, ep)
+      ap (λ (ms : List Bool). ahead padded w k (ms ++ rest)) (marks-turn r s f g h)
+      ∙ ap (ahead padded w k) (append-assoc (marksIn (getD (r .starts) (g + 1) 0 - getD (r .starts) g 0) (getD (r .flags) g 0)) (marksAt r (g + 1)) rest)
+      ∙ ap (λ (l : List ℕ). replicate w k ++ l) (group padded (getD (r .starts) (g + 1) 0 - getD (r .starts) g 0) (getD (r .flags) g 0) k (marksAt r (g + 1) ++ rest) ∙ rw (en, ep))
+      ∙ copies w n k (tableFrom padded (k + p) (marksAt r (g + 1) ++ rest))
 
-  pub run-turn : (out out′ : List ℕ) (at : ℕ) → out′ ≡ sets out at (replicate n k)
-      → sets out′ (at + n) (tableFrom padded (k + p) (marksAt r (g + 1) ++ rest)) ≡ sets out at (tableFrom padded k (marksAt r g ++ rest))
-  run-turn out out′ at e =
-      let more = tableFrom padded (k + p) (marksAt r (g + 1) ++ rest) in
-      ap₂ (λ (l : List ℕ) (m : ℕ). sets l (at + m) more) e (sym (length-replicate {A = ℕ} n k)) ∙ sym (ap (sets out at) one ∙ sets-append out at (replicate n k) more)
+  -- no padding
+  pub wait-turn : p ≡ 0 → ahead padded (w + n) k (marksAt r (g + 1) ++ rest) ≡ ahead padded w k (marksAt r g ++ rest)
+  wait-turn z = sym (one ∙ ap (λ (m : ℕ). replicate (w + n) k ++ tableFrom padded m (marksAt r (g + 1) ++ rest)) (omega arith))
 
-  pub entries-turn : (at : ℕ) → at + n + length (tableFrom padded (k + p) (marksAt r (g + 1) ++ rest)) ≡ at + length (tableFrom padded k (marksAt r g ++ rest))
-  entries-turn at = omega (arith, ap length one, length-append (replicate n k) (tableFrom padded (k + p) (marksAt r (g + 1) ++ rest)), length-replicate {A = ℕ} n k)
+  -- a padding
+  pub run-turn : p ≡ 1 → (out out′ : List ℕ) (at : ℕ) → out′ ≡ sets out at (replicate (w + n) k)
+      → sets out′ (at + (w + n)) (ahead padded 0 (k + 1) (marksAt r (g + 1) ++ rest)) ≡ sets out at (ahead padded w k (marksAt r g ++ rest))
+  run-turn z out out′ at e =
+      let more = tableFrom padded (k + 1) (marksAt r (g + 1) ++ rest) in
+      ap₂ (λ (l : List ℕ) (m : ℕ). sets l (at + m) more) e (sym (length-replicate {A = ℕ} (w + n) k))
+      ∙ sym (ap (sets out at) (one ∙ ap (λ (m : ℕ). replicate (w + n) k ++ tableFrom padded (k + m) (marksAt r (g + 1) ++ rest)) z) ∙ sets-append out at (replicate (w + n) k) more)
+
+  pub entries-turn : p ≡ 1 → (at : ℕ) → at + (w + n) + length (ahead padded 0 (k + 1) (marksAt r (g + 1) ++ rest)) ≡ at + length (ahead padded w k (marksAt r g ++ rest))
+  entries-turn z at =
+      let more = tableFrom padded (k + 1) (marksAt r (g + 1) ++ rest) in
+      omega (
+        arith,
+        ap length (one ∙ ap (λ (m : ℕ). replicate (w + n) k ++ tableFrom padded (k + m) (marksAt r (g + 1) ++ rest)) z),
+        length-append (replicate (w + n) k) more,
+        length-replicate {A = ℕ} (w + n) k,
+      )
+
+-- no flag is set from the g-th group on
+module _ (padded : Bool) (r : Record) (x : Sound 8 r) (s : length (r .starts) ≡ 9) (f : length (r .flags) ≡ 8) (k : ℕ) (rest : List Bool) where
+  unpadded : (n : ℕ) → keptIn padded n 0 ≡ n
+  unpadded n = go padded
+    where
+      go : (b : Bool) → cond b n (n - 0) ≡ n
+      go true = refl
+      go false = sub-zero n
+
+  plain-pads : (n v : ℕ) → v ≡ 0 → 0 ≡ padsIn n v
+  plain-pads zero v e = refl
+  plain-pads (suc n) v e = rw e
+
+  still : (j g w : ℕ) → g + j ≡ 8 → number 256 (drop g (r .flags)) ≡ 0
+      → ahead padded (w + (ninth r - getD (r .starts) g 0)) k rest ≡ ahead padded w k (marksAt r g ++ rest)
+  still zero g w h e =
+      let z : g ≡ 8 = omega arith in
+      let d : w + (ninth r - getD (r .starts) g 0) ≡ w = rw z (omega arith) in
+      ap (λ (m : ℕ). ahead padded m k rest) d ∙ sym (ap (λ (ms : List Bool). ahead padded w k (ms ++ rest)) (marks-end r s f g z))
+  still (suc j) g w h e =
+      let l : g < 8 = omega arith in
+      let a = flags-ahead 8 r x f g l in
+      let up = rise 8 r x s g l in
+      let top = below-ninth 8 r x s (g + 1) (omega arith) in
+      let n = getD (r .starts) (g + 1) 0 - getD (r .starts) g 0 in
+      let d : w + (ninth r - getD (r .starts) g 0) ≡ w + n + (ninth r - getD (r .starts) (g + 1) 0) = omega (arith, up, top) in
+      ap (λ (m : ℕ). ahead padded m k rest) d
+      ∙ still j (g + 1) (w + n) (omega arith) (omega (arith, a))
+      ∙ wait-turn padded r s f g l k w n 0 (sym (unpadded n)) (plain-pads n (getD (r .flags) g 0) (omega (arith, a))) rest refl
+
+  pub rest-waits : (g w left : ℕ) → g ≤ 8 → left ≡ number 256 (drop g (r .flags)) → left ≡ 0
+      → ahead padded (w + (ninth r - getD (r .starts) g 0)) k rest ≡ ahead padded w k (marksAt r g ++ rest)
+  rest-waits g w left h e z = still (8 - g) g w (omega arith) (sym e ∙ z)
 
 -- ---- batch by batch
 
@@ -101,10 +158,10 @@ unfolding marks
 marks-none n s b h = rw (records-end n s b h)
 
 -- the last entry
-pub last-entry : (padded : Bool) (k : ℕ) → tableFrom padded k [] ≡ k ∷ []
+pub last-entry : (padded : Bool) (w k : ℕ) → ahead padded w k [] ≡ replicate (w + 1) k
 unfolding rawEntries paddedEntries
-last-entry true k = refl
-last-entry false k = refl
+last-entry true w k = ends w k
+last-entry false w k = ends w k
 
 -- ---- the whole answer
 

@@ -4,7 +4,7 @@ use mathlib.Core.Bool.{Bool, true, false, cond}
 use mathlib.Core.List.{List, _++_}
 use mathlib.Core.Option.{Option, none, some}
 use Prim.Native.Nat.{ℕ, zero, suc, _+_, _-_}
-use lib.ListN.{length, drop}
+use lib.ListN.{length, drop, replicate}
 use lib.Seq.{sets}
 use lib.Dec.{leb, eqb}
 use Rattle.rules.specs.Answer.{Answer, good, refused}
@@ -66,10 +66,14 @@ keptIn padded n p = cond padded n (n - p)
 unfoldable pub marksAt : Record → ℕ → List Bool
 marksAt r g = marksOf (differences (drop g (r .starts))) (drop g (r .flags))
 
--- The entries for these marks were written: whatever marks come after them, to go on from the state reached gives what going on from the one before gives.
+-- what is still to be written: w entries of the value k, which wait, and those for the marks that come
+abbrev pub ahead : Bool → ℕ → ℕ → List Bool → List ℕ
+ahead padded w k ms = replicate w k ++ tableFrom padded k ms
+
+-- The entries for these marks were written or wait: whatever marks come after them, to go on from the state reached gives what going on from the one before gives.
 pub record Goes (padded : Bool) (ms : List Bool) (c d : Filled) (out out′ : List ℕ) : Type 0 where
-  pub run : (rest : List Bool) → sets out′ (d .entries) (tableFrom padded (d .paddings) rest) ≡ sets out (c .entries) (tableFrom padded (c .paddings) (ms ++ rest))
-  pub entries : (rest : List Bool) → d .entries + length (tableFrom padded (d .paddings) rest) ≡ c .entries + length (tableFrom padded (c .paddings) (ms ++ rest))
+  pub run : (rest : List Bool) → sets out′ (d .entries) (ahead padded (d .waiting) (d .paddings) rest) ≡ sets out (c .entries) (ahead padded (c .waiting) (c .paddings) (ms ++ rest))
+  pub entries : (rest : List Bool) → d .entries + length (ahead padded (d .waiting) (d .paddings) rest) ≡ c .entries + length (ahead padded (c .waiting) (c .paddings) (ms ++ rest))
 
 -- a table was written to the front of a run, as far as it goes, and its entries counted
 pub record Filling (table : List ℕ) (n : ℕ) (out out′ : List ℕ) : Type 0 where

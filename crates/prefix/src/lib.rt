@@ -82,14 +82,26 @@ pub fn padded_to_raw_index(table: &[u64], i: PaddedIndex) -> RawFound
 
 // ---- tables: `padded` says which of the two, and is all they differ in
 
-// How far a table is: entries written, paddings counted.
+// How far a table is: entries written, entries after them that wait until the next padding since their value is the same, paddings counted.
 struct Filled {
     entries: usize,
+    waiting: usize,
     paddings: usize,
 }
 
-// n copies of a value, those past the end left out.
-fn fill64(out: &mut [u64], at: usize, n: usize, v: u64)
+// n copies of a value, where there is room for them: no test in the loop.
+fn fill_room(out: &mut [u64], at: usize, n: usize, v: u64)
+    requires { ⌜ at + n ≤ length (now out) ⌝ }
+    ensures { λ _. ⌜ now (out .exit) ≡ sets (now (out .entry)) at (replicate n v) ⌝ }
+{
+    let mut i: usize = 0;
+    while i < n {
+        out[at + i] = v;
+        i += 1;
+    }
+}
+
+fn fill_some(out: &mut [u64], at: usize, n: usize, v: u64)
     requires { ⌜ at + n < 2 ^ 63 ⌝ }
     ensures { λ _. ⌜ now (out .exit) ≡ sets (now (out .entry)) at (replicate n v) ⌝ }
 {
@@ -98,6 +110,18 @@ fn fill64(out: &mut [u64], at: usize, n: usize, v: u64)
         word::store64(out, at + i, v);
         i += 1;
     }
+}
+
+// n copies of a value, those past the end left out.
+fn fill64(out: &mut [u64], at: usize, n: usize, v: u64)
+    requires { ⌜ at + n < 2 ^ 63 ⌝ }
+    ensures { λ _. ⌜ now (out .exit) ≡ sets (now (out .entry)) at (replicate n v) ⌝ }
+{
+    if at + n <= out.len() {
+        fill_room(out, at, n, v);
+        return;
+    }
+    fill_some(out, at, n, v);
 }
 
 // The flagged paddings of a group, 0 or 1.
@@ -124,27 +148,40 @@ fn kept_in(padded: bool, size: usize, pads: usize) -> usize
     size - pads
 }
 
-// The entries of one batch, group by group.
+// The entries of one batch, group by group as far as flags are set.
 fn batch_entries(records: &[u8], b: usize, padded: bool, from: Filled, out: &mut [u64]) -> Filled
     requires { ⌜ (82 * b + 82 ≤ length (now records)) × (recordRight 8 (recordAt (now records) b) ≡ true) × (b < 16384) ⌝ }
-    requires { ⌜ (from .entries ≤ 72 * b) × (from .paddings ≤ 8 * b) ⌝ }
+    requires { ⌜ (from .entries + from .waiting ≤ 72 * b) × (from .paddings ≤ 8 * b) ⌝ }
     ensures { λ r. ⌜ Goes padded (marksAt (recordAt (now (records .entry)) b) 0) from r (now (out .entry)) (now (out .exit)) ⌝ }
-    ensures { λ r. ⌜ (r .entries ≤ 72 * (b + 1)) × (r .paddings ≤ 8 * (b + 1)) ⌝ }
+    ensures { λ r. ⌜ (r .entries + r .waiting ≤ 72 * (b + 1)) × (r .paddings ≤ 8 * (b + 1)) ⌝ }
 {
     let mut entries = from.entries;
+    let mut waiting = from.waiting;
     let mut paddings = from.paddings;
+    let mut left = op_batch::flags(records, b); // those from the g-th on
     let mut g: usize = 0;
-    while g < 8 {
+    while 0 < left {
+        left /= 256;
         let size = op_batch::start(records, b, g + 1) - op_batch::start(records, b, g);
         let pads = pads_in(size, op_batch::flag(records, b, g));
-        let n = kept_in(padded, size, pads);
-        let next = paddings + pads;
+        let n = waiting + kept_in(padded, size, pads);
+        if pads == 0 {
+            waiting = n;
+            g += 1;
+            continue;
+        }
         fill64(out, entries, n, paddings as u64);
         entries += n;
-        paddings = next;
+        waiting = 0;
+        paddings += 1;
         g += 1;
     }
-    Filled { entries, paddings }
+    let more = op_batch::start(records, b, 8) - op_batch::start(records, b, g);
+    Filled {
+        entries,
+        waiting: waiting + more,
+        paddings,
+    }
 }
 
 // A whole table, and how many entries it has; those past the end of the lent run are left out.
@@ -156,6 +193,7 @@ fn fill(records: &[u8], padded: bool, out: &mut [u64]) -> usize
     let n = records.len() / RECORD;
     let mut done = Filled {
         entries: 0,
+        waiting: 0,
         paddings: 0,
     };
     let mut b: usize = 0;
@@ -163,8 +201,9 @@ fn fill(records: &[u8], padded: bool, out: &mut [u64]) -> usize
         done = batch_entries(records, b, padded, done, out);
         b += 1;
     }
-    word::store64(out, done.entries, done.paddings as u64);
-    done.entries + 1
+    let last = done.waiting + 1;
+    fill64(out, done.entries, last, done.paddings as u64);
+    done.entries + last
 }
 
 // Both tables, for callers that tell them apart by a value.

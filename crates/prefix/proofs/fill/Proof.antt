@@ -1,31 +1,30 @@
-use mathlib.Core.Path.{_≡_, refl, ap, _∙_}
-use mathlib.Core.List.{[], _∷_}
-use Prim.Native.Nat.{_+_, _-_, _*_, _/_, _≤_}
-use native.Mathlib.Omega.{arith}
-use native.Mathlib.Nat.{sub-zero}
-use borrow.Author.Needs.{needs}
-use lib.ListN.{length}
-use lib.Seq.{sets}
-use Rattle.rules.specs.Record.{recordsFrom, recordsIn}
-use Rattle.rules.specs.Lookups.{marks}
-use Rattle.prefix.specs.Tables.{tableFrom}
 use Rattle.prefix.proofs.Entries.{marks-next, marks-none, last-entry}
+use Rattle.prefix.specs.Tables.{tableFrom, ahead}
+use Rattle.rules.specs.Lookups.{marks}
+use Rattle.rules.specs.Record.{recordsFrom, recordsIn}
+use lib.Seq.{sets}
+use lib.ListN.{length, replicate, length-replicate}
+use borrow.Author.Needs.{needs}
+use native.Mathlib.Nat.{sub-zero}
+use native.Mathlib.Omega.{arith}
+use Prim.Native.Nat.{_+_, _-_, _*_, _/_, _≤_}
+use mathlib.Core.Path.{_≡_, refl, sym, ap, _∙_}
 use Rattle.prefix.proofs.fill.Statement.{statement}
 use Rattle.prefix.proofs.fill.Tie as tie
 use Rattle.prefix.proofs.fill.Reads as reads
 use Rattle.prefix.proofs.fill.Lts as lts
 use Rattle.prefix.proofs.batch_entries.Reads as batch-entries-reads
-use Rattle.word.proofs.store64.Reads as store64-reads
+use Rattle.prefix.proofs.fill64.Reads as fill64-reads
 
 abbrev Inv-loop : tie.InvT-loop
 Inv-loop records padded out₀ n done₀ b₀ out done b =
     (n ≡ length records / 82)
     × (b ≤ n)
     × (length out ≡ length out₀)
-    × (done .entries ≤ 72 * b)
+    × (done .entries + done .waiting ≤ 72 * b)
     × (done .paddings ≤ 8 * b)
-    × (sets out (done .entries) (tableFrom padded (done .paddings) (marks (recordsFrom (length records / 82 - b) records b))) ≡ sets out₀ 0 (tableFrom padded 0 (marks (recordsFrom (length records / 82) records 0))))
-    × (done .entries + length (tableFrom padded (done .paddings) (marks (recordsFrom (length records / 82 - b) records b))) ≡ length (tableFrom padded 0 (marks (recordsFrom (length records / 82) records 0))))
+    × (sets out (done .entries) (ahead padded (done .waiting) (done .paddings) (marks (recordsFrom (length records / 82 - b) records b))) ≡ sets out₀ 0 (tableFrom padded 0 (marks (recordsFrom (length records / 82) records 0))))
+    × (done .entries + length (ahead padded (done .waiting) (done .paddings) (marks (recordsFrom (length records / 82 - b) records b))) ≡ length (tableFrom padded 0 (marks (recordsFrom (length records / 82) records 0))))
 
 abbrev μ-loop : tie.MeasureT-loop
 μ-loop records padded out₀ n done₀ b₀ out done b = n - b
@@ -46,8 +45,7 @@ loop-less c = search needs
 
 loop-again : tie.Need-loop-again Inv-loop μ-loop
 loop-again c =
-    let a = c .before .before .before .before .before .before .before .before .args in
-    let s = a .records .now in
+    let s = c .before .before .before .before .before .before .before .before .args .records .now in
     let l = c .before .before .before .before .before .loop in
     let e = c .before .before .batch-entries .ensures in
     let more = marks (recordsFrom (length s / 82 - (l .b + 1)) s (l .b + 1)) in
@@ -61,24 +59,28 @@ loop-again c =
       e .0 .entries more ∙ (rw next at (l .inv .6)),
     )
 
-store64-requires : tie.Need-store64-requires Inv-loop μ-loop
-store64-requires c κs = search needs
+add-last : tie.Need-add-last Inv-loop μ-loop
+add-last c = search needs
+
+fill64-requires : tie.Need-fill64-requires Inv-loop μ-loop
+fill64-requires c κs = search needs
 
 add-result : tie.Need-add-result Inv-loop μ-loop
 add-result c = search needs
 
 same-length : tie.Need-same-length Inv-loop μ-loop
-same-length c = omega (arith, c .before .before .before .store64 .kept)
+same-length c = omega (arith, c .before .before .before .fill64 .kept)
 
 returns : tie.Need-returns Inv-loop μ-loop
 unfolding recordsIn
 returns c =
-    let a = c .before .before .before .before .before .before .before .before .before .args in
+    let a = c .before .before .before .before .before .before .before .before .before .before .args in
     let s = a .records .now in
-    let l = c .before .before .before .before .before .before .loop in
+    let l = c .before .before .before .before .before .before .before .loop in
+    let w = l .done .waiting in
     let k = l .done .paddings in
-    let z : tableFrom (a .padded) k (marks (recordsFrom (length s / 82 - l .b) s (l .b))) ≡ k ∷ [] = ap (tableFrom (a .padded) k) (marks-none (length s / 82) s (l .b) (omega arith)) ∙ last-entry (a .padded) k in
-    record { entries = omega (arith, ap length z, l .inv .6); run = c .before .before .before .store64 .ensures ∙ (rw z at (l .inv .5)) }
+    let z : ahead (a .padded) w k (marks (recordsFrom (length s / 82 - l .b) s (l .b))) ≡ replicate (w + 1) k = ap (ahead (a .padded) w k) (marks-none (length s / 82) s (l .b) (omega arith)) ∙ last-entry (a .padded) w k in
+    record { entries = omega (arith, ap length z, l .inv .6, length-replicate (w + 1) k); run = c .before .before .before .fill64 .ensures ∙ (rw z at (l .inv .5)) }
 
 pub fill-spec : {M : Type 1} → statement M
 fill-spec =
@@ -91,7 +93,8 @@ fill-spec =
     add-b
     loop-less
     loop-again
-    store64-requires
+    add-last
+    fill64-requires
     add-result
     same-length
     returns)

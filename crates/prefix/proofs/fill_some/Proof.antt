@@ -7,10 +7,10 @@ use borrow.Author.Needs.{needs}
 use lib.ListN.{length, replicate}
 use lib.Seq.{sets}
 use Rattle.rules.proofs.Runs.{fill-turn, fill-end}
-use Rattle.prefix.proofs.fill64.Statement.{statement}
-use Rattle.prefix.proofs.fill64.Tie as tie
-use Rattle.prefix.proofs.fill64.Reads as reads
-use Rattle.prefix.proofs.fill64.Lts as lts
+use Rattle.prefix.proofs.fill_some.Statement.{statement}
+use Rattle.prefix.proofs.fill_some.Tie as tie
+use Rattle.prefix.proofs.fill_some.Reads as reads
+use Rattle.prefix.proofs.fill_some.Lts as lts
 use Rattle.word.proofs.store64.Reads as store64-reads
 
 abbrev Inv-loop : tie.InvT-loop
@@ -49,8 +49,8 @@ returns c =
     let a = c .before .before .before .args in
     sym (fill-end (l .out) (a .at + l .i) (l .i) (a .n) (a .v) (c .loop-test .left)) ∙ l .inv .2
 
-pub fill64-spec : {M : Type 1} → statement M
-fill64-spec =
+pub fill-some-spec : {M : Type 1} → statement M
+fill-some-spec =
     tie.close
     (tie.spec
     Inv-loop
