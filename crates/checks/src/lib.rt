@@ -129,9 +129,9 @@ pub fn padding(codes: &[u8], values: &[u64], records: &[u8]) -> Verdict
     ensures { λ r. ⌜ r ≡ verdictOf (paddingChecked 8 (arena (now (codes .entry)) (now (values .entry)) (now (records .entry)))) ⌝ }
 {
     let v = structure(codes, values, records);
-    let Verdict::Passed = v else {
-        return v;
-    };
+    if let Verdict::Refused { number, place } = v {
+        return Verdict::Refused { number, place };
+    }
     padding_fault(codes, values, records)
 }
 

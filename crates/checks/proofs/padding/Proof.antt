@@ -1,10 +1,10 @@
+use Rattle.checks.proofs.Passed.{was-good, structure-then, went-on, handed-on}
+use Rattle.operation.specs.Verdict.{verdictOf}
+use Rattle.rules.specs.Functions.{arena, blockIn, structureChecked, paddingChecked}
+use Rattle.rules.specs.Checks.{paddingFaults}
+use Rattle.rules.specs.Answer.{good, refuseFirst}
 use mathlib.Core.Path.{sym, ap, _∙_}
 use borrow.Author.Needs.{needs}
-use Rattle.rules.specs.Answer.{good, refuseFirst}
-use Rattle.rules.specs.Checks.{paddingFaults}
-use Rattle.rules.specs.Functions.{arena, blockIn, structureChecked, paddingChecked}
-use Rattle.operation.specs.Verdict.{verdictOf}
-use Rattle.checks.proofs.Passed.{was-good, structure-then, went-on, handed-on}
 use Rattle.checks.proofs.padding.Statement.{statement}
 use Rattle.checks.proofs.padding.Tie as tie
 use Rattle.checks.proofs.padding.Reads as reads
@@ -15,19 +15,19 @@ use Rattle.checks.proofs.structure.Reads as structure-reads
 structure-requires : tie.Need-structure-requires
 structure-requires c κs = search needs
 
-enum-told : tie.Need-enum-told
-enum-told c = search needs
-
-enum-told-2 : tie.Need-enum-told-2
-enum-told-2 c = search needs
+enum-known-v : tie.Need-enum-known-v
+enum-known-v c = search needs
 
 returns : tie.Need-returns
 unfolding paddingChecked
 returns c =
-    let a = c .before .before .before .before .before .before .args in
+    let a = c .before .before .before .before .before .before .before .args in
     let n = arena (a .codes .now) (a .values .now) (a .records .now) in
-    let e = c .before .before .structure .ensures in
-    e ∙ sym (ap verdictOf (structure-then 8 n (refuseFirst 0 (paddingFaults (blockIn n)) (good tt))) ∙ handed-on (structureChecked 8 n) _ _ _ (sym e ∙ c .enum-told2 .given .1))
+    let e = sym (c .before .before .before .structure .ensures) ∙ c .before .v .given .1 in
+    sym (ap verdictOf (structure-then 8 n (refuseFirst 0 (paddingFaults (blockIn n)) (good tt))) ∙ handed-on (structureChecked 8 n) _ _ _ e ∙ e)
+
+enum-told : tie.Need-enum-told
+enum-told c = search needs
 
 padding-fault-requires : tie.Need-padding-fault-requires
 padding-fault-requires c κs = was-good _ (sym (c .before .before .structure .ensures) ∙ c .enum-told .given .1)
@@ -44,4 +44,4 @@ returns-2 c =
 pub padding-spec : {M : Type 1} → statement M
 padding-spec =
     tie.close
-    (tie.spec structure-requires enum-told enum-told-2 returns padding-fault-requires returns-2)
+    (tie.spec structure-requires enum-known-v returns enum-told padding-fault-requires returns-2)
