@@ -5,3 +5,4 @@ pub mod Indexes
 pub mod Guards
 pub mod Tables
 pub mod Builds
+pub mod OneAnswer
