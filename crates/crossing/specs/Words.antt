@@ -10,10 +10,14 @@ use Rattle.rules.specs.Record.{wordsAt}
 unfoldable pub wordsIn : List ℕ → List ℕ
 wordsIn s = wordsAt (length s / 8) s 0
 
+-- whether the bytes are whole numbers
+abbrev pub whole : List ℕ → Bool
+whole s = eqb (length s % 8) 0
+
 -- whole numbers, and few enough for the work space; a block has fewer values
 unfoldable pub fewWords : List ℕ → Bool
-fewWords s = eqb (length s % 8) 0 && leb (length s / 8) 65536
+fewWords s = whole s && leb (length s / 8) 65536
 
--- whether whole numbers lie in a run, and an i-th among them
+-- whole numbers, and an i-th among them
 unfoldable pub hasWord : List ℕ → ℕ → Bool
-hasWord s i = eqb (length s % 8) 0 && ltb i (length s / 8)
+hasWord s i = whole s && ltb i (length s / 8)

@@ -20,19 +20,13 @@ pub fn room() -> [u64; 65536]
 pub fn few_words(s: &[u8]) -> bool
     ensures { λ r. ⌜ r ≡ fewWords (now (s .entry)) ⌝ }
 {
-    if s.len() % 8 != 0 {
-        return false;
-    }
-    s.len() / 8 <= MOST
+    s.len() % 8 == 0 && s.len() / 8 <= MOST
 }
 
 pub fn has_word(s: &[u8], i: usize) -> bool
     ensures { λ r. ⌜ r ≡ hasWord (now (s .entry)) i ⌝ }
 {
-    if s.len() % 8 != 0 {
-        return false;
-    }
-    i < s.len() / 8
+    s.len() % 8 == 0 && i < s.len() / 8
 }
 
 // ---- in

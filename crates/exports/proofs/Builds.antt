@@ -1,19 +1,19 @@
 -- Build with values that cross as bytes: more room than the longest block has makes no difference. Assumes nothing.
-use mathlib.Core.Path.{_≡_, refl, sym, ap, _∙_}
+use mathlib.Core.Path.{_≡_, refl, ap, _∙_}
 use mathlib.Core.Bool.{Bool, true, false, not, _&&_, _||_}
-use mathlib.Core.List.{List, [], _∷_, map}
-use Prim.Native.Nat.{ℕ, zero, suc, _+_, _*_, _/_, _≤_, _<_, min, zero-le}
+use mathlib.Core.List.{List, [], map}
+use Prim.Native.Nat.{ℕ, _/_, _≤_, _<_, min, zero-le}
 use native.Mathlib.Omega.{arith}
-use borrow.Author.Tests.{lt-ltb, ltb-false, leb-true, eqb-true, ne-eqb, not-false}
+use borrow.Author.Tests.{lt-ltb, ltb-false, leb-true, eqb-true, not-false}
 use lib.ListN.{length}
 use lib.Dec.{leb, ltb, eqb}
 use Rattle.rules.specs.Lists.{fitted}
-use Rattle.rules.specs.Answer.{Answer, good, refused, refuse, refuseFirst}
+use Rattle.rules.specs.Answer.{Answer, refused}
 use Rattle.rules.specs.Operations.{operations, codes, values, goodTable, opFault}
 use Rattle.rules.specs.Batching.{batchesOf}
 use Rattle.rules.specs.Record.{Block, blockOf, noBlock, wordBytes, recordsBytes}
 use Rattle.rules.specs.Block.{Room}
-use Rattle.rules.specs.Functions.{Arena, arena, roomIn, roomFor, filled, built, blockLeft}
+use Rattle.rules.specs.Functions.{arena, roomIn, roomFor, built, blockLeft}
 use Rattle.rules.proofs.Operations.{length-operations, noop-plain, true-left, true-right}
 use Rattle.claims.proofs.Right.{width-8}
 use Rattle.claims.proofs.Demand3.{few-batches}

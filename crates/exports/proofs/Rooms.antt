@@ -1,22 +1,21 @@
 -- Outputs that cross as bytes: what the work space holds, written out, is what the definitions say of the bytes. Assumes nothing.
-use mathlib.Core.Path.{_≡_, refl, sym, ap, ap₂, _∙_}
+use mathlib.Core.Path.{_≡_, refl, sym, ap, _∙_}
 use mathlib.Core.Bool.{Bool, true, false, not, _&&_}
 use mathlib.Core.List.{List, [], _∷_, _++_, append-assoc}
-use Prim.Native.Nat.{ℕ, zero, suc, _+_, _-_, _*_, _/_, _≤_, _<_, min, zero-le}
-use native.Mathlib.Nat.{mul-suc}
+use Prim.Native.Nat.{ℕ, zero, suc, _+_, _-_, _*_, _/_, _≤_, min, zero-le}
 use native.Mathlib.Omega.{arith}
 use borrow.Author.Tests.{le-leb, lt-leb, leb-true, leb-false, not-false}
 use lib.ListN.{length, replicate, replicate-append-replicate}
 use lib.Dec.{leb, ltb}
 use Rattle.rules.specs.Lists.{fitted}
 use Rattle.rules.specs.Digits.{digits, leBytes}
-use Rattle.rules.specs.Answer.{Answer, good, refused, Read, found, refuse, _then_}
-use Rattle.rules.specs.Operations.{Op, codes, values, goodTable}
-use Rattle.rules.specs.Record.{Block, noBlock, wordBytes, recordsBytes}
+use Rattle.rules.specs.Answer.{Answer, good, refused, Read, found, _then_}
+use Rattle.rules.specs.Operations.{codes, values, goodTable}
+use Rattle.rules.specs.Record.{Block, noBlock, wordBytes}
 use Rattle.rules.specs.Bytes.{countAt, opsAt, batchCountAt}
 use Rattle.rules.specs.Block.{Room, Head, headAt, layoutAt, batchesBy, blockAt}
 use Rattle.rules.specs.Functions.{Arena, arena, roomIn, filled, decoded, readLeft}
-use Rattle.rules.proofs.Operations.{true-left, true-right}
+use Rattle.rules.proofs.Operations.{true-right}
 use Rattle.rules.proofs.Runs.{fitted-zeros}
 use Rattle.claims.proofs.Back.{fitted-is}
 use Rattle.claims.proofs.Again.{count-limit, ops-allowed}

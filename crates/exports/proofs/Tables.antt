@@ -1,14 +1,14 @@
 -- Tables that cross as bytes: more room than the longest table has makes no difference. Assumes nothing.
-use mathlib.Core.Path.{_≡_, refl, sym, ap, _∙_}
+use mathlib.Core.Path.{_≡_, refl, ap, _∙_}
 use mathlib.Core.Bool.{Bool, true, false, not, _&&_}
 use mathlib.Core.List.{List, [], _∷_}
-use Prim.Native.Nat.{ℕ, zero, suc, _+_, _/_, _%_, _≤_, _<_, min, zero-le}
+use Prim.Native.Nat.{ℕ, suc, _+_, _/_, _%_, _≤_, min, zero-le}
 use native.Mathlib.Omega.{arith}
 use borrow.Author.Tests.{lt-ltb, le-ltb, ltb-true, ltb-false, leb-true, not-false}
 use lib.ListN.{length}
 use lib.Dec.{leb, ltb, eqb}
 use Rattle.rules.specs.Lists.{fitted}
-use Rattle.rules.specs.Answer.{Answer, good, refused, refuse, refuseFirst}
+use Rattle.rules.specs.Answer.{Answer, good, refuseFirst}
 use Rattle.rules.specs.Record.{wordBytes}
 use Rattle.rules.specs.Checks.{structureFaults, paddingFaults}
 use Rattle.rules.specs.Lookups.{marks, rawEntries, paddedEntries, rawTable, paddedTable}

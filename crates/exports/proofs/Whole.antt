@@ -1,5 +1,5 @@
 -- Inputs that cross as bytes: refused where the numbers are not whole or too many, and otherwise the numbers that were copied. Assumes nothing.
-use mathlib.Core.Path.{_≡_, refl, sym, ap, _∙_}
+use mathlib.Core.Path.{_≡_, refl, sym, _∙_}
 use mathlib.Core.Bool.{Bool, true, false, not, _&&_, _||_}
 use mathlib.Core.List.{List}
 use Prim.Native.Nat.{ℕ, _/_, _%_, _≤_, _<_}
@@ -9,7 +9,7 @@ use lib.ListN.{length, take}
 use lib.Dec.{leb, ltb, eqb}
 use lib.Seq.{length-take-le}
 use Rattle.rules.specs.Answer.{Answer, refused, refuse}
-use Rattle.rules.specs.Functions.{Arena, arena, within, encoded}
+use Rattle.rules.specs.Functions.{arena, within, encoded}
 use Rattle.rules.proofs.Operations.{true-left, true-right}
 use Rattle.crossing.specs.Words.{wordsIn, fewWords}
 use Rattle.crossing.proofs.Copies.{length-in}

@@ -3,16 +3,17 @@ use mathlib.Core.Path.{_≡_}
 use mathlib.Core.Bool.{not, cond}
 use mathlib.Core.List.{List}
 use mathlib.Core.Option.{Option, none, some}
-use Prim.Native.Nat.{ℕ, _-_, _/_, _%_}
+use Prim.Native.Nat.{ℕ, _-_, _/_}
 use lib.ListN.{length}
 use lib.Dec.{eqb}
 use Rattle.rules.specs.Answer.{Answer, good, refused, refuse, Read}
 use Rattle.rules.specs.Lists.{fitted}
 use Rattle.rules.specs.Operations.{codes, values}
-use Rattle.rules.specs.Record.{Block, recordSize, recordAt, wordBytes, recordsBytes}
+use Rattle.rules.specs.Record.{Block, recordSize, wordBytes, recordsBytes}
 use Rattle.rules.specs.Block.{Room}
 use Rattle.rules.specs.Lookups.{Place}
-use Rattle.rules.specs.Functions.{Arena, arena, roomIn, filled, blockLeft, written, readLeft, bytesLeft, tableLeft, groupLookup, nextLookup}
+use Rattle.rules.specs.Functions.{Arena, arena, roomIn, filled, blockLeft, written, readLeft, bytesLeft, tableLeft}
+use Rattle.crossing.specs.Words.{whole}
 use Rattle.exports.specs.declared.BuildReply.{BuildReply}
 use Rattle.exports.specs.declared.EncodeReply.{EncodeReply}
 use Rattle.exports.specs.declared.DecodeReply.{DecodeReply}
@@ -84,11 +85,11 @@ nextReply (refused n p) = record { number = n; place = p; found = 0; group = 0 }
 
 -- an input that is not whole numbers is refused with 3, before everything else
 unfoldable pub wholeWords : {A : Type 0} → List ℕ → Answer A → Answer A
-wholeWords s r = refuse (not (eqb (length s % 8) 0)) 3 0 r
+wholeWords s r = refuse (not (whole s)) 3 0 r
 
 -- and an index lookup in one finds nothing
 unfoldable pub inWhole : List ℕ → Option ℕ → Option ℕ
-inWhole s r = cond (eqb (length s % 8) 0) r none
+inWhole s r = cond (whole s) r none
 
 -- the room of an arena whose values are bytes: whole numbers
 unfoldable pub roomBytes : Arena → Room

@@ -1,10 +1,9 @@
 use Rattle.crossing.proofs.Copies.{bytes-left}
 use Rattle.rules.specs.Lists.{fitted}
 use lib.ListN.{length, take}
-use native.Mathlib.Omega.{arith}
 use Prim.Native.Nat.{ℕ, _*_}
 use mathlib.Core.List.{List}
-use mathlib.Core.Path.{_≡_, ap, _∙_}
+use mathlib.Core.Path.{ap, _∙_}
 use borrow.Author.Needs.{needs}
 use Rattle.crossing.proofs.bytes_out.Statement.{statement}
 use Rattle.crossing.proofs.bytes_out.Tie as tie
@@ -13,23 +12,18 @@ use Rattle.crossing.proofs.bytes_out.Lts as lts
 use Rattle.crossing.proofs.put_words.Reads as put-words-reads
 use Rattle.word.proofs.zero_bytes.Reads as zero-bytes-reads
 
--- src/lib.rt:64:5
 put-words-requires : tie.Need-put-words-requires
 put-words-requires c κs = search needs
 
--- src/lib.rt:65:27
 mul-zero-bytes : tie.Need-mul-zero-bytes
 mul-zero-bytes c = search needs
 
--- src/lib.rt:65:5
 zero-bytes-requires : tie.Need-zero-bytes-requires
 zero-bytes-requires c κs = search needs
 
--- src/lib.rt:60:1
 same-length : tie.Need-same-length
 same-length c = search needs
 
--- src/lib.rt:60:1
 returns : tie.Need-returns
 returns c =
     let a = c .before .before .before .before .before .before .before .before .before .before .args in

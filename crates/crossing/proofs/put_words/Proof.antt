@@ -2,11 +2,10 @@ use mathlib.Core.List.{List}
 use Rattle.crossing.proofs.Copies.{out-turn}
 use Rattle.decoder.proofs.Stores.{words-end}
 use Rattle.rules.specs.Record.{wordBytes}
-use lib.Seq.{sets, length-sets}
+use lib.Seq.{sets}
 use lib.ListN.{length, drop}
-use Prim.Native.Nat.{ℕ, _≤_, _-_, _+_, _*_}
+use Prim.Native.Nat.{ℕ, _-_, _+_, _*_}
 use borrow.Author.Needs.{needs}
-use native.Mathlib.Omega.{arith}
 use mathlib.Core.Path.{_≡_, refl, sym, ap, _∙_}
 use Rattle.crossing.proofs.put_words.Statement.{statement}
 use Rattle.crossing.proofs.put_words.Tie as tie
@@ -20,35 +19,27 @@ Inv-loop words out₀ i₀ out i = (length out ≡ length out₀) × (sets out (
 abbrev μ-loop : tie.MeasureT-loop
 μ-loop words out₀ i₀ out i = length words - i
 
--- src/lib.rt:52:5
 loop-holds : tie.Need-loop-holds Inv-loop μ-loop
 loop-holds c = (refl, refl)
 
--- src/lib.rt:53:25
 mul-put8 : tie.Need-mul-put8 Inv-loop μ-loop
 mul-put8 c = search needs
 
--- src/lib.rt:53:32
 mul-put8-2 : tie.Need-mul-put8-2 Inv-loop μ-loop
 mul-put8-2 c = search needs
 
--- src/lib.rt:53:32
 shared-slice-read-put8 : tie.Need-shared-slice-read-put8 Inv-loop μ-loop
 shared-slice-read-put8 c = search needs
 
--- src/lib.rt:53:9
 put8-requires : tie.Need-put8-requires Inv-loop μ-loop
 put8-requires c κs = search needs
 
--- src/lib.rt:54:9
 add-i : tie.Need-add-i Inv-loop μ-loop
 add-i c = search needs
 
--- src/lib.rt:52:5
 loop-less : tie.Need-loop-less Inv-loop μ-loop
 loop-less c = search needs
 
--- src/lib.rt:52:5
 loop-again : tie.Need-loop-again Inv-loop μ-loop
 loop-again c =
     let l = c .before .before .before .before .before .before .loop in
@@ -56,11 +47,9 @@ loop-again c =
     let p = c .before .before .put8 in
     (p .kept .0 ∙ l .inv .0, ap (λ (d : List ℕ). sets d (8 * (l .i + 1)) (wordBytes (drop (l .i + 1) w))) (p .ensures) ∙ out-turn (l .out) w (l .i) (c .before .before .before .before .before .loop-test .taken) ∙ l .inv .1)
 
--- src/lib.rt:47:1
 same-length : tie.Need-same-length Inv-loop μ-loop
 same-length c = c .before .loop .inv .0
 
--- src/lib.rt:47:1
 returns : tie.Need-returns Inv-loop μ-loop
 returns c = let l = c .before .loop in let w = c .before .before .before .before .args .words .now in sym (words-end w (l .i) (l .out) (8 * l .i) (c .loop-test .left)) ∙ l .inv .1
 

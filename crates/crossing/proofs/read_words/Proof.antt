@@ -1,7 +1,7 @@
 use mathlib.Core.Path.{_≡_, refl, sym, ap, _∙_}
 use native.Mathlib.Omega.{arith}
 use borrow.Author.Needs.{needs}
-use Prim.Native.Nat.{ℕ, _≤_, _-_, _+_, _*_, _/_}
+use Prim.Native.Nat.{ℕ, _-_, _+_, _/_}
 use lib.ListN.{length, take, set, length-set}
 use lib.Seq.{sets}
 use Rattle.crossing.specs.Words.{wordsIn}
@@ -18,46 +18,36 @@ Inv-loop s work₀ n i₀ work i = (n ≡ length s / 8) × (length work ≡ leng
 abbrev μ-loop : tie.MeasureT-loop
 μ-loop s work₀ n i₀ work i = n - i
 
--- src/lib.rt:47:5
 loop-holds : tie.Need-loop-holds Inv-loop μ-loop
 loop-holds c = (refl, refl, in-start _ _)
 
--- src/lib.rt:48:32
 mul-le8 : tie.Need-mul-le8 Inv-loop μ-loop
 mul-le8 c = search needs
 
--- src/lib.rt:48:19
 le8-requires : tie.Need-le8-requires Inv-loop μ-loop
 le8-requires c κs = search needs
 
--- src/lib.rt:48:9
 mul-work : tie.Need-mul-work Inv-loop μ-loop
 mul-work c = search needs
 
--- src/lib.rt:48:9
 slice-write-work : tie.Need-slice-write-work Inv-loop μ-loop
 slice-write-work c = search needs
 
--- src/lib.rt:49:9
 add-i : tie.Need-add-i Inv-loop μ-loop
 add-i c = search needs
 
--- src/lib.rt:47:5
 loop-less : tie.Need-loop-less Inv-loop μ-loop
 loop-less c = search needs
 
--- src/lib.rt:47:5
 loop-again : tie.Need-loop-again Inv-loop μ-loop
 loop-again c =
     let l = c .before .before .loop in
     let s = c .before .before .before .before .before .args .s .now in
     (l .inv .0, simp length-set (l .inv .1), ap (λ (v : ℕ). sets (set (l .work) (l .i) v) (l .i + 1) (left s (l .i + 1))) (c .le8 .ensures) ∙ in-turn (l .work) s (l .i) (c .before .loop-test .taken) ∙ l .inv .2)
 
--- src/lib.rt:41:1
 same-length : tie.Need-same-length Inv-loop μ-loop
 same-length c = c .before .loop .inv .1
 
--- src/lib.rt:41:1
 returns : tie.Need-returns Inv-loop μ-loop
 returns c =
     let l = c .before .loop in

@@ -8,7 +8,7 @@ use Rattle.crossing.proofs.Copies.{length-in}
 use lib.ListN.{length}
 use borrow.Author.Tests.{not-true, not-false}
 use native.Mathlib.Omega.{arith}
-use mathlib.Core.Path.{_≡_, refl, sym, ap, _∙_}
+use mathlib.Core.Path.{sym, ap, _∙_}
 use borrow.Author.Needs.{needs}
 use Rattle.exports.proofs.build_through.Statement.{statement}
 use Rattle.exports.proofs.build_through.Tie as tie
@@ -21,27 +21,21 @@ use Rattle.crossing.proofs.room.Reads as room-reads
 use Rattle.exports.proofs.clear.Reads as clear-reads
 use Rattle.exports.proofs.oli_build.Reads as oli-build-reads
 
--- src/lib.rt:443:9
 few-words-requires : tie.Need-few-words-requires
 few-words-requires c κs = search needs
 
--- src/lib.rt:444:9
 clear-requires : tie.Need-clear-requires
 clear-requires c κs = search needs
 
--- src/lib.rt:445:9
 same-length : tie.Need-same-length
 same-length c = search needs
 
--- src/lib.rt:445:9
 same-length-2 : tie.Need-same-length-2
 same-length-2 c = search needs
 
--- src/lib.rt:445:9
 same-length-3 : tie.Need-same-length-3
 same-length-3 c = search needs
 
--- src/lib.rt:445:9
 returns : tie.Need-returns
 returns c =
     let a = c .before .before .before .before .before .before .before .before .before .before .before .before .before .before .before .before .before .before .before .args in
@@ -49,51 +43,39 @@ returns c =
     let d = sym (built-broken (a .values .now) (a .table .now) (a .codes .now) (roomBytes s) (sym (c .before .before .before .before .before .before .before .before .before .before .before .few-words .ensures) ∙ not-true (c .before .before .before .before .before .before .before .before .before .before .before .few-words .result) (c .before .before .before .before .before .before .before .before .before .before .if1 .taken))) in
     record { reply = ap buildReply d; runs = c .before .before .before .before .before .before .clear .ensures ∙ ap (λ (x : Answer Block). filledBytes s (blockLeft x)) d }
 
--- src/lib.rt:453:23
 room-requires : tie.Need-room-requires
 room-requires c κs = search needs
 
--- src/lib.rt:454:34
 slice-aggregate-read-words : tie.Need-slice-aggregate-read-words
 slice-aggregate-read-words c = search needs
 
--- src/lib.rt:454:5
 read-words-requires : tie.Need-read-words-requires
 read-words-requires c κs = omega (arith, c .before .room .ensures, few (c .before .before .before .before .before .before .before .before .before .before .before .args .values .now) (sym (c .before .before .before .few-words .ensures) ∙ not-false (c .before .before .before .few-words .result) (c .before .before .if1 .left)))
 
--- src/lib.rt:455:37
 array-share-prefix-numbers : tie.Need-array-share-prefix-numbers
 array-share-prefix-numbers c = omega (arith, c .before .read-words .kept, c .before .before .before .room .ensures, few (c .before .before .before .before .before .before .before .before .before .before .before .before .before .args .values .now) (sym (c .before .before .before .before .before .few-words .ensures) ∙ not-false (c .before .before .before .before .before .few-words .result) (c .before .before .before .before .if1 .left)))
 
--- src/lib.rt:455:37
 slice-aggregate-oli-build : tie.Need-slice-aggregate-oli-build
 slice-aggregate-oli-build c = sym (ap length (c .before .before .read-words .ensures) ∙ length-in (c .before .before .before .before .before .before .before .before .before .before .before .before .before .before .args .values .now))
 
--- src/lib.rt:455:9
 oli-build-requires : tie.Need-oli-build-requires
 oli-build-requires c κs = search needs
 
--- src/lib.rt:456:5
 bytes-out-requires : tie.Need-bytes-out-requires
 bytes-out-requires c κs = search needs
 
--- src/lib.rt:431:1
 same-length-4 : tie.Need-same-length-4
 same-length-4 c = search needs
 
--- src/lib.rt:431:1
 same-length-5 : tie.Need-same-length-5
 same-length-5 c = search needs
 
--- src/lib.rt:431:1
 same-length-6 : tie.Need-same-length-6
 same-length-6 c = search needs
 
--- src/lib.rt:431:1
 same-length-7 : tie.Need-same-length-7
 same-length-7 c = search needs
 
--- src/lib.rt:431:1
 returns-2 : tie.Need-returns-2
 returns-2 c =
     let a = c .before .before .before .before .before .before .before .before .before .before .before .before .before .before .before .before .before .before .before .before .before .before .before .before .before .before .before .before .before .args in

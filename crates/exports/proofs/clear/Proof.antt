@@ -6,31 +6,24 @@ use Rattle.exports.proofs.clear.Reads as reads
 use Rattle.exports.proofs.clear.Lts as lts
 use Rattle.word.proofs.zero_bytes.Reads as zero-bytes-reads
 
--- src/lib.rt:616:5
 zero-bytes-requires : tie.Need-zero-bytes-requires
 zero-bytes-requires c κs = search needs
 
--- src/lib.rt:617:5
 zero-bytes-requires-2 : tie.Need-zero-bytes-requires-2
 zero-bytes-requires-2 c κs = search needs
 
--- src/lib.rt:618:5
 zero-bytes-requires-3 : tie.Need-zero-bytes-requires-3
 zero-bytes-requires-3 c κs = search needs
 
--- src/lib.rt:613:1
 same-length : tie.Need-same-length
 same-length c = search needs
 
--- src/lib.rt:613:1
 same-length-2 : tie.Need-same-length-2
 same-length-2 c = search needs
 
--- src/lib.rt:613:1
 same-length-3 : tie.Need-same-length-3
 same-length-3 c = search needs
 
--- src/lib.rt:613:1
 returns : tie.Need-returns
 returns c = cleared _ _ _ _ _ _ (c .before .before .before .before .before .before .before .before .before .before .zero-bytes .ensures) (c .before .before .before .before .before .before .zero-bytes2 .ensures) (c .before .before .zero-bytes3 .ensures)
 

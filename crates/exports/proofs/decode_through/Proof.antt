@@ -7,31 +7,24 @@ use Rattle.exports.proofs.decode_through.Lts as lts
 use Rattle.crossing.proofs.bytes_out.Reads as bytes-out-reads
 use Rattle.exports.proofs.oli_decode.Reads as oli-decode-reads
 
--- src/lib.rt:453:9
 oli-decode-requires : tie.Need-oli-decode-requires
 oli-decode-requires c κs = search needs
 
--- src/lib.rt:454:5
 bytes-out-requires : tie.Need-bytes-out-requires
 bytes-out-requires c κs = search needs
 
--- src/lib.rt:441:1
 same-length : tie.Need-same-length
 same-length c = search needs
 
--- src/lib.rt:441:1
 same-length-2 : tie.Need-same-length-2
 same-length-2 c = search needs
 
--- src/lib.rt:441:1
 same-length-3 : tie.Need-same-length-3
 same-length-3 c = search needs
 
--- src/lib.rt:441:1
 same-length-4 : tie.Need-same-length-4
 same-length-4 c = search needs
 
--- src/lib.rt:441:1
 returns : tie.Need-returns
 returns c =
     let a = c .before .before .before .before .before .before .before .before .before .before .before .before .before .before .before .before .before .before .before .before .before .args in

@@ -10,39 +10,30 @@ use Rattle.crossing.proofs.lent.Reads as lent-reads
 use Rattle.crossing.proofs.room.Reads as room-reads
 use Rattle.exports.proofs.build_through.Reads as build-through-reads
 
--- src/lib.rt:661:9
 lent-requires : tie.Need-lent-requires
 lent-requires c κs = search needs
 
--- src/lib.rt:662:20
 room-requires : tie.Need-room-requires
 room-requires c κs = search needs
 
--- src/lib.rt:668:9
 array-borrow-prefix-work : tie.Need-array-borrow-prefix-work
 array-borrow-prefix-work c = search needs
 
--- src/lib.rt:668:9
 slice-aggregate-build-through : tie.Need-slice-aggregate-build-through
 slice-aggregate-build-through c = front _ _ (c .before .before .room .ensures) (omega (arith, c .before .before .before .lent .ensures))
 
--- src/lib.rt:663:5
 build-through-requires : tie.Need-build-through-requires
 build-through-requires c κs = sym (front _ _ (c .before .before .before .before .room .ensures) (omega (arith, c .before .before .before .before .before .lent .ensures))) ∙ c .before .before .before .before .before .lent .ensures
 
--- src/lib.rt:650:1
 same-length : tie.Need-same-length
 same-length c = search needs
 
--- src/lib.rt:650:1
 same-length-2 : tie.Need-same-length-2
 same-length-2 c = search needs
 
--- src/lib.rt:650:1
 same-length-3 : tie.Need-same-length-3
 same-length-3 c = search needs
 
--- src/lib.rt:650:1
 returns : tie.Need-returns
 returns c = search needs
 

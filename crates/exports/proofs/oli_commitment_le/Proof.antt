@@ -4,7 +4,7 @@ use Rattle.crossing.proofs.Copies.{length-in}
 use lib.ListN.{length}
 use borrow.Author.Tests.{not-true, not-false}
 use native.Mathlib.Omega.{arith}
-use mathlib.Core.Path.{_≡_, refl, sym, ap, _∙_}
+use mathlib.Core.Path.{sym, ap, _∙_}
 use borrow.Author.Needs.{needs}
 use Rattle.exports.proofs.oli_commitment_le.Statement.{statement}
 use Rattle.exports.proofs.oli_commitment_le.Tie as tie
@@ -15,40 +15,31 @@ use Rattle.crossing.proofs.read_words.Reads as read-words-reads
 use Rattle.crossing.proofs.room.Reads as room-reads
 use Rattle.exports.proofs.oli_commitment.Reads as oli-commitment-reads
 
--- src/lib.rt:591:9
 few-words-requires : tie.Need-few-words-requires
 few-words-requires c κs = search needs
 
--- src/lib.rt:592:9
 returns : tie.Need-returns
 unfolding commitmentChecked
 returns c = let a = c .before .before .before .before .before .before .args in rw (checked-broken (a .values .now) (a .codes .now) (a .records .now) (sym (c .before .few-words .ensures) ∙ not-true (c .before .few-words .result) (c .if1 .taken)))
 
--- src/lib.rt:598:20
 room-requires : tie.Need-room-requires
 room-requires c κs = search needs
 
--- src/lib.rt:599:34
 slice-aggregate-read-words : tie.Need-slice-aggregate-read-words
 slice-aggregate-read-words c = search needs
 
--- src/lib.rt:599:5
 read-words-requires : tie.Need-read-words-requires
 read-words-requires c κs = omega (arith, c .before .room .ensures, few (c .before .before .before .before .before .before .before .before .args .values .now) (sym (c .before .before .before .few-words .ensures) ∙ not-false (c .before .before .before .few-words .result) (c .before .before .if1 .left)))
 
--- src/lib.rt:600:34
 array-share-prefix-work : tie.Need-array-share-prefix-work
 array-share-prefix-work c = omega (arith, c .before .read-words .kept, c .before .before .before .room .ensures, few (c .before .before .before .before .before .before .before .before .before .before .args .values .now) (sym (c .before .before .before .before .before .few-words .ensures) ∙ not-false (c .before .before .before .before .before .few-words .result) (c .before .before .before .before .if1 .left)))
 
--- src/lib.rt:600:34
 slice-aggregate-oli-commitment : tie.Need-slice-aggregate-oli-commitment
 slice-aggregate-oli-commitment c = sym (ap length (c .before .before .read-words .ensures) ∙ length-in (c .before .before .before .before .before .before .before .before .before .before .before .args .values .now))
 
--- src/lib.rt:600:5
 oli-commitment-requires : tie.Need-oli-commitment-requires
 oli-commitment-requires c κs = search needs
 
--- src/lib.rt:582:1
 returns-2 : tie.Need-returns-2
 returns-2 c = rw (whole (c .before .before .before .before .before .before .before .before .before .before .before .before .args .values .now) _ (sym (c .before .before .before .before .before .before .before .few-words .ensures) ∙ not-false (c .before .before .before .before .before .before .before .few-words .result) (c .before .before .before .before .before .before .if1 .left))) (rw (c .before .before .before .read-words .ensures) at (c .oli-commitment .ensures))
 

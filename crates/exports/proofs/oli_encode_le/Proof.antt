@@ -4,7 +4,7 @@ use Rattle.crossing.proofs.Copies.{length-in}
 use lib.ListN.{length}
 use borrow.Author.Tests.{not-true, not-false}
 use native.Mathlib.Omega.{arith}
-use mathlib.Core.Path.{_≡_, refl, sym, ap, _∙_}
+use mathlib.Core.Path.{refl, sym, ap, _∙_}
 use borrow.Author.Needs.{needs}
 use Rattle.exports.proofs.oli_encode_le.Statement.{statement}
 use Rattle.exports.proofs.oli_encode_le.Tie as tie
@@ -15,46 +15,36 @@ use Rattle.crossing.proofs.read_words.Reads as read-words-reads
 use Rattle.crossing.proofs.room.Reads as room-reads
 use Rattle.exports.proofs.oli_encode.Reads as oli-encode-reads
 
--- src/lib.rt:495:9
 few-words-requires : tie.Need-few-words-requires
 few-words-requires c κs = search needs
 
--- src/lib.rt:496:9
 returns : tie.Need-returns
 unfolding written
 returns c =
     let a = c .before .before .before .before .before .before .before .args in
     rw (encoded-broken (a .values .now) (a .codes .now) (a .records .now) (sym (c .before .few-words .ensures) ∙ not-true (c .before .few-words .result) (c .if1 .taken)) 8 (a .table .now) _ (a .at)) (record { reply = refl; bytes = refl })
 
--- src/lib.rt:503:20
 room-requires : tie.Need-room-requires
 room-requires c κs = search needs
 
--- src/lib.rt:504:34
 slice-aggregate-read-words : tie.Need-slice-aggregate-read-words
 slice-aggregate-read-words c = search needs
 
--- src/lib.rt:504:5
 read-words-requires : tie.Need-read-words-requires
 read-words-requires c κs = omega (arith, c .before .room .ensures, few (c .before .before .before .before .before .before .before .before .before .args .values .now) (sym (c .before .before .before .few-words .ensures) ∙ not-false (c .before .before .before .few-words .result) (c .before .before .if1 .left)))
 
--- src/lib.rt:505:30
 array-share-prefix-work : tie.Need-array-share-prefix-work
 array-share-prefix-work c = omega (arith, c .before .read-words .kept, c .before .before .before .room .ensures, few (c .before .before .before .before .before .before .before .before .before .before .before .args .values .now) (sym (c .before .before .before .before .before .few-words .ensures) ∙ not-false (c .before .before .before .before .before .few-words .result) (c .before .before .before .before .if1 .left)))
 
--- src/lib.rt:505:30
 slice-aggregate-oli-encode : tie.Need-slice-aggregate-oli-encode
 slice-aggregate-oli-encode c = sym (ap length (c .before .before .read-words .ensures) ∙ length-in (c .before .before .before .before .before .before .before .before .before .before .before .before .args .values .now))
 
--- src/lib.rt:505:5
 oli-encode-requires : tie.Need-oli-encode-requires
 oli-encode-requires c κs = search needs
 
--- src/lib.rt:484:1
 same-length : tie.Need-same-length
 same-length c = search needs
 
--- src/lib.rt:484:1
 returns-2 : tie.Need-returns-2
 returns-2 c = rw (whole (c .before .before .before .before .before .before .before .before .before .before .before .before .before .before .before .before .args .values .now) _ (sym (c .before .before .before .before .before .before .before .before .before .before .few-words .ensures) ∙ not-false (c .before .before .before .before .before .before .before .before .before .before .few-words .result) (c .before .before .before .before .before .before .before .before .before .if1 .left))) (rw (c .before .before .before .before .before .before .read-words .ensures) at (c .before .before .oli-encode .ensures))
 

@@ -6,9 +6,8 @@ use Rattle.exports.specs.Flat.{flatPadded}
 use Rattle.exports.specs.Replies.{inWhole, indexReply}
 use Rattle.prefix.specs.Tables.{paddedFound, paddedBy}
 use borrow.Author.Tests.{not-true, not-false}
-use native.Mathlib.Omega.{arith}
 use Prim.Native.Nat.{ℕ}
-use mathlib.Core.Path.{_≡_, sym, ap, _∙_}
+use mathlib.Core.Path.{sym, ap, _∙_}
 use borrow.Author.Needs.{needs}
 use Rattle.exports.proofs.oli_padded_index_le.Statement.{statement}
 use Rattle.exports.proofs.oli_padded_index_le.Tie as tie
@@ -19,37 +18,30 @@ use Rattle.exports.proofs.flat_padded.Reads as flat-padded-reads
 use Rattle.prefix.proofs.padded_by.Reads as padded-by-reads
 use Rattle.word.proofs.le8.Reads as le8-reads
 
--- src/lib.rt:486:9
 has-word-requires : tie.Need-has-word-requires
 has-word-requires c κs = search needs
 
--- src/lib.rt:487:9
 returns : tie.Need-returns
 returns c =
     let a = c .before .before .before .args in
     sym (ap indexReply (padded-none (a .table .now) (a .raw) (sym (c .before .has-word .ensures) ∙ not-true (c .before .has-word .result) (c .if1 .taken))))
 
--- src/lib.rt:489:34
 mul-le8 : tie.Need-mul-le8
 mul-le8 c =
     let h = inside _ (c .before .before .before .args .raw) (sym (c .before .has-word .ensures) ∙ not-false (c .before .has-word .result) (c .if1 .left)) in
     search needs
 
--- src/lib.rt:489:9
 le8-requires : tie.Need-le8-requires
 le8-requires c κs =
     let h = inside _ (c .before .before .before .args .raw) (sym (c .before .has-word .ensures) ∙ not-false (c .before .has-word .result) (c .if1 .left)) in
     search needs
 
--- src/lib.rt:490:9
 padded-by-requires : tie.Need-padded-by-requires
 padded-by-requires c κs = search needs
 
--- src/lib.rt:491:5
 flat-padded-requires : tie.Need-flat-padded-requires
 flat-padded-requires c κs = search needs
 
--- src/lib.rt:482:1
 returns-2 : tie.Need-returns-2
 returns-2 c =
     let a = c .before .before .before .before .before .before .args in

@@ -6,9 +6,8 @@ use Rattle.exports.specs.Flat.{flatRaw}
 use Rattle.exports.specs.Replies.{inWhole, indexReply}
 use Rattle.prefix.specs.Tables.{rawFound, rawBy}
 use borrow.Author.Tests.{not-true, not-false}
-use native.Mathlib.Omega.{arith}
 use Prim.Native.Nat.{ℕ}
-use mathlib.Core.Path.{_≡_, sym, ap, _∙_}
+use mathlib.Core.Path.{sym, ap, _∙_}
 use borrow.Author.Needs.{needs}
 use Rattle.exports.proofs.oli_raw_index_le.Statement.{statement}
 use Rattle.exports.proofs.oli_raw_index_le.Tie as tie
@@ -19,37 +18,30 @@ use Rattle.exports.proofs.flat_raw.Reads as flat-raw-reads
 use Rattle.prefix.proofs.raw_by.Reads as raw-by-reads
 use Rattle.word.proofs.le8.Reads as le8-reads
 
--- src/lib.rt:498:9
 has-word-requires : tie.Need-has-word-requires
 has-word-requires c κs = search needs
 
--- src/lib.rt:499:9
 returns : tie.Need-returns
 returns c =
     let a = c .before .before .before .args in
     sym (ap indexReply (raw-none (a .table .now) (a .padded) (sym (c .before .has-word .ensures) ∙ not-true (c .before .has-word .result) (c .if1 .taken))))
 
--- src/lib.rt:501:34
 mul-le8 : tie.Need-mul-le8
 mul-le8 c =
     let h = inside _ (c .before .before .before .args .padded) (sym (c .before .has-word .ensures) ∙ not-false (c .before .has-word .result) (c .if1 .left)) in
     search needs
 
--- src/lib.rt:501:9
 le8-requires : tie.Need-le8-requires
 le8-requires c κs =
     let h = inside _ (c .before .before .before .args .padded) (sym (c .before .has-word .ensures) ∙ not-false (c .before .has-word .result) (c .if1 .left)) in
     search needs
 
--- src/lib.rt:502:9
 raw-by-requires : tie.Need-raw-by-requires
 raw-by-requires c κs = search needs
 
--- src/lib.rt:503:5
 flat-raw-requires : tie.Need-flat-raw-requires
 flat-raw-requires c κs = search needs
 
--- src/lib.rt:494:1
 returns-2 : tie.Need-returns-2
 returns-2 c =
     let a = c .before .before .before .before .before .before .args in

@@ -10,31 +10,24 @@ use Rattle.crossing.proofs.lent.Reads as lent-reads
 use Rattle.crossing.proofs.room.Reads as room-reads
 use Rattle.exports.proofs.table_through.Reads as table-through-reads
 
--- src/lib.rt:593:9
 lent-requires : tie.Need-lent-requires
 lent-requires c κs = search needs
 
--- src/lib.rt:594:20
 room-requires : tie.Need-room-requires
 room-requires c κs = search needs
 
--- src/lib.rt:595:50
 array-borrow-prefix-work : tie.Need-array-borrow-prefix-work
 array-borrow-prefix-work c = search needs
 
--- src/lib.rt:595:50
 slice-aggregate-table-through : tie.Need-slice-aggregate-table-through
 slice-aggregate-table-through c = front _ _ (c .before .room .ensures) (omega (arith, c .before .before .lent .ensures))
 
--- src/lib.rt:595:5
 table-through-requires : tie.Need-table-through-requires
 table-through-requires c κs = sym (front _ _ (c .before .before .room .ensures) (omega (arith, c .before .before .before .lent .ensures))) ∙ c .before .before .before .lent .ensures
 
--- src/lib.rt:584:1
 same-length : tie.Need-same-length
 same-length c = search needs
 
--- src/lib.rt:584:1
 returns : tie.Need-returns
 returns c = search needs
 

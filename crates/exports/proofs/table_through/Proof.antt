@@ -10,7 +10,7 @@ use Rattle.crossing.proofs.Copies.{length-in}
 use lib.ListN.{length}
 use borrow.Author.Tests.{not-true, not-false}
 use native.Mathlib.Omega.{arith}
-use mathlib.Core.Path.{_≡_, refl, sym, ap, _∙_}
+use mathlib.Core.Path.{refl, sym, ap, _∙_}
 use borrow.Author.Needs.{needs}
 use Rattle.exports.proofs.table_through.Statement.{statement}
 use Rattle.exports.proofs.table_through.Tie as tie
@@ -24,66 +24,51 @@ use Rattle.exports.proofs.flat_tabled.Reads as flat-tabled-reads
 use Rattle.prefix.proofs.table.Reads as table-reads
 use Rattle.word.proofs.zero_bytes.Reads as zero-bytes-reads
 
--- src/lib.rt:615:9
 few-words-requires : tie.Need-few-words-requires
 few-words-requires c κs = search needs
 
--- src/lib.rt:616:9
 zero-bytes-requires : tie.Need-zero-bytes-requires
 zero-bytes-requires c κs = search needs
 
--- src/lib.rt:617:9
 same-length : tie.Need-same-length
 same-length c = search needs
 
--- src/lib.rt:617:9
 returns : tie.Need-returns
 unfolding tableOf wordBytes
 returns c =
     let a = c .before .before .before .before .before .before .before .before .before .before .before .args in
     rw (checked-broken (a .values .now) (a .codes .now) (a .records .now) (sym (c .before .before .before .before .before .few-words .ensures) ∙ not-true (c .before .before .before .before .before .few-words .result) (c .before .before .before .before .if1 .taken))) (record { reply = refl; left = c .before .before .zero-bytes .ensures })
 
--- src/lib.rt:624:23
 room-requires : tie.Need-room-requires
 room-requires c κs = search needs
 
--- src/lib.rt:625:34
 slice-aggregate-read-words : tie.Need-slice-aggregate-read-words
 slice-aggregate-read-words c = search needs
 
--- src/lib.rt:625:5
 read-words-requires : tie.Need-read-words-requires
 read-words-requires c κs = omega (arith, c .before .room .ensures, few (c .before .before .before .before .before .before .before .before .before .args .values .now) (sym (c .before .before .before .few-words .ensures) ∙ not-false (c .before .before .before .few-words .result) (c .before .before .if1 .left)))
 
--- src/lib.rt:626:34
 array-share-prefix-numbers : tie.Need-array-share-prefix-numbers
 array-share-prefix-numbers c = omega (arith, c .before .read-words .kept, c .before .before .before .room .ensures, few (c .before .before .before .before .before .before .before .before .before .before .before .args .values .now) (sym (c .before .before .before .before .before .few-words .ensures) ∙ not-false (c .before .before .before .before .before .few-words .result) (c .before .before .before .before .if1 .left)))
 
--- src/lib.rt:626:34
 slice-aggregate-table : tie.Need-slice-aggregate-table
 slice-aggregate-table c = sym (ap length (c .before .before .read-words .ensures) ∙ length-in (c .before .before .before .before .before .before .before .before .before .before .before .before .args .values .now))
 
--- src/lib.rt:626:9
 table-requires : tie.Need-table-requires
 table-requires c κs = search needs
 
--- src/lib.rt:627:5
 bytes-out-requires : tie.Need-bytes-out-requires
 bytes-out-requires c κs = search needs
 
--- src/lib.rt:628:5
 flat-tabled-requires : tie.Need-flat-tabled-requires
 flat-tabled-requires c κs = search needs
 
--- src/lib.rt:604:1
 same-length-2 : tie.Need-same-length-2
 same-length-2 c = search needs
 
--- src/lib.rt:604:1
 same-length-3 : tie.Need-same-length-3
 same-length-3 c = search needs
 
--- src/lib.rt:604:1
 returns-2 : tie.Need-returns-2
 returns-2 c =
     let a = c .before .before .before .before .before .before .before .before .before .before .before .before .before .before .before .before .before .before .before .before .before .before .args in

@@ -8,19 +8,15 @@ use Rattle.prefix.proofs.padded_by.Tie as tie
 use Rattle.prefix.proofs.padded_by.Reads as reads
 use Rattle.prefix.proofs.padded_by.Lts as lts
 
--- src/lib.rt:45:8
 sub-if1 : tie.Need-sub-if1
 sub-if1 c = search needs
 
--- src/lib.rt:46:9
 returns : tie.Need-returns
 returns c = let a = c .before .args in simp (lt-leb (a .i .0 + a .entry) largest (omega arith))
 
--- src/lib.rt:48:33
 add-t5 : tie.Need-add-t5
 add-t5 c = search needs
 
--- src/lib.rt:40:1
 returns-2 : tie.Need-returns-2
 returns-2 c = let a = c .before .args in simp (le-leb (a .i .0 + a .entry) largest (omega arith))
 

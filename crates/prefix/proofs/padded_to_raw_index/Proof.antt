@@ -8,24 +8,19 @@ use Rattle.prefix.proofs.padded_to_raw_index.Reads as reads
 use Rattle.prefix.proofs.padded_to_raw_index.Lts as lts
 use Rattle.prefix.proofs.raw_by.Reads as raw-by-reads
 
--- src/lib.rt:78:9
 returns : tie.Need-returns
 unfolding rawIndex
 returns c = let a = c .before .before .args in simp (le-ltb (a .i .0) (length (a .table .now)) (c .if1 .taken))
 
--- src/lib.rt:80:12
 mul-raw-by : tie.Need-mul-raw-by
 mul-raw-by c = search needs
 
--- src/lib.rt:80:12
 shared-slice-read-raw-by : tie.Need-shared-slice-read-raw-by
 shared-slice-read-raw-by c = search needs
 
--- src/lib.rt:80:5
 raw-by-requires : tie.Need-raw-by-requires
 raw-by-requires c κs = search needs
 
--- src/lib.rt:73:1
 returns-2 : tie.Need-returns-2
 unfolding rawIndex
 returns-2 c = let a = c .before .before .before .before .args in rw (lt-ltb (a .i .0) (length (a .table .now)) (c .before .before .if1 .left)) (c .raw-by .ensures)

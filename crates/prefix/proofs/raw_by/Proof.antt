@@ -4,11 +4,9 @@ use Rattle.prefix.proofs.raw_by.Tie as tie
 use Rattle.prefix.proofs.raw_by.Reads as reads
 use Rattle.prefix.proofs.raw_by.Lts as lts
 
--- src/lib.rt:68:9
 returns : tie.Need-returns
 returns c = let a = c .before .args in simp (lt-leb (a .entry) (a .i .0) (c .if1 .taken))
 
--- src/lib.rt:62:1
 returns-2 : tie.Need-returns-2
 returns-2 c = let a = c .before .args in simp (le-leb (a .entry) (a .i .0) (c .if1 .left))
 

@@ -8,24 +8,19 @@ use Rattle.prefix.proofs.raw_to_padded_index.Reads as reads
 use Rattle.prefix.proofs.raw_to_padded_index.Lts as lts
 use Rattle.prefix.proofs.padded_by.Reads as padded-by-reads
 
--- src/lib.rt:56:9
 returns : tie.Need-returns
 unfolding paddedIndex
 returns c = let a = c .before .before .args in simp (le-ltb (a .i .0) (length (a .table .now)) (c .if1 .taken))
 
--- src/lib.rt:58:15
 mul-padded-by : tie.Need-mul-padded-by
 mul-padded-by c = search needs
 
--- src/lib.rt:58:15
 shared-slice-read-padded-by : tie.Need-shared-slice-read-padded-by
 shared-slice-read-padded-by c = search needs
 
--- src/lib.rt:58:5
 padded-by-requires : tie.Need-padded-by-requires
 padded-by-requires c κs = search needs
 
--- src/lib.rt:51:1
 returns-2 : tie.Need-returns-2
 unfolding paddedIndex
 returns-2 c = let a = c .before .before .before .before .args in rw (lt-ltb (a .i .0) (length (a .table .now)) (c .before .before .if1 .left)) (c .padded-by .ensures)
