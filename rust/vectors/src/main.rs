@@ -1,10 +1,12 @@
 //! `cargo run --release -p vectors [-- FOLDER]` writes original.txt, model.txt and limits.txt into
-//! the folder (default: `vectors/files`).
+//! the folder (default: `../crates/replay/data`, where the program `replay` reads them).
 
 use std::{env, fs, path::Path, process::exit};
 
 fn main() {
-    let folder = env::args().nth(1).unwrap_or_else(|| "vectors/files".into());
+    let folder = env::args()
+        .nth(1)
+        .unwrap_or_else(|| "../crates/replay/data".into());
     let folder = Path::new(&folder);
     let (model, limits) = vectors::of_model();
     let files = [

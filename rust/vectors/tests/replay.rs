@@ -200,7 +200,7 @@ fn files() -> [(&'static str, String); 3] {
 
 #[test]
 fn each_file_is_small_and_kept_as_written() {
-    let folder = concat!(env!("CARGO_MANIFEST_DIR"), "/files/");
+    let folder = concat!(env!("CARGO_MANIFEST_DIR"), "/../../crates/replay/data/");
     for (name, text) in files() {
         assert!(text.len() < 200_000, "{name}: {}", text.len());
         let kept = fs::read_to_string(format!("{folder}{name}")).unwrap_or_default();

@@ -1,0 +1,56 @@
+use native.Mathlib.Omega.{arith}
+use borrow.Author.Needs.{needs}
+use Rattle.replay.proofs.decode.Statement.{statement}
+use Rattle.replay.proofs.decode.Tie as tie
+use Rattle.replay.proofs.decode.Reads as reads
+use Rattle.replay.proofs.decode.Lts as lts
+use Rattle.exports.proofs.oli_decode.Reads as oli-decode-reads
+use Rattle.replay.proofs.block_is.Reads as block-is-reads
+use Rattle.replay.proofs.is.Reads as is-reads
+use Rattle.replay.proofs.made.Reads as made-reads
+use Rattle.replay.proofs.soil.Reads as soil-reads
+
+soil-requires : tie.Need-soil-requires
+soil-requires c κs = search needs
+
+oli-decode-requires : tie.Need-oli-decode-requires
+oli-decode-requires c κs = search needs
+
+made-requires : tie.Need-made-requires
+made-requires c κs = search needs
+
+slice-aggregate-is : tie.Need-slice-aggregate-is
+slice-aggregate-is c = search needs
+
+is-requires : tie.Need-is-requires
+is-requires c κs = search needs
+
+block-is-requires : tie.Need-block-is-requires
+block-is-requires c κs = search needs
+
+same-length : tie.Need-same-length
+same-length c = omega (arith, c .before .before .before .before .before .before .before .before .before .before .before .before .before .before .before .before .before .before .before .before .before .before .before .soil .kept, c .before .before .before .before .before .before .before .before .before .before .before .before .before .oli-decode .kept)
+
+same-length-2 : tie.Need-same-length-2
+same-length-2 c = omega (arith, c .before .before .before .before .before .before .before .before .before .before .before .before .before .before .before .before .before .before .before .before .before .before .before .soil .kept, c .before .before .before .before .before .before .before .before .before .before .before .before .before .oli-decode .kept)
+
+same-length-3 : tie.Need-same-length-3
+same-length-3 c = omega (arith, c .before .before .before .before .before .before .before .before .before .before .before .before .before .before .before .before .before .before .before .before .before .before .before .soil .kept, c .before .before .before .before .before .before .before .before .before .before .before .before .before .oli-decode .kept)
+
+returns : tie.Need-returns
+returns c = search needs
+
+pub decode-spec : {M : Type 1} → statement M
+decode-spec =
+    tie.close
+    (tie.spec
+    soil-requires
+    oli-decode-requires
+    made-requires
+    slice-aggregate-is
+    is-requires
+    block-is-requires
+    same-length
+    same-length-2
+    same-length-3
+    returns)

@@ -1,0 +1,57 @@
+use Prim.Native.Nat.{_-_, _≤_}
+use borrow.Author.Needs.{needs}
+use lib.ListN.{length}
+use Rattle.replay.proofs.differs64.Statement.{statement}
+use Rattle.replay.proofs.differs64.Tie as tie
+use Rattle.replay.proofs.differs64.Reads as reads
+use Rattle.replay.proofs.differs64.Lts as lts
+use Rattle.replay.proofs.item.Reads as item-reads
+
+abbrev Inv-loop : tie.InvT-loop
+Inv-loop s from given ours x₀ i₀ x i = i ≤ length ours
+
+abbrev μ-loop : tie.MeasureT-loop
+μ-loop s from given ours x₀ i₀ x i = length ours - i
+
+loop-holds : tie.Need-loop-holds Inv-loop μ-loop
+loop-holds c = search needs
+
+item-requires : tie.Need-item-requires Inv-loop μ-loop
+item-requires c κs = search needs
+
+mul-if1 : tie.Need-mul-if1 Inv-loop μ-loop
+mul-if1 c = search needs
+
+shared-slice-read-if1 : tie.Need-shared-slice-read-if1 Inv-loop μ-loop
+shared-slice-read-if1 c = search needs
+
+returns : tie.Need-returns Inv-loop μ-loop
+returns c = search needs
+
+add-i : tie.Need-add-i Inv-loop μ-loop
+add-i c = search needs
+
+loop-less : tie.Need-loop-less Inv-loop μ-loop
+loop-less c = search needs
+
+loop-again : tie.Need-loop-again Inv-loop μ-loop
+loop-again c = search needs
+
+returns-2 : tie.Need-returns-2 Inv-loop μ-loop
+returns-2 c = search needs
+
+pub differs64-spec : {M : Type 1} → statement M
+differs64-spec =
+    tie.close
+    (tie.spec
+    Inv-loop
+    μ-loop
+    loop-holds
+    item-requires
+    mul-if1
+    shared-slice-read-if1
+    returns
+    add-i
+    loop-less
+    loop-again
+    returns-2)

@@ -1,0 +1,50 @@
+use mathlib.Core.Path.{_≡_}
+use Prim.Native.Nat.{_-_}
+use borrow.Author.Needs.{needs}
+use lib.ListN.{length}
+use Rattle.replay.proofs.fill64.Statement.{statement}
+use Rattle.replay.proofs.fill64.Tie as tie
+use Rattle.replay.proofs.fill64.Reads as reads
+use Rattle.replay.proofs.fill64.Lts as lts
+use Rattle.word.proofs.store64.Reads as store64-reads
+
+abbrev Inv-loop : tie.InvT-loop
+Inv-loop out₀ from to v i₀ out i = length out ≡ length out₀
+
+abbrev μ-loop : tie.MeasureT-loop
+μ-loop out₀ from to v i₀ out i = to - i
+
+loop-holds : tie.Need-loop-holds Inv-loop μ-loop
+loop-holds c = search needs
+
+store64-requires : tie.Need-store64-requires Inv-loop μ-loop
+store64-requires c κs = search needs
+
+add-i : tie.Need-add-i Inv-loop μ-loop
+add-i c = search needs
+
+loop-less : tie.Need-loop-less Inv-loop μ-loop
+loop-less c = search needs
+
+loop-again : tie.Need-loop-again Inv-loop μ-loop
+loop-again c = search needs
+
+same-length : tie.Need-same-length Inv-loop μ-loop
+same-length c = search needs
+
+returns : tie.Need-returns Inv-loop μ-loop
+returns c = search needs
+
+pub fill64-spec : {M : Type 1} → statement M
+fill64-spec =
+    tie.close
+    (tie.spec
+    Inv-loop
+    μ-loop
+    loop-holds
+    store64-requires
+    add-i
+    loop-less
+    loop-again
+    same-length
+    returns)

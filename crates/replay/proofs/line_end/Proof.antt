@@ -1,0 +1,52 @@
+use Prim.Native.Nat.{_-_, _≤_}
+use borrow.Author.Needs.{needs}
+use lib.ListN.{length}
+use Rattle.replay.proofs.line_end.Statement.{statement}
+use Rattle.replay.proofs.line_end.Tie as tie
+use Rattle.replay.proofs.line_end.Reads as reads
+use Rattle.replay.proofs.line_end.Lts as lts
+
+abbrev Inv-loop : tie.InvT-loop
+Inv-loop s from at₀ at = (from ≤ at) × (at ≤ length s)
+
+abbrev μ-loop : tie.MeasureT-loop
+μ-loop s from at₀ at = length s - at
+
+loop-holds : tie.Need-loop-holds Inv-loop μ-loop
+loop-holds c = search needs
+
+shared-slice-read-if1 : tie.Need-shared-slice-read-if1 Inv-loop μ-loop
+shared-slice-read-if1 c = search needs
+
+add-result : tie.Need-add-result Inv-loop μ-loop
+add-result c = search needs
+
+returns : tie.Need-returns Inv-loop μ-loop
+returns c = search needs
+
+add-at : tie.Need-add-at Inv-loop μ-loop
+add-at c = search needs
+
+loop-less : tie.Need-loop-less Inv-loop μ-loop
+loop-less c = search needs
+
+loop-again : tie.Need-loop-again Inv-loop μ-loop
+loop-again c = search needs
+
+returns-2 : tie.Need-returns-2 Inv-loop μ-loop
+returns-2 c = search needs
+
+pub line-end-spec : {M : Type 1} → statement M
+line-end-spec =
+    tie.close
+    (tie.spec
+    Inv-loop
+    μ-loop
+    loop-holds
+    shared-slice-read-if1
+    add-result
+    returns
+    add-at
+    loop-less
+    loop-again
+    returns-2)

@@ -1,0 +1,44 @@
+use mathlib.Core.Path.{sym}
+use native.Mathlib.Omega.{arith}
+use lib.Seq.{length-take-le}
+use borrow.Author.Needs.{needs}
+use Rattle.replay.proofs.on_entries.Statement.{statement}
+use Rattle.replay.proofs.on_entries.Tie as tie
+use Rattle.replay.proofs.on_entries.Reads as reads
+use Rattle.replay.proofs.on_entries.Lts as lts
+use Rattle.replay.proofs.index.Reads as index-reads
+use Rattle.replay.proofs.number.Reads as number-reads
+use Rattle.replay.proofs.words.Reads as words-reads
+
+words-requires : tie.Need-words-requires
+words-requires c κs = search needs
+
+number-requires : tie.Need-number-requires
+number-requires c κs = search needs
+
+slice-reshare-prefix-index : tie.Need-slice-reshare-prefix-index
+slice-reshare-prefix-index c = search needs
+
+slice-aggregate-index : tie.Need-slice-aggregate-index
+slice-aggregate-index c = sym (length-take-le _ _ (omega arith))
+
+index-requires : tie.Need-index-requires
+index-requires c κs = search needs
+
+same-length : tie.Need-same-length
+same-length c = search needs
+
+returns : tie.Need-returns
+returns c = search needs
+
+pub on-entries-spec : {M : Type 1} → statement M
+on-entries-spec =
+    tie.close
+    (tie.spec
+    words-requires
+    number-requires
+    slice-reshare-prefix-index
+    slice-aggregate-index
+    index-requires
+    same-length
+    returns)

@@ -1,0 +1,44 @@
+use mathlib.Core.Path.{sym}
+use native.Mathlib.Omega.{arith}
+use lib.Seq.{length-take-le}
+use borrow.Author.Needs.{needs}
+use Rattle.replay.proofs.to_bytes.Statement.{statement}
+use Rattle.replay.proofs.to_bytes.Tie as tie
+use Rattle.replay.proofs.to_bytes.Reads as reads
+use Rattle.replay.proofs.to_bytes.Lts as lts
+use Rattle.replay.proofs.bytes.Reads as bytes-reads
+use Rattle.replay.proofs.encode.Reads as encode-reads
+use Rattle.replay.proofs.number.Reads as number-reads
+
+bytes-requires : tie.Need-bytes-requires
+bytes-requires c κs = search needs
+
+number-requires : tie.Need-number-requires
+number-requires c κs = search needs
+
+slice-relend-prefix-encode : tie.Need-slice-relend-prefix-encode
+slice-relend-prefix-encode c = search needs
+
+slice-aggregate-encode : tie.Need-slice-aggregate-encode
+slice-aggregate-encode c = sym (length-take-le _ _ (omega arith))
+
+encode-requires : tie.Need-encode-requires
+encode-requires c κs = search needs
+
+same-length : tie.Need-same-length
+same-length c = search needs
+
+returns : tie.Need-returns
+returns c = search needs
+
+pub to-bytes-spec : {M : Type 1} → statement M
+to-bytes-spec =
+    tie.close
+    (tie.spec
+    bytes-requires
+    number-requires
+    slice-relend-prefix-encode
+    slice-aggregate-encode
+    encode-requires
+    same-length
+    returns)
