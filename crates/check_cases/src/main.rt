@@ -16,6 +16,7 @@ use prefix::PaddedIndex;
 use prefix::RawFound;
 use prefix::RawIndex;
 use prefix::Tabled;
+use text::Number;
 
 // ---- numbers in a text
 
@@ -24,20 +25,13 @@ struct Read {
     at: usize,
 }
 
-fn digit(b: u8) -> bool {
-    if b < 48 {
-        return false;
-    }
-    b <= 57
-}
-
 fn skip(s: &[u8], from: usize) -> usize
     requires { ⌜ from ≤ length (now s) ⌝ }
     ensures { λ r. ⌜ r ≤ length (now (s .entry)) ⌝ }
 {
     let mut at = from;
     while at < s.len() {
-        if digit(s[at]) {
+        if text::starts_number(&s[at..]) {
             return at;
         }
         at += 1;
@@ -45,34 +39,15 @@ fn skip(s: &[u8], from: usize) -> usize
     at
 }
 
-// A digit more, where the number stays within 64 bits.
-fn with_digit(v: u64, d: u64) -> u64 {
-    if 1844674407370955161 < v {
-        return v;
-    }
-    if 18446744073709551615 - v * 10 < d {
-        return v;
-    }
-    v * 10 + d
-}
-
 fn number(s: &[u8], from: usize) -> Read
     requires { ⌜ from ≤ length (now s) ⌝ }
     ensures { λ r. ⌜ r .at ≤ length (now (s .entry)) ⌝ }
 {
-    let mut at = skip(s, from);
-    let mut value: u64 = 0;
-    while at < s.len() {
-        let d = word::wide(s[at]);
-        if d < 48 {
-            return Read { value, at };
-        }
-        if 57 < d {
-            return Read { value, at };
-        }
-        value = with_digit(value, d - 48);
-        at += 1;
-    }
+    let start = skip(s, from);
+    let at = text::decimal_end(s, start);
+    let Number::Is(value) = text::decimal(&s[start..at]) else {
+        return Read { value: 0, at };
+    };
     Read { value, at }
 }
 

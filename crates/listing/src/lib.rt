@@ -5,6 +5,8 @@ use libc::STDOUT_FILENO;
 
 const RECORD_SIZE: usize = 82;
 
+const MOST_BATCHES: usize = 16384;
+
 pub fn say(text: &[u8]) {
     io::write_all(STDOUT_FILENO, text);
 }
@@ -211,6 +213,30 @@ pub fn paddings(records: &[u8], batches: usize) -> usize
         b += 1;
     }
     n
+}
+
+// A block that was found at a byte, or stands there when it is written: its totals and its batches.
+pub fn print_block(
+    table: &[u8],
+    codes: &[u8],
+    values: &[u64],
+    records: &[u8],
+    at: usize,
+    batches: usize,
+    operations: usize,
+    used: usize,
+) {
+    if MOST_BATCHES < batches {
+        return;
+    }
+    say(b"block at byte ");
+    number(at);
+    say(b": ");
+    counted(batches, b" batch, ", b" batches, ");
+    counted(operations, b" operation, ", b" operations, ");
+    counted(paddings(records, batches), b" padding, ", b" paddings, ");
+    counted(used, b" byte\n", b" bytes\n");
+    print_batches(table, codes, values, records, batches);
 }
 
 // What a number of refusal means (document 01, "Numbers of refusal").

@@ -6,7 +6,7 @@ ghost use lib.ListN.{length};
 ghost use Rattle.io.specs.Counts.{Counts};
 use listing::number as print;
 use listing::say;
-use numerals::Number;
+use text::Number;
 
 // ---- the numbers of a line, which ends in its line feed
 
@@ -33,14 +33,14 @@ fn number(s: &[u8], from: usize) -> Read {
     if s.len() <= from {
         return lost();
     }
-    let end = numerals::hex_end(s, from);
+    let end = text::hex_end(s, from);
     if s.len() <= end {
         return lost();
     }
     if !parts(s[end]) {
         return lost();
     }
-    let Number::Is(value) = numerals::hex(&s[from..end]) else {
+    let Number::Is(value) = text::hex(&s[from..end]) else {
         return lost();
     };
     Read { value, at: end + 1 }
@@ -773,20 +773,6 @@ fn line(
     }
 }
 
-fn line_end(s: &[u8], from: usize) -> usize
-    requires { ⌜ from < length (now s) ⌝ }
-    ensures { λ r. ⌜ (from < r) × (r ≤ length (now (s .entry))) ⌝ }
-{
-    let mut at = from;
-    while at < s.len() {
-        if s[at] == b'\n' {
-            return at + 1;
-        }
-        at += 1;
-    }
-    at
-}
-
 // The lines of a file, up to the first that is neither a case nor a table; its number, or 0 where there is none.
 fn lines(
     s: &[u8],
@@ -804,7 +790,7 @@ fn lines(
     let mut n: usize = 0;
     while from < s.len() {
         n += 1;
-        let end = line_end(s, from);
+        let end = text::line_end(s, from);
         let left = line(
             n,
             &s[from..end],

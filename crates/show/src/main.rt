@@ -3,10 +3,9 @@
 ghost use mathlib.Core.Path.{_≡_};
 ghost use lib.ListN.{length};
 use decoder::Decoded;
+use text::Number;
 
 const MOST_BYTES: usize = 1048576;
-
-const MOST_BATCHES: usize = 16384;
 
 // Room for a file, and for the largest block. The `ensures` gives the length, which lending an array asks for.
 fn file_room() -> [u8; 1048577]
@@ -33,62 +32,6 @@ fn records_room() -> [u8; 1343488]
     [0; 1343488]
 }
 
-// A decimal number, or something else.
-enum Number {
-    Is(usize),
-    Not,
-}
-
-fn decimal(text: &[u8]) -> Number {
-    if text.len() == 0 {
-        return Number::Not;
-    }
-    let mut n: usize = 0;
-    let mut i: usize = 0;
-    while i < text.len() {
-        let b = text[i];
-        if b < b'0' {
-            return Number::Not;
-        }
-        if b'9' < b {
-            return Number::Not;
-        }
-        if 100000000 < n {
-            return Number::Not;
-        }
-        n = n * 10 + word::wide(b - b'0') as usize;
-        i += 1;
-    }
-    Number::Is(n)
-}
-
-fn print_block(
-    table: &[u8],
-    codes: &[u8],
-    values: &[u64],
-    records: &[u8],
-    at: usize,
-    batches: usize,
-    operations: usize,
-    used: usize,
-) {
-    listing::say(b"block at byte ");
-    listing::number(at);
-    listing::say(b": ");
-    if MOST_BATCHES < batches {
-        return;
-    }
-    listing::counted(batches, b" batch, ", b" batches, ");
-    listing::counted(operations, b" operation, ", b" operations, ");
-    listing::counted(
-        listing::paddings(records, batches),
-        b" padding, ",
-        b" paddings, ",
-    );
-    listing::counted(used, b" byte\n", b" bytes\n");
-    listing::print_batches(table, codes, values, records, batches);
-}
-
 fn show(bytes: &[u8], at: usize) {
     let table = vm::table();
     let mut codes = codes_room();
@@ -100,7 +43,7 @@ fn show(bytes: &[u8], at: usize) {
             batches,
             operations,
             used,
-        } => print_block(
+        } => listing::print_block(
             &table,
             &codes,
             &values,
@@ -142,9 +85,9 @@ fn offset() -> Number {
     if os::arg_count() < 3 {
         return Number::Is(0);
     }
-    let mut text = io::buffer();
-    let n = os::arg(2, &mut text);
-    decimal(&text[..n])
+    let mut argument = io::buffer();
+    let n = os::arg(2, &mut argument);
+    text::decimal(&argument[..n])
 }
 
 fn main() {
@@ -161,7 +104,7 @@ fn main() {
     }
     let at = offset();
     match at {
-        Number::Is(from) => show_file(&path[..n], from),
-        Number::Not => listing::say(b"show: the offset is not a number of bytes\n"),
+        Number::Is(from) => show_file(&path[..n], from as usize),
+        Number::Not | Number::Large => listing::say(b"show: the offset is not a number of bytes\n"),
     }
 }

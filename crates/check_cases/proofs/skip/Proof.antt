@@ -5,7 +5,7 @@ use Rattle.check_cases.proofs.skip.Statement.{statement}
 use Rattle.check_cases.proofs.skip.Tie as tie
 use Rattle.check_cases.proofs.skip.Reads as reads
 use Rattle.check_cases.proofs.skip.Lts as lts
-use Rattle.check_cases.proofs.digit.Reads as digit-reads
+use Rattle.text.proofs.starts_number.Reads as starts-number-reads
 
 abbrev Inv-loop : tie.InvT-loop
 Inv-loop s from at₀ at = at ≤ length s
@@ -16,11 +16,17 @@ abbrev μ-loop : tie.MeasureT-loop
 loop-holds : tie.Need-loop-holds Inv-loop μ-loop
 loop-holds c = search needs
 
-shared-slice-read-digit : tie.Need-shared-slice-read-digit Inv-loop μ-loop
-shared-slice-read-digit c = search needs
+sub-starts-number : tie.Need-sub-starts-number Inv-loop μ-loop
+sub-starts-number c = search needs
 
-digit-requires : tie.Need-digit-requires Inv-loop μ-loop
-digit-requires c κs = search needs
+part-starts-number-start : tie.Need-part-starts-number-start Inv-loop μ-loop
+part-starts-number-start c = search needs
+
+part-starts-number-end : tie.Need-part-starts-number-end Inv-loop μ-loop
+part-starts-number-end c = search needs
+
+starts-number-requires : tie.Need-starts-number-requires Inv-loop μ-loop
+starts-number-requires c κs = search needs
 
 returns : tie.Need-returns Inv-loop μ-loop
 returns c = search needs
@@ -44,8 +50,10 @@ skip-spec =
     Inv-loop
     μ-loop
     loop-holds
-    shared-slice-read-digit
-    digit-requires
+    sub-starts-number
+    part-starts-number-start
+    part-starts-number-end
+    starts-number-requires
     returns
     add-at
     loop-less

@@ -7,7 +7,7 @@ use Rattle.replay.proofs.lines.Tie as tie
 use Rattle.replay.proofs.lines.Reads as reads
 use Rattle.replay.proofs.lines.Lts as lts
 use Rattle.replay.proofs.line.Reads as line-reads
-use Rattle.replay.proofs.line_end.Reads as line-end-reads
+use Rattle.text.proofs.line_end.Reads as line-end-reads
 
 abbrev Inv-loop : tie.InvT-loop
 Inv-loop s table₀ counts₀ codes₀ values₀ run₀ out-codes₀ out-values₀ out₀ t₀ from₀ n₀ table counts codes values run out-codes out-values out t from n = (t ≤ length table) × (from ≤ length s) × (n ≤ from) × (length table ≡ length table₀) × (length counts ≡ length counts₀) × (length codes ≡ length codes₀) × (length values ≡ length values₀) × (length run ≡ length run₀) × (length out-codes ≡ length out-codes₀) × (length out-values ≡ length out-values₀) × (length out ≡ length out₀)

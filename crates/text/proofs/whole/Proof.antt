@@ -1,13 +1,13 @@
 use Prim.Native.Nat.{_-_, _≤_}
 use borrow.Author.Needs.{needs}
 use lib.ListN.{length}
-use Rattle.numerals.proofs.whole.Statement.{statement}
-use Rattle.numerals.proofs.whole.Tie as tie
-use Rattle.numerals.proofs.whole.Reads as reads
-use Rattle.numerals.proofs.whole.Lts as lts
-use Rattle.numerals.proofs.base.Reads as base-reads
-use Rattle.numerals.proofs.digit.Reads as digit-reads
-use Rattle.numerals.proofs.with_digit.Reads as with-digit-reads
+use Rattle.text.proofs.whole.Statement.{statement}
+use Rattle.text.proofs.whole.Tie as tie
+use Rattle.text.proofs.whole.Reads as reads
+use Rattle.text.proofs.whole.Lts as lts
+use Rattle.text.proofs.base.Reads as base-reads
+use Rattle.text.proofs.digit.Reads as digit-reads
+use Rattle.text.proofs.with_digit.Reads as with-digit-reads
 
 abbrev Inv-loop : tie.InvT-loop
 Inv-loop text hex b v₀ i₀ v i = (i ≤ length text) × (b ≤ 16)
@@ -39,9 +39,6 @@ with-digit-requires c κs = search needs
 enum-known-more : tie.Need-enum-known-more Inv-loop μ-loop
 enum-known-more c = search needs
 
-enum-told : tie.Need-enum-told Inv-loop μ-loop
-enum-told c = search needs
-
 returns-3 : tie.Need-returns-3 Inv-loop μ-loop
 returns-3 c = search needs
 
@@ -71,7 +68,6 @@ whole-spec =
     returns-2
     with-digit-requires
     enum-known-more
-    enum-told
     returns-3
     add-i
     loop-less

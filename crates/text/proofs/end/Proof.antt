@@ -1,12 +1,12 @@
 use Prim.Native.Nat.{_-_, _≤_}
 use borrow.Author.Needs.{needs}
 use lib.ListN.{length}
-use Rattle.numerals.proofs.end.Statement.{statement}
-use Rattle.numerals.proofs.end.Tie as tie
-use Rattle.numerals.proofs.end.Reads as reads
-use Rattle.numerals.proofs.end.Lts as lts
-use Rattle.numerals.proofs.base.Reads as base-reads
-use Rattle.numerals.proofs.digit.Reads as digit-reads
+use Rattle.text.proofs.end.Statement.{statement}
+use Rattle.text.proofs.end.Tie as tie
+use Rattle.text.proofs.end.Reads as reads
+use Rattle.text.proofs.end.Lts as lts
+use Rattle.text.proofs.base.Reads as base-reads
+use Rattle.text.proofs.digit.Reads as digit-reads
 
 abbrev Inv-loop : tie.InvT-loop
 Inv-loop s from hex b at₀ at = (from ≤ at) × (at ≤ length s)

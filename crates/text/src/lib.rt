@@ -1,10 +1,14 @@
-// Numbers in a text, for the programs: decimal or hex digits, within 64 bits.
+// The lines, words and numbers of a text, for the programs that read one.
 ghost use Prim.Native.Nat.{_≤_, _<_};
 ghost use lib.ListN.{length};
+
+// ---- numbers
 
 pub enum Number {
     Is(u64),
     Not,
+    // Digits only, but over 64 bits.
+    Large,
 }
 
 // The value of a hex digit, small or capital; 16 where the byte is none.
@@ -34,15 +38,15 @@ fn with_digit(hex: bool, v: u64, d: u64) -> Number
 {
     if hex {
         if 1152921504606846975 < v {
-            return Number::Not;
+            return Number::Large;
         }
         return Number::Is(v * 16 + d);
     }
     if 1844674407370955161 < v {
-        return Number::Not;
+        return Number::Large;
     }
     if 18446744073709551615 - v * 10 < d {
-        return Number::Not;
+        return Number::Large;
     }
     Number::Is(v * 10 + d)
 }
@@ -60,7 +64,7 @@ fn whole(text: &[u8], hex: bool) -> Number {
             return Number::Not;
         }
         let Number::Is(more) = with_digit(hex, v, d) else {
-            return Number::Not;
+            return Number::Large;
         };
         v = more;
         i += 1;
@@ -75,6 +79,27 @@ pub fn decimal(text: &[u8]) -> Number {
 
 pub fn hex(text: &[u8]) -> Number {
     whole(text, true)
+}
+
+// In hex after 0x, else decimal.
+pub fn either(text: &[u8]) -> Number {
+    if text.len() < 2 {
+        return decimal(text);
+    }
+    if text[0] != b'0' {
+        return decimal(text);
+    }
+    if text[1] != b'x' {
+        return decimal(text);
+    }
+    hex(&text[2..])
+}
+
+pub fn starts_number(text: &[u8]) -> bool {
+    if text.len() == 0 {
+        return false;
+    }
+    digit(text[0]) < 10
 }
 
 fn end(s: &[u8], from: usize, hex: bool) -> usize
@@ -105,4 +130,65 @@ pub fn hex_end(s: &[u8], from: usize) -> usize
     ensures { λ r. ⌜ (from ≤ r) × (r ≤ length (now (s .entry))) ⌝ }
 {
     end(s, from, true)
+}
+
+// ---- lines and words
+
+// The place after the line feed of the line at a place, or the end.
+pub fn line_end(s: &[u8], from: usize) -> usize
+    requires { ⌜ from < length (now s) ⌝ }
+    ensures { λ r. ⌜ (from < r) × (r ≤ length (now (s .entry))) ⌝ }
+{
+    let mut at = from;
+    while at < s.len() {
+        if s[at] == b'\n' {
+            return at + 1;
+        }
+        at += 1;
+    }
+    at
+}
+
+// What parts words. Parentheses do, so that a value may stand as `push(5)` or `push 5`.
+fn blank(b: u8) -> bool {
+    match b {
+        b' ' | b'\t' | b'\r' | b'\n' | b'(' | b')' => true,
+        _ => false,
+    }
+}
+
+// Where the next word of a line starts; its end where there is none before the comment.
+pub fn word_start(line: &[u8], from: usize) -> usize
+    requires { ⌜ from ≤ length (now line) ⌝ }
+    ensures { λ r. ⌜ (from ≤ r) × (r ≤ length (now (line .entry))) ⌝ }
+{
+    let mut at = from;
+    while at < line.len() {
+        if line[at] == b'#' {
+            return line.len();
+        }
+        if !blank(line[at]) {
+            return at;
+        }
+        at += 1;
+    }
+    at
+}
+
+// Where the word at a place ends.
+pub fn word_end(line: &[u8], from: usize) -> usize
+    requires { ⌜ from ≤ length (now line) ⌝ }
+    ensures { λ r. ⌜ (from ≤ r) × (r ≤ length (now (line .entry))) ⌝ }
+{
+    let mut at = from;
+    while at < line.len() {
+        if line[at] == b'#' {
+            return at;
+        }
+        if blank(line[at]) {
+            return at;
+        }
+        at += 1;
+    }
+    at
 }

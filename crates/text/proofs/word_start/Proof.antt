@@ -1,0 +1,61 @@
+use Prim.Native.Nat.{_-_, _≤_}
+use borrow.Author.Needs.{needs}
+use lib.ListN.{length}
+use Rattle.text.proofs.word_start.Statement.{statement}
+use Rattle.text.proofs.word_start.Tie as tie
+use Rattle.text.proofs.word_start.Reads as reads
+use Rattle.text.proofs.word_start.Lts as lts
+use Rattle.text.proofs.blank.Reads as blank-reads
+
+abbrev Inv-loop : tie.InvT-loop
+Inv-loop line from at₀ at = (from ≤ at) × (at ≤ length line)
+
+abbrev μ-loop : tie.MeasureT-loop
+μ-loop line from at₀ at = length line - at
+
+loop-holds : tie.Need-loop-holds Inv-loop μ-loop
+loop-holds c = search needs
+
+shared-slice-read-if1 : tie.Need-shared-slice-read-if1 Inv-loop μ-loop
+shared-slice-read-if1 c = search needs
+
+returns : tie.Need-returns Inv-loop μ-loop
+returns c = search needs
+
+shared-slice-read-blank : tie.Need-shared-slice-read-blank Inv-loop μ-loop
+shared-slice-read-blank c = search needs
+
+blank-requires : tie.Need-blank-requires Inv-loop μ-loop
+blank-requires c κs = search needs
+
+returns-2 : tie.Need-returns-2 Inv-loop μ-loop
+returns-2 c = search needs
+
+add-at : tie.Need-add-at Inv-loop μ-loop
+add-at c = search needs
+
+loop-less : tie.Need-loop-less Inv-loop μ-loop
+loop-less c = search needs
+
+loop-again : tie.Need-loop-again Inv-loop μ-loop
+loop-again c = search needs
+
+returns-3 : tie.Need-returns-3 Inv-loop μ-loop
+returns-3 c = search needs
+
+pub word-start-spec : {M : Type 1} → statement M
+word-start-spec =
+    tie.close
+    (tie.spec
+    Inv-loop
+    μ-loop
+    loop-holds
+    shared-slice-read-if1
+    returns
+    shared-slice-read-blank
+    blank-requires
+    returns-2
+    add-at
+    loop-less
+    loop-again
+    returns-3)
