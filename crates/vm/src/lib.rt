@@ -190,3 +190,38 @@ pub fn name_byte(code: u8, i: usize) -> u8 {
     let c = word::wide(code) as usize;
     row(c / 16, c % 16 * 16 + i)
 }
+
+// The opcode of a name.
+pub enum Named {
+    Code(u8),
+    Nothing,
+}
+
+fn is_named(code: u8, name: &[u8]) -> bool {
+    let mut i: usize = 0;
+    while i < name.len() {
+        if name_byte(code, i) != name[i] {
+            return false;
+        }
+        i += 1;
+    }
+    name_byte(code, i) == b' '
+}
+
+// An empty name is none, nor is a space.
+pub fn code_of(name: &[u8]) -> Named {
+    if name.len() == 0 {
+        return Named::Nothing;
+    }
+    if name[0] == b' ' {
+        return Named::Nothing;
+    }
+    let mut code: u8 = 0;
+    while code < 128 {
+        if is_named(code, name) {
+            return Named::Code(code);
+        }
+        code += 1;
+    }
+    Named::Nothing
+}

@@ -1,0 +1,58 @@
+use mathlib.Core.Path.{sym}
+use native.Mathlib.Omega.{arith}
+use lib.Seq.{length-take-le}
+use borrow.Author.Needs.{needs}
+use Rattle.batch.proofs.lend.Statement.{statement}
+use Rattle.batch.proofs.lend.Tie as tie
+use Rattle.batch.proofs.lend.Reads as reads
+use Rattle.batch.proofs.lend.Lts as lts
+use Rattle.batch.proofs.print_built.Reads as print-built-reads
+
+returns : tie.Need-returns
+returns c = search needs
+
+returns-2 : tie.Need-returns-2
+returns-2 c = search needs
+
+returns-3 : tie.Need-returns-3
+returns-3 c = search needs
+
+mul-end : tie.Need-mul-end
+mul-end c = search needs
+
+returns-4 : tie.Need-returns-4
+returns-4 c = search needs
+
+slice-aggregate-print-built : tie.Need-slice-aggregate-print-built
+slice-aggregate-print-built c = sym (length-take-le _ _ (omega arith))
+
+slice-aggregate-print-built-2 : tie.Need-slice-aggregate-print-built-2
+slice-aggregate-print-built-2 c = sym (length-take-le _ _ (omega arith))
+
+slice-aggregate-print-built-3 : tie.Need-slice-aggregate-print-built-3
+slice-aggregate-print-built-3 c = sym (length-take-le _ _ (omega arith))
+
+print-built-requires : tie.Need-print-built-requires
+print-built-requires c κs = search needs
+
+same-length : tie.Need-same-length
+same-length c = search needs
+
+returns-5 : tie.Need-returns-5
+returns-5 c = search needs
+
+pub lend-spec : {M : Type 1} → statement M
+lend-spec =
+    tie.close
+    (tie.spec
+    returns
+    returns-2
+    returns-3
+    mul-end
+    returns-4
+    slice-aggregate-print-built
+    slice-aggregate-print-built-2
+    slice-aggregate-print-built-3
+    print-built-requires
+    same-length
+    returns-5)
