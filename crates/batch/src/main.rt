@@ -5,6 +5,7 @@ ghost use Prim.Native.Nat.{_≤_, _<_};
 ghost use lib.ListN.{length};
 use build::Built;
 use encoder::Encoded;
+use libc::STDIN_FILENO;
 use listing::number as print;
 use listing::say;
 use text::Number;
@@ -329,9 +330,9 @@ fn lend(
 
 fn batch(codes: &[u8], values: &[u64], lines: &[u64], room: &mut [u8]) {
     let table = vm::table();
-    let mut out_codes = codes_room();
-    let mut out_values = values_room();
-    let mut records = records_room();
+    let mut out_codes = space::codes();
+    let mut out_values = space::values();
+    let mut records = space::records();
     let r = build::build(
         &table,
         codes,
@@ -357,7 +358,7 @@ fn batch(codes: &[u8], values: &[u64], lines: &[u64], room: &mut [u8]) {
     }
 }
 
-// ---- room for a list, and for the largest block
+// ---- room for a list
 
 // As much as a block's bytes may have.
 fn list_room() -> [u8; 1048576]
@@ -378,27 +379,15 @@ fn names_room() -> [u8; 16384]
     [0; 16384]
 }
 
-fn codes_room() -> [u8; 65535]
-    ensures { λ r. ⌜ 65535 ≡ length r ⌝ }
-{
-    [0; 65535]
-}
-
-fn values_room() -> [u64; 65535]
-    ensures { λ r. ⌜ 65535 ≡ length r ⌝ }
-{
-    [0; 65535]
-}
-
-fn records_room() -> [u8; 1343488]
-    ensures { λ r. ⌜ 1343488 ≡ length r ⌝ }
-{
-    [0; 1343488]
-}
-
 fn main() {
+    // a folder can be opened, and only a read says that it is none
+    let mut nothing = [0u8; 0];
+    if libc::read(STDIN_FILENO, &mut nothing) < 0 {
+        say(b"batch: the list cannot be read\n");
+        return;
+    }
     let mut list = list_room();
-    let n = io::read_full(0, &mut list);
+    let n = io::read_full(STDIN_FILENO, &mut list);
     if n == list.len() {
         say(b"batch: the list is longer than 1048575 bytes\n");
         return;

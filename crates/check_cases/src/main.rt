@@ -195,25 +195,6 @@ fn show_table(v: Tabled, out: &[u64]) {
 
 // ---- cases
 
-// Runs for the limits: 65,536 operations and 16,386 records.
-fn no_codes() -> [u8; 65536]
-    ensures { λ r. ⌜ 65536 ≡ length r ⌝ }
-{
-    [0; 65536]
-}
-
-fn no_values() -> [u64; 65536]
-    ensures { λ r. ⌜ 65536 ≡ length r ⌝ }
-{
-    [0; 65536]
-}
-
-fn no_records() -> [u8; 1343652]
-    ensures { λ r. ⌜ 1343652 ≡ length r ⌝ }
-{
-    [0; 1343652]
-}
-
 fn tables(padded: bool, codes: &[u8], values: &[u64], records: &[u8], out: &mut [u64]) {
     if padded {
         let v = prefix::padded_to_raw(codes, values, records, out);
@@ -440,8 +421,8 @@ fn main() {
     let mut space = io::large_buffer();
     let n = io::read_full(0, &mut space);
     let mut table = [0u8; 128];
-    let mut codes = no_codes();
-    let mut values = no_values();
-    let mut runs = no_records();
+    let mut codes = space::codes();
+    let mut values = space::values();
+    let mut runs = space::records();
     cases(&space[..n], &mut table, &mut codes, &mut values, &mut runs);
 }

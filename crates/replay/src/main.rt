@@ -226,8 +226,7 @@ fn say_function(what: u64) {
         9 => say(b"padded index"),
         10 => say(b"raw index"),
         11 => say(b"group"),
-        12 => say(b"next group"),
-        _ => say(b"table of kinds"),
+        _ => say(b"next group"),
     }
 }
 
@@ -333,7 +332,8 @@ fn compared(mut c: Case, s: &[u8], h: Head, what: &[u8], ours: usize, at: usize)
     c
 }
 
-const MOST: usize = 1343570;
+// No output is longer.
+const MOST: usize = 1343652;
 
 fn bytes_are(c: Case, s: &[u8], what: &[u8], ours: &[u8]) -> Case {
     let h = run_head(s, c.at, MOST);
@@ -922,19 +922,6 @@ fn text_room() -> [u8; 262144]
     [0; 262144]
 }
 
-fn values_room() -> [u64; 65536]
-    ensures { λ r. ⌜ 65536 ≡ length r ⌝ }
-{
-    [0; 65536]
-}
-
-// 16,385 records, one over the limit.
-fn bytes_room() -> [u8; 1343570]
-    ensures { λ r. ⌜ 1343570 ≡ length r ⌝ }
-{
-    [0; 1343570]
-}
-
 // The file that an argument names.
 fn argument(
     i: usize,
@@ -1002,12 +989,12 @@ fn main() {
     let mut counts = [0u64; 16];
     let mut text = text_room();
     let mut table = [0u8; 256];
-    let mut codes = io::large_buffer();
-    let mut values = values_room();
-    let mut run = bytes_room();
-    let mut out_codes = io::large_buffer();
-    let mut out_values = values_room();
-    let mut out = bytes_room();
+    let mut codes = space::codes();
+    let mut values = space::values();
+    let mut run = space::records();
+    let mut out_codes = space::codes();
+    let mut out_values = space::values();
+    let mut out = space::records();
     files(
         os::arg_count(),
         &mut counts,

@@ -7,36 +7,18 @@ use text::Number;
 
 const MOST_BYTES: usize = 1048576;
 
-// Room for a file, and for the largest block. The `ensures` gives the length, which lending an array asks for.
+// Room for a file.
 fn file_room() -> [u8; 1048577]
     ensures { λ r. ⌜ 1048577 ≡ length r ⌝ }
 {
     [0; 1048577]
 }
 
-fn codes_room() -> [u8; 65535]
-    ensures { λ r. ⌜ 65535 ≡ length r ⌝ }
-{
-    [0; 65535]
-}
-
-fn values_room() -> [u64; 65535]
-    ensures { λ r. ⌜ 65535 ≡ length r ⌝ }
-{
-    [0; 65535]
-}
-
-fn records_room() -> [u8; 1343488]
-    ensures { λ r. ⌜ 1343488 ≡ length r ⌝ }
-{
-    [0; 1343488]
-}
-
 fn show(bytes: &[u8], at: usize) {
     let table = vm::table();
-    let mut codes = codes_room();
-    let mut values = values_room();
-    let mut records = records_room();
+    let mut codes = space::codes();
+    let mut values = space::values();
+    let mut records = space::records();
     let r = decoder::decode(&table, bytes, at, &mut codes, &mut values, &mut records);
     match r {
         Decoded::Made {

@@ -1,0 +1,24 @@
+// Room for the largest block, and a little more so that a test can go over each limit. The `ensures` gives the length, which lending an array
+// asks for.
+ghost use mathlib.Core.Path.{_≡_};
+ghost use lib.ListN.{length};
+
+// 65,535 operations, and one.
+pub fn codes() -> [u8; 65536]
+    ensures { λ r. ⌜ 65536 ≡ length r ⌝ }
+{
+    [0; 65536]
+}
+
+pub fn values() -> [u64; 65536]
+    ensures { λ r. ⌜ 65536 ≡ length r ⌝ }
+{
+    [0; 65536]
+}
+
+// 16,384 records, and two.
+pub fn records() -> [u8; 1343652]
+    ensures { λ r. ⌜ 1343652 ≡ length r ⌝ }
+{
+    [0; 1343652]
+}
