@@ -10,15 +10,13 @@ use Rattle.rules.specs.Lists.{fitted}
 use Rattle.rules.specs.Digits.{leAt, leBytes}
 use Rattle.rules.specs.Record.{wordBytes, wordsAt}
 use Rattle.rules.proofs.Runs.{zeroed}
-use Rattle.op_batch.proofs.Bytes.{words-length, word}
-use Rattle.op_batch.proofs.Loads.{words-turn, words-end}
-use Rattle.decoder.proofs.Stores as out
-use Rattle.decoder.proofs.Stores.{length-words}
+use Rattle.rules.proofs.Sizes.{length-wordsAt, length-words}
+use Rattle.rules.proofs.Loads.{word, words-turn, words-end, stored-turn}
 use Rattle.crossing.specs.Words.{wordsIn}
 
 pub length-in : (s : List ℕ) → length (wordsIn s) ≡ length s / 8
 unfolding wordsIn
-length-in s = words-length (length s / 8) s 0
+length-in s = length-wordsAt (length s / 8) s 0
 
 pub word-in : (s : List ℕ) (i : ℕ) → i < length s / 8 → getD (wordsIn s) i 0 ≡ leAt 8 s (8 * i)
 unfolding wordsIn
@@ -44,7 +42,7 @@ in-start d s = rw sub-zero
 
 pub out-turn : (d ns : List ℕ) (i : ℕ) → i < length ns
     → sets (sets d (8 * i) (leBytes 8 (getD ns i 0))) (8 * (i + 1)) (wordBytes (drop (i + 1) ns)) ≡ sets d (8 * i) (wordBytes (drop i ns))
-out-turn d ns i h = rw (zero-add (8 * i), zero-add (8 * (i + 1))) at (out.words-turn ns i d 0 h)
+out-turn d ns i h = rw (zero-add (8 * i), zero-add (8 * (i + 1))) at (stored-turn ns i d 0 h)
 
 -- ---- what the loops leave
 

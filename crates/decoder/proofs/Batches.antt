@@ -17,7 +17,8 @@ use Rattle.rules.specs.Block.{cut, slots, paddingRight, batchAt, batchesAt}
 use Rattle.rules.proofs.Runs.{fitted-length}
 use Rattle.decoder.specs.Stages.{sizesFrom, flagsFrom}
 use Rattle.decoder.proofs.Stages.{onto, onto-nil, onto-then, onto-found}
-use Rattle.decoder.proofs.Stores.{record-size, length-digits}
+use Rattle.decoder.proofs.Stores.{record-size}
+use Rattle.rules.proofs.Digits.{length-digits}
 
 -- ---- a batch
 

@@ -1,36 +1,17 @@
 -- Stores into the run of records. Assumes nothing.
-use mathlib.Core.Path.{_≡_, refl, sym, ap, _∙_}
+use mathlib.Core.Path.{_≡_, ap, _∙_}
 use mathlib.Core.List.{List, [], _∷_, _++_}
-use Prim.Native.Nat.{ℕ, zero, suc, _+_, _*_, _/_, _≤_, _<_}
-use native.Mathlib.Numerals.{add-one}
+use Prim.Native.Nat.{ℕ, suc, _+_}
 use native.Mathlib.Omega.{arith}
-use lib.ListN.{length, getD, drop, set, length-append, drop-of-length-le}
-use lib.Seq.{sets, drop-cons}
-use Rattle.rules.specs.Digits.{digits, leBytes}
+use lib.ListN.{length, set, length-append}
+use lib.Seq.{sets}
+use Rattle.rules.specs.Digits.{digits}
 use Rattle.rules.specs.Record.{startsFrom, wordBytes}
-use Rattle.rules.proofs.Digits.{length-leBytes, sets-append}
+use Rattle.rules.proofs.Digits.{length-digits}
 use Rattle.rules.proofs.Sizes.{length-starts, length-words}
 use Rattle.rules.proofs.Runs.{sets-next}
 
--- numbers stored one after the other
-module _ (ns : List ℕ) (i : ℕ) where
-  pub words-turn : (l : List ℕ) (at : ℕ) → i < length ns
-      → sets (sets l (at + 8 * i) (leBytes 8 (getD ns i 0))) (at + 8 * (i + 1)) (wordBytes (drop (i + 1) ns)) ≡ sets l (at + 8 * i) (wordBytes (drop i ns))
-  unfolding wordBytes
-  words-turn l at h =
-      let e : at + 8 * (i + 1) ≡ at + 8 * i + length (leBytes 8 (getD ns i 0)) = omega (arith, length-leBytes 8 (getD ns i 0)) in
-      rw (drop-cons ns i 0 h, e, add-one i) (sym (sets-append l (at + 8 * i) (leBytes 8 (getD ns i 0)) (wordBytes (drop (suc i) ns))))
-
-  pub words-end : (l : List ℕ) (at : ℕ) → length ns ≤ i → sets l at (wordBytes (drop i ns)) ≡ l
-  unfolding wordBytes
-  words-end l at h = rw (drop-of-length-le ns {i = i} h)
-
 -- ---- a record
-
-pub length-digits : (b k v : ℕ) → length (digits b k v) ≡ k
-unfolding digits
-length-digits b zero v = refl
-length-digits b (suc k) v = ap suc (length-digits b k (v / b))
 
 module _ (v f : ℕ) (ns : List ℕ) (c : ℕ) (n : length ns ≡ 8) where
   abbrev pub bytes : List ℕ

@@ -47,7 +47,7 @@ module _ (t : List ℕ) (a : Arena) (size at : ℕ) where
 
 -- ---- what passed
 
-or-false : (a b : Bool) → (not a || b) ≡ false → (a ≡ true) × (b ≡ false)
+pub or-false : (a b : Bool) → (not a || b) ≡ false → (a ≡ true) × (b ≡ false)
 or-false true b h = (refl, h)
 or-false false b h = let z : _≡_ {A = ℕ} 0 1 = cc in absurd (omega arith)
 

@@ -23,10 +23,7 @@ use Rattle.exports.specs.declared.BuildReply.{BuildReply}
 use Rattle.exports.proofs.Whole.{whole, broken}
 use Rattle.exports.proofs.Rooms.{leb-min, arena-out}
 use Rattle.exports.proofs.Guards.{same-refuse, same-first, short-refuse, short-first}
-
-or-false : (a b : Bool) → (not a || b) ≡ false → (a ≡ true) × (b ≡ false)
-or-false true b h = (refl, h)
-or-false false b h = let z : _≡_ {A = ℕ} 0 1 = cc in absurd (omega arith)
+use Rattle.encoder.proofs.Inputs.{or-false}
 
 -- ---- refused where the values are not whole numbers, or too many
 

@@ -2,7 +2,7 @@
 use mathlib.Core.Path.{_≡_, refl, sym, ap, ap₂, _∙_}
 use mathlib.Core.Bool.{Bool, true, false, _&&_}
 use mathlib.Core.List.{List, _∷_}
-use Prim.Native.Nat.{ℕ, zero, suc, _+_, _-_, _*_, _%_, _≤_, _<_}
+use Prim.Native.Nat.{ℕ, suc, _+_, _-_, _*_, _%_, _≤_, _<_}
 use native.Mathlib.Nat.{add-zero, zero-add}
 use native.Mathlib.Omega.{arith}
 use borrow.Author.Tests.{le-leb, lt-leb, leb-true}
@@ -10,40 +10,17 @@ use lib.ListN.{length, getD}
 use lib.Seq.{ext-getD}
 use lib.Dec.{leb, eqb}
 use Rattle.rules.specs.Lists.{every}
-use Rattle.rules.specs.Digits.{leAt}
-use Rattle.rules.specs.Record.{bytesAt, wordsAt}
+use Rattle.rules.specs.Record.{bytesAt}
 use Rattle.rules.specs.Checks.{startsRight, recordRight}
 use Rattle.rules.proofs.Digits.{split}
 use Rattle.rules.proofs.Operations.{true-left, true-right}
 use Rattle.op_batch.specs.OpBatch.{layout}
-
-pub bytes-length : (k : ℕ) (s : List ℕ) (at : ℕ) → length (bytesAt k s at) ≡ k
-unfolding bytesAt
-bytes-length zero s at = refl
-bytes-length (suc k) s at = ap suc (bytes-length k s (at + 1))
-
-pub words-length : (k : ℕ) (s : List ℕ) (at : ℕ) → length (wordsAt k s at) ≡ k
-unfolding wordsAt
-words-length zero s at = refl
-words-length (suc k) s at = ap suc (words-length k s (at + 8))
-
--- the i-th byte
-pub byte : (k : ℕ) (s : List ℕ) (at i : ℕ) → i < k → getD (bytesAt k s at) i 0 ≡ getD s (at + i) 0
-unfolding bytesAt
-byte zero s at i h = absurd (omega arith)
-byte (suc k) s at zero h = rw (add-zero at)
-byte (suc k) s at (suc i) h = byte k s (at + 1) i (omega arith) ∙ ap (λ (n : ℕ). getD s n 0) (omega arith)
+use Rattle.rules.proofs.Sizes.{length-bytesAt}
+use Rattle.rules.proofs.Loads.{byte}
 
 -- a whole list read byte by byte
 pub bytes-all : (s : List ℕ) (n : ℕ) → length s ≡ n → bytesAt n s 0 ≡ s
-bytes-all s n h = ext-getD 0 (bytesAt n s 0) s (bytes-length n s 0 ∙ sym h) (λ i l. byte n s 0 i (rw (bytes-length n s 0) at l) ∙ ap (λ (k : ℕ). getD s k 0) (zero-add i))
-
--- the i-th word
-pub word : (k : ℕ) (s : List ℕ) (at i : ℕ) → i < k → getD (wordsAt k s at) i 0 ≡ leAt 8 s (at + 8 * i)
-unfolding wordsAt
-word zero s at i h = absurd (omega arith)
-word (suc k) s at zero h = rw (add-zero at)
-word (suc k) s at (suc i) h = word k s (at + 8) i (omega arith) ∙ ap (leAt 8 s) (omega arith)
+bytes-all s n h = ext-getD 0 (bytesAt n s 0) s (length-bytesAt n s 0 ∙ sym h) (λ i l. byte n s 0 i (rw (length-bytesAt n s 0) at l) ∙ ap (λ (k : ℕ). getD s k 0) (zero-add i))
 
 -- the bytes from the i-th of n on
 pub bytes-turn : (n : ℕ) (s : List ℕ) (at i : ℕ) → i < n → bytesAt (n - i) s (at + i) ≡ getD s (at + i) 0 ∷ bytesAt (n - (i + 1)) s (at + (i + 1))

@@ -15,7 +15,8 @@ use Rattle.rules.specs.Record.{Record, bytesAt, recordAt}
 use Rattle.rules.specs.Checks.{ninth, startsRight, recordRight}
 use Rattle.rules.proofs.Digits.{split}
 use Rattle.rules.proofs.Operations.{true-left, true-right}
-use Rattle.op_batch.proofs.Bytes.{bytes-length, words-length, byte, word}
+use Rattle.rules.proofs.Sizes.{length-bytesAt, length-wordsAt}
+use Rattle.rules.proofs.Loads.{byte, word}
 
 every-at : (test : ℕ → Bool) (xs : List ℕ) (i : ℕ) → every test xs ≡ true → i < length xs → test (getD xs i 0) ≡ true
 unfolding every
@@ -107,15 +108,15 @@ as-number (suc k) s at = ap (λ (n : ℕ). getD s at 0 + 256 * n) (as-number k s
 module _ (s : List ℕ) (b : ℕ) where
   pub starts-length : length (recordAt s b .starts) ≡ 9
   unfolding recordAt
-  starts-length = bytes-length 9 s (82 * b)
+  starts-length = length-bytesAt 9 s (82 * b)
 
   pub flags-length : length (recordAt s b .flags) ≡ 8
   unfolding recordAt
-  flags-length = bytes-length 8 s (82 * b + 9)
+  flags-length = length-bytesAt 8 s (82 * b + 9)
 
   pub numbers-length : length (recordAt s b .numbers) ≡ 8
   unfolding recordAt
-  numbers-length = words-length 8 s (82 * b + 17)
+  numbers-length = length-wordsAt 8 s (82 * b + 17)
 
   pub start-at : (g : ℕ) → g < 9 → getD (recordAt s b .starts) g 0 ≡ getD s (82 * b + g) 0
   unfolding recordAt

@@ -3,3 +3,4 @@ pub mod Runs
 pub mod Answer
 pub mod Operations
 pub mod Sizes
+pub mod Loads

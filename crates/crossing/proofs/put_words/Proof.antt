@@ -1,6 +1,6 @@
 use mathlib.Core.List.{List}
 use Rattle.crossing.proofs.Copies.{out-turn}
-use Rattle.decoder.proofs.Stores.{words-end}
+use Rattle.rules.proofs.Loads.{stored-end}
 use Rattle.rules.specs.Record.{wordBytes}
 use lib.Seq.{sets}
 use lib.ListN.{length, drop}
@@ -51,7 +51,7 @@ same-length : tie.Need-same-length Inv-loop μ-loop
 same-length c = c .before .loop .inv .0
 
 returns : tie.Need-returns Inv-loop μ-loop
-returns c = let l = c .before .loop in let w = c .before .before .before .before .args .words .now in sym (words-end w (l .i) (l .out) (8 * l .i) (c .loop-test .left)) ∙ l .inv .1
+returns c = let l = c .before .loop in let w = c .before .before .before .before .args .words .now in sym (stored-end w (l .i) (l .out) (8 * l .i) (c .loop-test .left)) ∙ l .inv .1
 
 pub put-words-spec : {M : Type 1} → statement M
 put-words-spec =

@@ -7,7 +7,7 @@ use denote.Ref.{now}
 use lib.ListN.{length, drop}
 use lib.Seq.{sets}
 use Rattle.rules.specs.Record.{wordBytes}
-use Rattle.decoder.proofs.Stores.{words-turn, words-end}
+use Rattle.rules.proofs.Loads.{stored-turn, stored-end}
 use Rattle.decoder.proofs.put_groups.Statement.{statement}
 use Rattle.decoder.proofs.put_groups.Tie as tie
 
@@ -46,7 +46,7 @@ loop-again c =
     let a = c .before .before .before .before .before .before .before .before .args in
     let l = c .before .before .before .before .before .before .loop in
     let w = c .before .before .put8 in
-    (omega arith, w .kept .0 ∙ l .inv .1, rw (w .ensures) (words-turn (now (a .groups)) (l .i) (l .out) (a .at) (omega arith) ∙ l .inv .2))
+    (omega arith, w .kept .0 ∙ l .inv .1, rw (w .ensures) (stored-turn (now (a .groups)) (l .i) (l .out) (a .at) (omega arith) ∙ l .inv .2))
 
 same-length : tie.Need-same-length Inv-loop μ-loop
 same-length c = c .before .loop .inv .1
@@ -55,7 +55,7 @@ returns : tie.Need-returns Inv-loop μ-loop
 returns c =
     let a = c .before .before .before .args in
     let l = c .before .loop in
-    sym (words-end (now (a .groups)) (l .i) (l .out) (a .at + 8 * l .i) (omega arith)) ∙ l .inv .2
+    sym (stored-end (now (a .groups)) (l .i) (l .out) (a .at + 8 * l .i) (omega arith)) ∙ l .inv .2
 
 pub put-groups-spec : {M : Type 1} → statement M
 put-groups-spec =

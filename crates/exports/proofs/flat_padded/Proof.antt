@@ -1,4 +1,4 @@
-use mathlib.Core.Path.{_≡_, refl, sym, ap, _∙_}
+use mathlib.Core.Path.{sym, ap}
 use Rattle.exports.specs.Flat.{flatPadded}
 use borrow.Author.Needs.{needs}
 use Rattle.exports.proofs.flat_padded.Statement.{statement}

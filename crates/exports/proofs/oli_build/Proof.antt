@@ -1,5 +1,5 @@
 use Rattle.rules.specs.Functions.{arena, roomIn, built}
-use mathlib.Core.Path.{_≡_, refl, sym, ap, _∙_}
+use mathlib.Core.Path.{ap, _∙_}
 use Rattle.exports.specs.Flat.{flatBuilt}
 use Rattle.exports.proofs.Cross.{cross-built}
 use borrow.Author.Needs.{needs}

@@ -1,5 +1,5 @@
 use Rattle.rules.specs.Functions.{arena, commitmentChecked}
-use mathlib.Core.Path.{_≡_, refl, sym, ap, _∙_}
+use mathlib.Core.Path.{ap, _∙_}
 use Rattle.exports.specs.Flat.{flatVerdict}
 use Rattle.exports.proofs.Cross.{cross-verdict}
 use borrow.Author.Needs.{needs}

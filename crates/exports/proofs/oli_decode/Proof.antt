@@ -1,4 +1,4 @@
-use mathlib.Core.Path.{_≡_, refl, sym, ap, _∙_}
+use mathlib.Core.Path.{ap, _∙_}
 use Rattle.rules.specs.Functions.{arena, roomIn, decoded}
 use Rattle.exports.specs.Flat.{flatDecoded}
 use Rattle.exports.proofs.Cross.{cross-decoded}

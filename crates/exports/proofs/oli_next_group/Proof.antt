@@ -1,8 +1,8 @@
-use mathlib.Core.Path.{_≡_, refl, sym, ap, _∙_}
+use mathlib.Core.Path.{ap, _∙_}
 use borrow.Author.Tests.{eq-eqb, ne-eqb}
 use Rattle.rules.specs.Record.{Record, recordAt}
 use Rattle.rules.specs.Functions.{nextLookup}
-use Rattle.op_batch.specs.OpBatch.{recordIn, nextOf}
+use Rattle.op_batch.specs.OpBatch.{nextOf}
 use Rattle.exports.specs.Replies.{oneRecord}
 use Rattle.exports.specs.Flat.{flatNext}
 use Rattle.exports.proofs.Cross.{cross-next}

@@ -1,5 +1,5 @@
 use Rattle.rules.specs.Lookups.{paddedIndex}
-use mathlib.Core.Path.{_≡_, refl, sym, ap, _∙_}
+use mathlib.Core.Path.{ap, _∙_}
 use Rattle.exports.specs.Flat.{flatPadded}
 use Rattle.exports.proofs.Cross.{cross-padded}
 use borrow.Author.Needs.{needs}

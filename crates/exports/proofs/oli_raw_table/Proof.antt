@@ -1,6 +1,6 @@
 use lib.ListN.{length}
 use Rattle.rules.specs.Functions.{arena, rawTabled}
-use mathlib.Core.Path.{_≡_, refl, sym, ap, _∙_}
+use mathlib.Core.Path.{ap, _∙_}
 use Rattle.exports.specs.Flat.{flatTabled}
 use Rattle.exports.proofs.Cross.{cross-tabled}
 use borrow.Author.Needs.{needs}

@@ -5,7 +5,8 @@ use borrow.Author.Needs.{needs}
 use borrow.Author.Tests.{not-true, not-false, le-leb, lt-leb, eq-eqb, ne-eqb}
 use Rattle.rules.specs.Record.{bytesAt}
 use Rattle.rules.specs.Checks.{recordRight}
-use Rattle.op_batch.proofs.Bytes.{byte, last-test}
+use Rattle.rules.proofs.Loads.{byte}
+use Rattle.op_batch.proofs.Bytes.{last-test}
 use Rattle.op_batch.proofs.layout_right.Statement.{statement}
 use Rattle.op_batch.proofs.layout_right.Tie as tie
 use Rattle.op_batch.proofs.layout_right.Reads as reads

@@ -6,7 +6,7 @@ use native.Mathlib.Nat.{add-zero}
 use lib.ListN.{length, length-set}
 use lib.Seq.{sets}
 use Rattle.rules.specs.Record.{bytesAt}
-use Rattle.op_batch.proofs.Loads.{bytes-start, bytes-turn, bytes-end}
+use Rattle.rules.proofs.Loads.{bytes-start, bytes-turn, bytes-end}
 use Rattle.op_batch.proofs.load8.Statement.{statement}
 use Rattle.op_batch.proofs.load8.Tie as tie
 use Rattle.op_batch.proofs.load8.Reads as reads

@@ -6,7 +6,7 @@ use native.Mathlib.Nat.{add-zero}
 use lib.ListN.{length, set, length-set}
 use lib.Seq.{sets}
 use Rattle.rules.specs.Record.{wordsAt}
-use Rattle.op_batch.proofs.Loads.{words-start, words-turn, words-end}
+use Rattle.rules.proofs.Loads.{words-start, words-turn, words-end}
 use Rattle.op_batch.proofs.load_words.Statement.{statement}
 use Rattle.op_batch.proofs.load_words.Tie as tie
 use Rattle.op_batch.proofs.load_words.Reads as reads
