@@ -1,9 +1,7 @@
 -- The walk over a batch's groups that only says whether all is right with them. Assumes nothing.
 use mathlib.Core.Path.{_≡_, refl, sym, ap, ap₂, _∙_}
-use mathlib.Core.Bool.{true}
 use mathlib.Core.List.{List}
 use Prim.Native.Nat.{ℕ, _+_, _-_, _≤_, _<_}
-use native.Mathlib.Nat.{add-zero}
 use native.Mathlib.Omega.{arith}
 use lib.ListN.{length, getD}
 use Rattle.rules.specs.Operations.{Op, operations}
@@ -11,11 +9,11 @@ use Rattle.rules.specs.Record.{Record, recordAt, codesNumber}
 use Rattle.rules.specs.Block.{immediates}
 use Rattle.rules.specs.Checks.{placingFault, orElse, commitmentFault}
 use Rattle.rules.specs.Functions.{Arena}
-use Rattle.checks.specs.Batch.{Lies, heldAt, under, span}
+use Rattle.checks.specs.Batch.{Lies, under, span}
 use Rattle.checks.specs.Walk.{slotsAfter, admissibleFrom, BatchRight}
 use Rattle.checks.proofs.Groups.{Lying, lying, in-order, within-codes}
 use Rattle.checks.proofs.Numbers.{slot-free, slots-done, groupsLeft, emptyLeft, groups-done, empty-done, group-skip, empty-held, empty-right, empty-skip, counted, groups-begin, empty-begin}
-use Rattle.checks.proofs.Slots.{Right, all-right}
+use Rattle.checks.proofs.Slots.{all-right}
 
 -- from the g-th group on: slots for the immediates of the groups before, up to `held`, and then the groups
 unfoldable owed : List ℕ → Record → List Op → ℕ → ℕ → ℕ → ℕ

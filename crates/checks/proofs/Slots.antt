@@ -1,24 +1,23 @@
 -- The walk over a group's operations that only says whether all is right with them. Assumes nothing.
 use mathlib.Core.Path.{_≡_, refl, sym, ap, _∙_}
 use mathlib.Core.Bool.{Bool, true, false, cond}
-use mathlib.Core.List.{List, [], _∷_}
+use mathlib.Core.List.{List, _∷_}
 use Prim.Native.Nat.{ℕ, zero, suc, _+_, _-_, _*_, _^_, _≤_, _<_}
-use native.Mathlib.Nat.{add-zero, mul-assoc, mul-comm, mul-le-mul-right, pow-suc, pow-zero, pow-le-pow-right}
-use native.Mathlib.Numerals.{add-one}
+use native.Mathlib.Nat.{mul-assoc, mul-comm, mul-le-mul-right, pow-suc, pow-zero, pow-le-pow-right}
 use native.Mathlib.Omega.{arith}
 use borrow.Author.Tests.{lt-ltb, le-leb, lt-leb, ne-eqb, leb-false, eqb-true}
 use lib.ListN.{length, getD, drop}
-use lib.Dec.{leb, ltb, eqb}
+use lib.Dec.{leb, eqb}
 use Rattle.rules.specs.Operations.{Op, operations, kindOf, hasImmediate, field, assigned, valued, valueRight, admissible, opFault}
 use Rattle.rules.specs.Record.{codesNumber}
-use Rattle.rules.specs.Block.{part, immediates}
+use Rattle.rules.specs.Block.{immediates}
 use Rattle.rules.specs.Checks.{begins}
 use Rattle.rules.proofs.Digits.{split}
 use Rattle.rules.proofs.Operations.{op, kind-at}
 use Rattle.operation.proofs.Scan as scan
 use Rattle.checks.specs.Batch.{span}
 use Rattle.checks.specs.Walk.{slotAfter, opAfter, slotsAfter, admissibleFrom}
-use Rattle.checks.proofs.Groups.{part-turn, span-turn, span-none}
+use Rattle.checks.proofs.Groups.{span-turn, span-none}
 use Rattle.checks.proofs.Numbers.{number-turn, number-none, agrees, all-agree}
 
 -- ---- one operation

@@ -12,7 +12,7 @@ ghost use Rattle.rules.specs.Checks.{structureFaults, paddingFault, paddingFaul
 ghost use Rattle.rules.specs.Functions.{arena, blockIn, within, structureChecked, paddingChecked, commitmentChecked};
 ghost use Rattle.operation.specs.Verdict.{verdictOf};
 ghost use Rattle.checks.specs.Batch.{heldAt, Lies, Apt, under, span};
-ghost use Rattle.checks.specs.Walk.{slotAfter, slotsAfter, admissibleFrom, AllRight, BatchRight};
+ghost use Rattle.checks.specs.Walk.{slotAfter, slotsAfter, AllRight, BatchRight};
 use op_batch::RECORD;
 use operation::Verdict;
 

@@ -4,12 +4,11 @@ use Rattle.operation.proofs.Scan as scan
 use Rattle.rules.specs.Functions.{arena}
 use Rattle.rules.specs.Checks.{commitmentFault, commitmentFaults}
 use lib.ListN.{length}
-use borrow.Author.Tests.{not-true, not-false}
+use borrow.Author.Tests.{not-false}
 use borrow.Author.Needs.{needs}
 use native.Mathlib.Omega.{arith}
-use Prim.Native.Nat.{ℕ, _+_, _-_, _/_, _≤_}
-use mathlib.Core.Bool.{true, false}
-use mathlib.Core.Path.{_≡_, refl, sym, ap, _∙_}
+use Prim.Native.Nat.{ℕ, _+_, _-_, _/_}
+use mathlib.Core.Path.{_≡_, refl, sym, _∙_}
 use Rattle.checks.proofs.all_right.Statement.{statement}
 use Rattle.checks.proofs.all_right.Tie as tie
 use Rattle.checks.proofs.all_right.Reads as reads

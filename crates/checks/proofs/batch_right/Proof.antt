@@ -5,7 +5,6 @@ use Rattle.rules.specs.Record.{recordAt}
 use borrow.Author.Needs.{needs}
 use native.Mathlib.Omega.{arith}
 use Prim.Native.Nat.{ℕ, _+_, _-_, _≤_, _<_}
-use mathlib.Core.Bool.{true, false}
 use mathlib.Core.Path.{_≡_, sym, ap, _∙_}
 use Rattle.checks.proofs.batch_right.Statement.{statement}
 use Rattle.checks.proofs.batch_right.Tie as tie

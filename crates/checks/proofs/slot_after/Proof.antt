@@ -1,8 +1,7 @@
 use Rattle.checks.specs.Walk.{slotAfter}
 use Rattle.rules.specs.Operations.{field}
 use borrow.Author.Tests.{eq-eqb, ne-eqb, le-leb, lt-leb}
-use native.Mathlib.Omega.{arith}
-use mathlib.Core.Path.{_≡_, sym, _∙_}
+use mathlib.Core.Path.{sym, _∙_}
 use borrow.Author.Needs.{needs}
 use Rattle.checks.proofs.slot_after.Statement.{statement}
 use Rattle.checks.proofs.slot_after.Tie as tie

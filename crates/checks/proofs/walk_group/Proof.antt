@@ -1,5 +1,4 @@
 use Rattle.checks.proofs.Slots.{over-after, kind-after, slots-turn, slots-stop, slots-none, sum-turn, sum-done, place-first, place-small, product-small, place-next}
-use Rattle.checks.proofs.Numbers.{number-none}
 use Rattle.checks.specs.Walk.{slotsAfter}
 use Rattle.checks.specs.Batch.{span}
 use Rattle.rules.specs.Record.{recordAt, codesNumber}

@@ -7,7 +7,7 @@ use native.Mathlib.Nat.{add-zero}
 use native.Mathlib.Omega.{arith}
 use Prim.Native.Nat.{ℕ, _+_, _-_, _≤_}
 use mathlib.Core.Bool.{Bool, _&&_}
-use mathlib.Core.Path.{_≡_, sym, ap, _∙_}
+use mathlib.Core.Path.{_≡_, ap, _∙_}
 use Rattle.op_batch.proofs.flags_right.Statement.{statement}
 use Rattle.op_batch.proofs.flags_right.Tie as tie
 use Rattle.op_batch.proofs.flags_right.Reads as reads

@@ -1,7 +1,6 @@
 use borrow.Author.Tests.{le-leb, lt-leb}
 use native.Mathlib.Omega.{arith}
 use Prim.Native.Nat.{_+_, _-_, _%_}
-use mathlib.Core.Path.{_≡_}
 use borrow.Author.Needs.{needs}
 use Rattle.op_batch.proofs.start_right.Statement.{statement}
 use Rattle.op_batch.proofs.start_right.Tie as tie

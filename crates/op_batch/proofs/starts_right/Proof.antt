@@ -5,9 +5,9 @@ use lib.ListN.{getD}
 use borrow.Author.Needs.{needs}
 use native.Mathlib.Nat.{add-zero}
 use native.Mathlib.Omega.{arith}
-use Prim.Native.Nat.{ℕ, _+_, _-_, _*_, _≤_, _<_}
+use Prim.Native.Nat.{_+_, _-_, _*_, _≤_}
 use mathlib.Core.Bool.{Bool, true, _&&_}
-use mathlib.Core.Path.{_≡_, refl, sym, ap, _∙_}
+use mathlib.Core.Path.{_≡_, sym, ap, _∙_}
 use Rattle.op_batch.proofs.starts_right.Statement.{statement}
 use Rattle.op_batch.proofs.starts_right.Tie as tie
 use Rattle.op_batch.proofs.starts_right.Reads as reads

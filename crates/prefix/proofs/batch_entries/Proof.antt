@@ -7,10 +7,10 @@ use lib.Seq.{sets}
 use lib.ListN.{length, getD, drop}
 use borrow.Author.Needs.{needs}
 use native.Mathlib.Omega.{arith}
-use Prim.Native.Nat.{ℕ, _+_, _-_, _*_, _≤_, _<_}
+use Prim.Native.Nat.{ℕ, _+_, _-_, _*_, _≤_}
 use mathlib.Core.List.{List, _++_}
 use mathlib.Core.Bool.{Bool}
-use mathlib.Core.Path.{_≡_, refl, sym, ap, ap₂, _∙_}
+use mathlib.Core.Path.{_≡_, refl, ap, ap₂, _∙_}
 use Rattle.prefix.proofs.batch_entries.Statement.{statement}
 use Rattle.prefix.proofs.batch_entries.Tie as tie
 use Rattle.prefix.proofs.batch_entries.Reads as reads
