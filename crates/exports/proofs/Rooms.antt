@@ -21,7 +21,7 @@ use Rattle.claims.proofs.Back.{fitted-is}
 use Rattle.claims.proofs.Again.{count-limit, ops-allowed}
 use Rattle.decoder.specs.Stages.{IfFound}
 use Rattle.decoder.proofs.Stages.{if-then, if-refuse, held}
-use Rattle.decoder.proofs.Ops.{length-values}
+use Rattle.rules.proofs.Sizes.{length-values}
 use Rattle.exports.specs.Replies.{decodeReply, Reads, roomBytes, filledBytes, ReadsBytes}
 use Rattle.exports.specs.declared.DecodeReply.{DecodeReply}
 
