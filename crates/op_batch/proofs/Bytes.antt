@@ -13,7 +13,7 @@ use Rattle.rules.specs.Lists.{every}
 use Rattle.rules.specs.Record.{bytesAt}
 use Rattle.rules.specs.Checks.{startsRight, recordRight}
 use Rattle.rules.proofs.Digits.{split}
-use Rattle.rules.proofs.Operations.{true-left, true-right}
+use Rattle.rules.proofs.Operations.{true-left, true-right, swap, none-left}
 use Rattle.op_batch.specs.OpBatch.{layout}
 use Rattle.rules.proofs.Sizes.{length-bytesAt}
 use Rattle.rules.proofs.Loads.{byte}
@@ -32,18 +32,9 @@ bytes-turn n s at i h =
 
 -- ---- tests that go on whatever they find
 
-swap : (a b c : Bool) → ((a && b) && c) ≡ (b && (a && c))
-swap true b c = refl
-swap false true c = refl
-swap false false c = refl
-
 join : (a b c : Bool) → ((a && b) && c) ≡ (a && (b && c))
 join true b c = refl
 join false b c = refl
-
-none-left : (a : Bool) → a ≡ (a && true)
-none-left true = refl
-none-left false = refl
 
 -- ---- flags, one after the other
 

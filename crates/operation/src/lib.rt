@@ -1,10 +1,11 @@
 // Operations and their table (document 01, "Operations and their table").
 ghost use mathlib.Core.Path.{_≡_};
-ghost use mathlib.Core.Bool.{cond, not};
+ghost use mathlib.Core.Bool.{cond, not, _&&_};
 ghost use mathlib.Core.List.{map};
-ghost use Prim.Native.Nat.{_<_};
+ghost use Prim.Native.Nat.{ℕ};
 ghost use lib.ListN.{length};
-ghost use lib.Dec.{ltb, eqb};
+ghost use lib.Dec.{leb, ltb, eqb};
+ghost use Rattle.rules.specs.Lists.{every};
 ghost use Rattle.rules.specs.Answer.{good, refuseFirst};
 ghost use Rattle.rules.specs.Operations.{operations, goodTable, field, opFault};
 ghost use Rattle.operation.specs.Verdict.{verdictOf, op};
@@ -18,6 +19,29 @@ pub enum Verdict {
     Refused { number: u8, place: usize },
 }
 
+fn kind_right(ok: bool, kind: u8) -> bool
+    ensures { λ r. ⌜ r ≡ (leb kind 3 && ok) ⌝ }
+{
+    if 3 < kind {
+        return false;
+    }
+    ok
+}
+
+// Only kinds 0 to 3: all are looked at, whatever the first ones say, so that the machine can look at them abreast.
+fn kinds_right(table: &[u8]) -> bool
+    requires { ⌜ length (now table) ≡ 128 ⌝ }
+    ensures { λ r. ⌜ r ≡ every (λ (k : ℕ). leb k 3) (now (table .entry)) ⌝ }
+{
+    let mut ok = true;
+    let mut i: usize = 0;
+    while i < 128 {
+        ok = kind_right(ok, table[i]);
+        i += 1;
+    }
+    ok
+}
+
 // Exactly 128 bytes, only kinds 0 to 3, and kind 0 for opcode 0.
 pub fn good_table(table: &[u8]) -> bool
     ensures { λ r. ⌜ r ≡ goodTable (now (table .entry)) ⌝ }
@@ -28,14 +52,7 @@ pub fn good_table(table: &[u8]) -> bool
     if table[0] != 0 {
         return false;
     }
-    let mut i: usize = 0;
-    while i < table.len() {
-        if 3 < table[i] {
-            return false;
-        }
-        i += 1;
-    }
-    true
+    kinds_right(table)
 }
 
 // Whether a value goes with an opcode of this kind.

@@ -26,6 +26,16 @@ true-right false b h = let y : _≡_ {A = ℕ} 0 1 = cc in absurd (omega arith)
 pub true-both : (a b : Bool) → a ≡ true → b ≡ true → (a && b) ≡ true
 true-both a b h k = rw (h, k)
 
+-- tests that go on whatever they find: the next one, and the end
+pub swap : (a b c : Bool) → ((a && b) && c) ≡ (b && (a && c))
+swap true b c = refl
+swap false true c = refl
+swap false false c = refl
+
+pub none-left : (a : Bool) → a ≡ (a && true)
+none-left true = refl
+none-left false = refl
+
 -- what a walk over a list finds of `every`
 module _ {A : Type 0} (d : A) (test : A → Bool) (xs : List A) (i : ℕ) where
   pub every-turn : i < length xs → test (getD xs i d) ≡ true → every test (drop (i + 1) xs) ≡ every test (drop i xs)

@@ -1,11 +1,8 @@
-use mathlib.Core.Path.{_≡_, refl, sym, ap, _∙_}
-use mathlib.Core.Bool.{true, false, cond, not}
+use mathlib.Core.Path.{sym, _∙_}
 use native.Mathlib.Omega.{arith}
 use borrow.Author.Tests.{le-ltb, lt-ltb}
 use Prim.Native.Nat.{_<_}
-use lib.ListN.{length, getD}
-use lib.Dec.{ltb, eqb}
-use Rattle.rules.specs.Operations.{assigned, valued, field, valueRight, admissible, opFault}
+use Rattle.rules.specs.Operations.{assigned, valued, valueRight, admissible, opFault}
 use Rattle.rules.proofs.Operations.{kind-at}
 use borrow.Author.Needs.{needs}
 use Rattle.operation.proofs.fault.Statement.{statement}
