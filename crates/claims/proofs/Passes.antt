@@ -74,9 +74,6 @@ module _ (t : List ℕ) (b : ℕ) where
   right-empty gs [] zs r = right-none zs
   right-empty gs (v ∷ vs) zs r = right-gap (take (suc (length vs)) gs) ((v ∷ vs) ++ zs) r
 
-  no-part : (xs : List Op) (at : ℕ) → part 0 xs at ≡ []
-  no-part xs at = refl
-
   slots-right : (ns due : List ℕ) (xs : List Op) (at : ℕ) (vs : List ℕ) (end : ℕ) (zs : List ℕ) → at + total ns ≤ length xs → slots t b ns due xs at ≡ found vs end → Right due (take (length vs) (cut ns xs at)) (vs ++ zs)
   unfolding slots cut total
   slots-right [] [] xs at vs end zs l h = settle (λ vs end. Right [] (take (length vs) []) (vs ++ zs)) [] vs at end h (right-none zs)

@@ -36,16 +36,8 @@ pub none-left : (a : Bool) → a ≡ (a && true)
 none-left true = refl
 none-left false = refl
 
--- what a walk over a list finds of `every`
+-- past the end of a list every test passes
 module _ {A : Type 0} (d : A) (test : A → Bool) (xs : List A) (i : ℕ) where
-  pub every-turn : i < length xs → test (getD xs i d) ≡ true → every test (drop (i + 1) xs) ≡ every test (drop i xs)
-  unfolding every
-  every-turn h e = rw (add-one i, drop-cons xs i d h, e)
-
-  pub every-stop : i < length xs → test (getD xs i d) ≡ false → every test (drop i xs) ≡ false
-  unfolding every
-  every-stop h e = rw (drop-cons xs i d h, e)
-
   pub every-end : length xs ≤ i → every test (drop i xs) ≡ true
   unfolding every
   every-end h = rw (drop-of-length-le xs {i = i} h)

@@ -2,11 +2,10 @@
 use mathlib.Core.Path.{_≡_, refl, sym, ap, ap₂, _∙_}
 use mathlib.Core.List.{List, [], _∷_, _++_, append-nil}
 use Prim.Native.Nat.{ℕ, zero, suc, _+_, _-_, _/_, _%_, _≤_, _<_}
-use native.Mathlib.Numerals.{add-one}
 use native.Mathlib.Nat.{add-suc, zero-add, suc-add, not-suc-le-zero, le-of-suc-le-suc}
 use native.Mathlib.Omega.{arith}
-use lib.ListN.{length, getD, take, drop, set, replicate, length-set, drop-of-length-le}
-use lib.Seq.{sets, sets-eq, set-append-left, drop-cons, append-snoc}
+use lib.ListN.{length, take, set, replicate, length-set, drop-of-length-le}
+use lib.Seq.{sets, sets-eq, set-append-left, append-snoc}
 use Rattle.rules.specs.Digits.{digits, leBytes}
 use Rattle.rules.specs.Lists.{fitted}
 use Rattle.rules.proofs.Digits.{sets-append}
@@ -47,13 +46,6 @@ fitted-sets n xs (v ∷ vs) =
     ap₂ (λ (l : List ℕ) (k : ℕ). sets l k vs) (fitted-set n xs v) (sym (length-snoc xs v))
     ∙ fitted-sets n (xs ++ (v ∷ [])) vs
     ∙ ap (fitted n) (append-snoc xs v vs)
-
--- one turn of a loop that stores a list element by element
-pub copy-turn : (d s : List ℕ) (at i : ℕ) → i < length s → sets (set d (at + i) (getD s i 0)) (at + (i + 1)) (drop (i + 1) s) ≡ sets d (at + i) (drop i s)
-copy-turn d s at i h = rw (add-one i, add-suc at i, drop-cons s i 0 h)
-
-pub copy-end : (d s : List ℕ) (k i : ℕ) → length s ≤ i → sets d k (drop i s) ≡ d
-copy-end d s k i h = rw (drop-of-length-le s {i = i} h)
 
 -- zeros from a place on, one more at each turn
 pub zero-turn : (xs : List ℕ) (i : ℕ) → fitted (length (set xs i 0)) (take (suc i) (set xs i 0)) ≡ fitted (length xs) (take i xs)
