@@ -216,7 +216,7 @@ fn stack() {
         Ok(used)
     );
     assert_eq!(buffer, coded);
-    assert_eq!(within(ONE, || le::padding(lent)), Ok(()));
+    assert_eq!(within(0, || le::padding(lent)), Ok(()));
     assert_eq!(within(ONE, || le::commitment(&VM_TABLE, lent)), Ok(()));
     let made = within(2 * ONE, || {
         le::build(&VM_TABLE, lent.codes, lent.values, built.bytes())
