@@ -10,17 +10,17 @@ use lib.Dec.{leb, eqb}
 use Rattle.rules.specs.Lists.{total}
 use Rattle.rules.specs.Answer.{Answer, good, refuseFirst}
 use Rattle.rules.specs.Operations.{goodTable, opFault, admissible, Op}
-use Rattle.rules.specs.Record.{Record, Block, startsFrom, differences, recordAt, recordsFrom, recordsIn, codesNumber}
+use Rattle.rules.specs.Record.{Record, Block, startsFrom, differences, recordAt, recordsFrom, recordsIn, codesNumber, immediates}
 use Rattle.rules.specs.Bytes.{upTo}
 use Rattle.rules.specs.Checks.{ninth, startsRight, recordRight, structureFaults, held, paddingFault, paddingFaults, orElse, commitmentFault, commitmentFaults, groupsFault, placingFault, begins}
 use Rattle.rules.specs.Functions.{Arena, blockIn, within, paddingChecked, commitmentChecked}
 use Rattle.rules.proofs.Answer.{clash, passed, first-append}
 use Rattle.rules.proofs.Operations.{true-left, true-right, length-operations}
 use Rattle.claims.specs.Shape.{All}
-use Rattle.claims.proofs.Again.{start-at, take-total, total-split}
+use Rattle.rules.proofs.Slots.{total-split}
+use Rattle.claims.proofs.Again.{start-at, take-total}
 use Rattle.rules.proofs.Sizes.{length-bytesAt, length-wordsAt}
 use Rattle.claims.proofs.Lists.{all-map}
-use Rattle.rules.specs.Block.{immediates}
 
 pub or-first : (m n : ℕ) → orElse m n ≡ 0 → (m ≡ 0) × (n ≡ 0)
 or-first zero n h = (refl, h)

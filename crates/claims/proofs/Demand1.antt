@@ -14,10 +14,10 @@ use Rattle.rules.specs.Digits.{digits, leAt}
 use Rattle.rules.specs.Answer.{Answer, good, refused, Item, Read, found, refuse, refuseFirst, _then_}
 use Rattle.rules.specs.Operations.{Op, operations, field, assigned, valued, admissible, opFault, goodTable, codes, values}
 use Rattle.rules.specs.Batching.{batchesOf}
-use Rattle.rules.specs.Record.{Record, Block, noBlock, codesNumber, blockOf, recordsBytes}
+use Rattle.rules.specs.Record.{Record, Block, noBlock, codesNumber, blockOf, recordsBytes, cut, immediates}
 use Rattle.rules.specs.Bytes.{least, countBy, countAt, valueAt, opAt, opsAt, batchCountAt, upTo, sizesAt, nibblesAt, bitsAt, flagsAt}
-use Rattle.rules.specs.Block.{Room, Head, Layout, blockBytes, part, cut, immediates, slots, paddingRight, batchAt, batchesAt, headAt, layoutAt, batchesBy, blockAt}
-use Rattle.rules.specs.Checks.{Held, ninth, recordRight, structureFaults, heldFrom, held, paddingFault, paddingFaults, underCount, placingFault, begins, orElse, groupsFault, emptyZero, commitmentFault, commitmentFaults}
+use Rattle.rules.specs.Block.{Room, Head, Layout, blockBytes, placingsFault, countFrom, batchAt, batchesAt, headAt, layoutAt, batchesBy, blockAt}
+use Rattle.rules.specs.Checks.{Held, ninth, recordRight, structureFaults, heldFrom, held, paddingFault, paddingFaults, underCount, placingFault, begins, orElse, groupsFault, emptyZero, commitmentFault, commitmentFaults, paddingRight}
 use Rattle.rules.specs.Lookups.{groupOf, nextGroup}
 use Rattle.rules.specs.Functions.{Arena, arena, blockIn, within, filled, roomFor, built, encoded, written, decoded, structureChecked, paddingChecked, commitmentChecked, tableOf, tableLeft, groupLookup, nextLookup}
 use Rattle.rules.proofs.Answer.{first-append}
@@ -57,6 +57,13 @@ module _ (P : ℕ → ℕ → Type 0) where
       go zero g ih = ih
       go (suc m) (inl e) ih = absurd (omega arith)
       go (suc m) (inr g) ih = g
+
+  -- one fault, of the p-th
+  by-one : {A : Type 0} (Q : A → Type 0) (p n : ℕ) (r : Answer A) → Fault n p → Holds Q r → Holds Q (refuseFirst p (n ∷ []) r)
+  unfolding refuseFirst
+  by-one Q p zero r h k = k
+  by-one Q p (suc n) r (inl e) k = absurd (omega arith)
+  by-one Q p (suc n) r (inr h) k = h
 
   -- ---- the checks' faults
 
@@ -106,15 +113,10 @@ module _ (P : ℕ → ℕ → Type 0) where
   abbrev Any : {A : Type 0} → A → Type 0
   Any a = Unit {0}
 
-  module _ (t : List ℕ) (b : ℕ) (h₈ : P 8 b) (h₉ : P 9 b) where
-    by-slots : (ns due : List ℕ) (xs : List Op) (at : ℕ) → Holds Any (slots t b ns due xs at)
-    unfolding slots
-    by-slots [] [] xs at = tt
-    by-slots [] (v ∷ due) xs at = h₈
-    by-slots (zero ∷ ns) [] xs at = by-then Any Any (slots t b ns [] xs at) _ (by-slots ns [] xs at) (λ i q. tt)
-    by-slots (zero ∷ ns) (v ∷ due) xs at = by-then Any Any (slots t b ns due xs at) _ (by-slots ns due xs at) (λ i q. tt)
-    by-slots (suc n ∷ ns) [] xs at = by-then Any Any (slots t b ns (immediates t (part (suc n) xs at)) xs (at + suc n)) _ (by-slots ns (immediates t (part (suc n) xs at)) xs (at + suc n)) (λ i q. tt)
-    by-slots (suc n ∷ ns) (v ∷ due) xs at = h₉
+  by-placings : (t : List ℕ) (gs : List (List Op)) (p : ℕ) → P 8 p → P 9 p → Fault (placingsFault t gs) p
+  unfolding placingsFault
+  by-placings t [] p h₈ h₉ = inl refl
+  by-placings t (g ∷ gs) p h₈ h₉ = by-orElse _ _ p (by-placing (length (immediates t g)) gs p h₈ h₉) (by-placings t gs p h₈ h₉)
 
   module _ (s : List ℕ) (two : (p : ℕ) → p ≤ length s → P 2 p) (three : P 3 0) (four : (p : ℕ) → p < 65535 → P 4 p) (five : P 5 0) (thirteen : P 13 0) where
     -- the place after an item is in the buffer, or its end
@@ -209,9 +211,10 @@ module _ (P : ℕ → ℕ → Type 0) where
       unfolding batchAt
       by-batch at b ns fs l =
           let h = batch b l in
+          let gs = cut (take w ns) xs at in
           by-refuse Any (ltb (length xs) (at + total ns)) 7 b _ (h .1) λ e₁.
-          by-then Any Any (slots t b (take w ns) [] xs at) _ (by-slots t b (h .2) (h .3) (take w ns) [] xs at) λ i q.
-          by-refuse Any (not (paddingRight (take (length (i .item)) (cut ns xs at)) fs)) 10 b _ (h .4) λ e₂. tt
+          by-one Any b (placingsFault t gs) _ (by-placings t gs b (h .2) (h .3))
+          (by-refuse Any (not (paddingRight (take (countFrom t 0 0 gs) gs) fs)) 10 b _ (h .4) λ e₂. tt)
 
       by-batches : (nss fss : List (List ℕ)) (at b : ℕ) → b + length nss ≤ 16384 → Holds Any (batchesAt w t xs at b nss fss)
       unfolding batchesAt

@@ -4,7 +4,6 @@ pub mod Bytes
 pub mod Batching
 pub mod Right
 pub mod Found
-pub mod Count
 pub mod Back
 pub mod Once
 pub mod Arena

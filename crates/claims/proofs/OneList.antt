@@ -11,8 +11,7 @@ use lib.Dec.{eqb}
 use Rattle.rules.specs.Lists.{total}
 use Rattle.rules.specs.Digits.{digits}
 use Rattle.rules.specs.Operations.{Op, codes, kindOf, hasImmediate, admissible}
-use Rattle.rules.specs.Record.{Record, differences, codesNumber, recordsIn}
-use Rattle.rules.specs.Block.{part, cut, immediates}
+use Rattle.rules.specs.Record.{Record, differences, codesNumber, recordsIn, part, cut, immediates}
 use Rattle.rules.specs.Checks.{ninth, recordRight, heldFrom, held, begins, groupsFault, commitmentFault}
 use Rattle.rules.specs.Functions.{Arena, blockIn}
 use Rattle.rules.proofs.Operations.{Admissible, to-admissible, true-left, true-right}

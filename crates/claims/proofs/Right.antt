@@ -9,7 +9,7 @@ use lib.ListN.{length, length-append, length-map}
 use lib.Dec.{leb, ltb}
 use Rattle.rules.specs.Operations.{Op, hasImmediate, noop}
 use Rattle.rules.specs.Batching.{Group, ops, imm, Batch, empty, nextFree, fits, wantsNoop, closeGroup, groups, turned, full, ready, joined, added, target, turnedTimes, ended, Work, start, endBatch, room, step, steps, batchesOf}
-use Rattle.rules.specs.Block.{immediates}
+use Rattle.rules.specs.Record.{immediates}
 use Rattle.claims.specs.Shape.{All, raw, EndsInNoop, RightGroup, Follow, PowerOfTwo, is1, is2, is4, is8, RightBatch, RightBatches}
 use Rattle.claims.proofs.Lists.{all-append, split}
 use Rattle.claims.proofs.Batching.{raw-groups, raw-ended}

@@ -7,7 +7,7 @@ use lib.ListN.{length}
 use Rattle.rules.specs.Lists.{butLast}
 use Rattle.rules.specs.Operations.{Op, noop}
 use Rattle.rules.specs.Batching.{Group, ops, imm, wantsNoop}
-use Rattle.rules.specs.Block.{immediates}
+use Rattle.rules.specs.Record.{immediates}
 
 -- every element has a property
 abbrev pub All {ℓ} : {A : Type ℓ} → (A → Type 0) → List A → Type 0
