@@ -8,9 +8,10 @@ use lib.Dec.{leb, ltb, eqb}
 use lib.Seq.{sets}
 use Rattle.rules.specs.Lists.{fitted}
 use Rattle.rules.specs.Answer.{Answer, good, refused, Read, refuse, refuseFirst}
-use Rattle.rules.specs.Operations.{operations, codes, values, goodTable, opFault}
+use Rattle.rules.specs.Operations.{Op, operations, codes, values, goodTable, opFault}
 use Rattle.rules.specs.Batching.{batchesOf}
 use Rattle.rules.specs.Record.{Record, Block, blockOf, noBlock, recordSize, recordsBytes, recordsIn}
+use Rattle.rules.specs.Bytes.{countAt, opAt}
 use Rattle.rules.specs.Block.{Room, blockBytes, blockAt}
 use Rattle.rules.specs.Checks.{recordRight, structureFaults, paddingFaults, commitmentFaults}
 use Rattle.rules.specs.Lookups.{Place, groupOf, nextGroup, rawTable, paddedTable}
@@ -104,6 +105,21 @@ decoded w t s at room =
 abbrev pub readLeft : Read Block → Block
 readLeft (good b) = b .item
 readLeft (refused n p) = noBlock
+
+-- ---- a reader's steps, "count and operation reads only": decode's 3, 14 and 1, then the item at its place; the operation is the i-th
+
+unfoldable pub countHere : List ℕ → ℕ → Read ℕ
+countHere s at =
+    refuse (ltb 1048576 (length s)) 3 0
+    (refuse (ltb (length s) at) 1 0
+    (countAt s at))
+
+unfoldable pub opHere : List ℕ → List ℕ → ℕ → ℕ → Read Op
+opHere t s at i =
+    refuse (ltb 1048576 (length s)) 3 0
+    (refuse (not (goodTable t)) 14 0
+    (refuse (ltb (length s) at) 1 0
+    (opAt t s at i)))
 
 -- ---- checks: "structure 3, 15; padding 3, 15, 10; commitment 3, 14, 15, 4, then batch by batch the first fault"
 
