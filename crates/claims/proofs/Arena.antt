@@ -17,6 +17,8 @@ use Rattle.rules.specs.Functions.{Arena, blockIn, within, roomIn, filled, roomF
 use Rattle.rules.proofs.Digits.{leAt-back, length-leBytes}
 use Rattle.rules.proofs.Operations.{codes-back, true-left, true-right}
 use Rattle.claims.specs.Shape.{All}
+use Rattle.claims.specs.Sizes.{NineAndEight}
+use Rattle.claims.proofs.Lists.{all-map}
 use Rattle.claims.specs.Demand3.{lent, front}
 use Rattle.rules.proofs.Sizes.{length-words}
 
@@ -45,6 +47,9 @@ pub record Sized (r : Record) : Type 0 where
   pub flags : length (r .flags) ≡ 8
   pub numbers : length (r .numbers) ≡ 8
   pub small : All (λ n. n < 256 ^ 8) (r .numbers)
+
+pub nine-and-eight : (rs : List Record) → All Sized rs → All NineAndEight rs
+nine-and-eight rs h = all-map (λ r k. record { starts = k .starts; flags = k .flags; numbers = k .numbers }) rs h
 
 record-back : (p q : List ℕ) (r : Record) (b : ℕ) → length p ≡ 82 * b → Sized r → recordAt (p ++ (recordBytes r ++ q)) b ≡ r
 unfolding recordAt recordBytes

@@ -19,7 +19,8 @@ use Rattle.rules.specs.Block.{Room, blockBytes, batchAt, batchesAt, headAt, lay
 use Rattle.rules.proofs.Slots.{emptyBefore, slots, batchBy, batch-is, total-split}
 use Rattle.rules.specs.Checks.{endsInNoop, paddingRight}
 use Rattle.rules.specs.Functions.{decoded}
-use Rattle.claims.specs.Shape.{All, EndsInNoop, RightGroup, Follow}
+use Rattle.claims.specs.Shape.{All, EndsInNoop}
+use Rattle.claims.proofs.Shape.{RightGroup, Follow}
 use Rattle.rules.proofs.Runs.{fitted-length, zeros-fitted}
 use Rattle.claims.proofs.Stands.{Stands, here, first-of, rest-of, stands-fits}
 use Rattle.claims.proofs.Bytes.{digits-number, count-back, ops-back, batchCount-stands}
@@ -62,6 +63,17 @@ number-small b (d ∷ ds) h =
     let ih = number-small b ds (h .1) in
     let m : b * suc (number b ds) ≤ b * b ^ length ds = mul-le-mul-left b ih in
     rw pow-succ' (omega (arith, h .0, rw mul-suc at m))
+
+-- ---- the operations of a batch
+
+pub part-at : (pre g post : List Op) → part (length g) (pre ++ (g ++ post)) (length pre) ≡ g
+part-at pre g post = rw (drop-append-seam pre (g ++ post), take-append-seam g post)
+
+pub total-sizes : (gs : List Group) (k : ℕ) → total (map sizeOf gs ++ replicate k 0) ≡ length (opsOf gs)
+unfolding total opsOf sizeOf
+total-sizes [] zero = refl
+total-sizes [] (suc k) = rw (total-sizes [] k)
+total-sizes (g ∷ gs) k = rw (total-sizes gs k) (sym (length-append (opsIn g) (opsOf gs)))
 
 module _ (w : ℕ) (w8 : w ≤ 8) where
   -- a record as the bytes can say it
@@ -132,15 +144,6 @@ module _ (w : ℕ) (w8 : w ≤ 8) where
 
   -- ---- a batch
 
-  part-at : (pre g post : List Op) → part (length g) (pre ++ (g ++ post)) (length pre) ≡ g
-  part-at pre g post = rw (drop-append-seam pre (g ++ post), take-append-seam g post)
-
-  total-sizes : (gs : List Group) (k : ℕ) → total (map sizeOf gs ++ replicate k 0) ≡ length (opsOf gs)
-  unfolding total opsOf sizeOf
-  total-sizes [] zero = refl
-  total-sizes [] (suc k) = rw (total-sizes [] k)
-  total-sizes (g ∷ gs) k = rw (total-sizes gs k) (sym (length-append (opsIn g) (opsOf gs)))
-
   cut-back : (gs : List Group) (ns : List ℕ) (pre post : List Op) → take (length gs) (cut (map sizeOf gs ++ ns) (pre ++ (opsOf gs ++ post)) (length pre)) ≡ map opsIn gs
   unfolding cut opsOf sizeOf
   cut-back [] ns pre post = refl
@@ -151,7 +154,7 @@ module _ (w : ℕ) (w8 : w ≤ 8) where
       let rest : take (length gs) (cut (map sizeOf gs ++ ns) (pre ++ (x ++ (r ++ post))) (length pre + length x)) ≡ map opsIn gs = rw (append-assoc pre x (r ++ post), length-append pre x) at ih in
       rw (append-assoc x r post, part-at pre x (r ++ post), rest)
 
-  ends : (xs : List Op) → EndsInNoop true xs → endsInNoop xs ≡ true
+  ends : (xs : List Op) → EndsInNoop xs → endsInNoop xs ≡ true
   unfolding endsInNoop noop
   ends [] h = elim h [ ]
   ends (x ∷ []) h = eq-eqb (x .code) 0 (ap (λ (o : Op). o .code) h)

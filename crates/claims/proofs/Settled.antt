@@ -21,12 +21,13 @@ use Rattle.rules.specs.Functions.{Arena, blockIn, paddingChecked, commitmentChe
 use Rattle.rules.specs.Open.{document}
 use Rattle.rules.proofs.Operations.{true-left, true-right, true-both, to-admissible}
 use Rattle.claims.specs.Shape.{All}
+use Rattle.claims.specs.Sizes.{NineAndEight}
 use Rattle.claims.specs.Settled.{foundCount, settled, settledBlock, Settled, Returns, Needed}
 use Rattle.claims.proofs.Back.{sizesOf, Wire, read-back}
 use Rattle.claims.proofs.Arena.{roomed}
 use Rattle.claims.proofs.Demand3.{written-in}
 use Rattle.claims.proofs.Again.{laid, laid-front}
-use Rattle.claims.proofs.Checked.{or-first, no-cond, group-right, Shaped, Made, made, Facts, facts, no-padding-fault, limits, shaped-in}
+use Rattle.claims.proofs.Checked.{or-first, no-cond, group-right, Made, made, Facts, facts, no-padding-fault, limits, shaped-in}
 use Rattle.claims.proofs.Passes.{part-some, Right, here}
 use Rattle.claims.proofs.Lists.{all-map}
 
@@ -248,7 +249,7 @@ module _ (w : ℕ) (w8 : w ≤ 8) (t : List ℕ) (xs : List Op) where
   on-wires (r ∷ rs) at h = (on-wire at r (h .0), on-wires rs (at + ninth r) (h .1))
 
 module _ (w : ℕ) (w8 : w ≤ 8) (t : List ℕ) (xs : List Op) where
-  gather : (rs : List Record) (at : ℕ) → All Shaped rs → All (λ r. recordRight w r ≡ true) rs → All (λ h. paddingFault h ≡ 0) (heldFrom rs xs at) → All (λ h. commitmentFault t h ≡ 0) (heldFrom rs xs at)
+  gather : (rs : List Record) (at : ℕ) → All NineAndEight rs → All (λ r. recordRight w r ≡ true) rs → All (λ h. paddingFault h ≡ 0) (heldFrom rs xs at) → All (λ h. commitmentFault t h ≡ 0) (heldFrom rs xs at)
       → at + total (map ninth rs) ≤ length xs → Batches w w8 t xs at rs
   unfolding heldFrom total
   gather [] at z r p c l = tt
