@@ -16,6 +16,7 @@ use Rattle.rules.specs.Block.{Room}
 use Rattle.rules.specs.Functions.{Arena, blockIn, within, roomIn, filled, roomFor}
 use Rattle.rules.proofs.Digits.{leAt-back, length-leBytes}
 use Rattle.rules.proofs.Operations.{codes-back, true-left, true-right}
+use Rattle.rules.proofs.Runs.{fitted-front}
 use Rattle.claims.specs.Shape.{All}
 use Rattle.claims.specs.Sizes.{NineAndEight}
 use Rattle.claims.proofs.Lists.{all-map}
@@ -135,12 +136,6 @@ roomed b room h =
     )
 
 -- ---- what a function leaves in lent runs, cut at the lengths that it replies, is the block
-
-fitted-front : (n : ℕ) (xs : List ℕ) → length xs ≤ n → take (length xs) (fitted n xs) ≡ xs
-unfolding fitted
-fitted-front n [] h = refl
-fitted-front zero (x ∷ xs) h = absurd (omega arith)
-fitted-front (suc n) (x ∷ xs) h = ap (λ (l : List ℕ). x ∷ l) (fitted-front n xs (omega arith))
 
 front-at : (n k : ℕ) (xs : List ℕ) → length xs ≡ k → k ≤ n → take k (fitted n xs) ≡ xs
 front-at n k xs e h = rw (sym e) (fitted-front n xs (omega arith))
