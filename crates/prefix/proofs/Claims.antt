@@ -10,7 +10,7 @@ use borrow.Author.Tests.{lt-ltb, le-ltb, le-leb, ltb-false, not-false}
 use lib.ListN.{length, getD, take, replicate, length-append, length-replicate}
 use lib.Seq.{take-length}
 use lib.Dec.{ltb, eqb}
-use Rattle.rules.specs.Lists.{total}
+use Rattle.rules.specs.Lists.{fitted, total}
 use Rattle.rules.specs.Answer.{Answer, good, refused}
 use Rattle.rules.specs.Record.{Record, Block, recordAt, recordsFrom, recordsIn}
 use Rattle.rules.specs.Checks.{ninth, recordRight, structureFaults, paddingFaults}
@@ -215,13 +215,17 @@ module _ (table : Block → List ℕ) (a : Arena) (room : ℕ) (es : List ℕ) (
         entries = value (table b) es (r .1);
       }
 
+left-front : (out out′ es : List ℕ) (n : ℕ) → n ≡ length es → length es ≤ length out → out′ ≡ fitted (length out) es → take n out′ ≡ es
+left-front out out′ es n e l h = rw (e, h) (fitted-front (length out) es l)
+
 -- the table, in the front of the run that was lent for it
 was-left : (table : Block → List ℕ) (a : Arena) (out out′ : List ℕ) (n : ℕ) → Answered (tableOf table 8 a (length out)) (Made n) out out′ → (structureChecked 8 a ≡ good tt) × (take n out′ ≡ table (blockIn a))
 unfolding tableLeft
 was-left table a out out′ n h =
     let m = was-made (tableOf table 8 a (length out)) n (h .reply) in
     let p = has-passed table a (length out) (m .entries) (m .answer) in
-    (p .structure, rw (h .left, m .answer, m .many, sym (p .entries)) (fitted-front (length out) (table (blockIn a)) (p .fits)))
+    let l : length (m .entries) ≤ length out = rw (p .entries) at (p .fits) in
+    (p .structure, left-front out out′ (m .entries) n (m .many) l (h .left ∙ ap (tableLeft out) (m .answer)) ∙ sym (p .entries))
 
 pub tables-left : TablesLeft
 tables-left a rawRun rawRun′ paddedRun paddedRun′ n m h k =
