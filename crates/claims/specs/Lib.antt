@@ -1,4 +1,5 @@
 pub mod Shape
+pub mod One
 pub mod Left
 pub mod Demand3
 pub mod Passes

@@ -5,11 +5,11 @@ ghost use Prim.Native.Nat.{_/_, min};
 ghost use lib.ListN.{length};
 ghost use Rattle.rules.specs.Record.{recordAt, noBlock};
 ghost use Rattle.rules.specs.Block.{Room};
-ghost use Rattle.rules.specs.Lookups.{paddedIndex, rawIndex};
+ghost use Rattle.rules.specs.Lookups.{rawAt, paddedAt, paddedIndex, rawIndex};
 ghost use Rattle.rules.specs.Functions.{arena, built, encoded, decoded, structureChecked, paddingChecked, commitmentChecked, rawTabled, paddedTabled, tableOf, groupLookup, nextLookup};
 ghost use Rattle.prefix.specs.Tables.{tableBy};
 ghost use Rattle.crossing.specs.Words.{wordsIn};
-ghost use Rattle.exports.specs.Replies.{Builds, Writes, Reads, checkReply, Tables, indexReply, oneRecord, wholeWords, inWhole, filledBytes, BuildsBytes, ReadsBytes, TablesBytes, groupReply, nextReply};
+ghost use Rattle.exports.specs.Replies.{Builds, Writes, Reads, checkReply, Tables, paddedReply, rawReply, oneRecord, wholeWords, inWhole, filledBytes, BuildsBytes, ReadsBytes, TablesBytes, groupReply, nextReply};
 ghost use Rattle.exports.specs.Flat.{flatBuilt, flatEncoded, flatDecoded, flatVerdict, flatTabled, flatPadded, flatRaw, flatGroup, flatNext};
 use build::Built;
 use decoder::Decoded;
@@ -298,7 +298,7 @@ fn flat_padded(r: PaddedFound) -> IndexReply
 
 #[no_mangle]
 pub extern "C" fn oli_padded_index(table: &[u64], raw: usize) -> IndexReply
-    ensures { λ r. ⌜ r ≡ indexReply (paddedIndex (now (table .entry)) raw) ⌝ }
+    ensures { λ r. ⌜ r ≡ paddedReply (paddedIndex (now (table .entry)) (rawAt raw)) ⌝ }
 {
     let r = prefix::raw_to_padded_index(table, RawIndex(raw));
     flat_padded(r)
@@ -318,7 +318,7 @@ fn flat_raw(r: RawFound) -> IndexReply
 
 #[no_mangle]
 pub extern "C" fn oli_raw_index(table: &[u64], padded: usize) -> IndexReply
-    ensures { λ r. ⌜ r ≡ indexReply (rawIndex (now (table .entry)) padded) ⌝ }
+    ensures { λ r. ⌜ r ≡ rawReply (rawIndex (now (table .entry)) (paddedAt padded)) ⌝ }
 {
     let r = prefix::padded_to_raw_index(table, PaddedIndex(padded));
     flat_raw(r)
@@ -658,7 +658,7 @@ pub extern "C" fn oli_padded_table_le(
 
 #[no_mangle]
 pub extern "C" fn oli_padded_index_le(table: &[u8], raw: usize) -> IndexReply
-    ensures { λ r. ⌜ r ≡ indexReply (inWhole (now (table .entry)) (paddedIndex (wordsIn (now (table .entry))) raw)) ⌝ }
+    ensures { λ r. ⌜ r ≡ paddedReply (inWhole (now (table .entry)) (paddedIndex (wordsIn (now (table .entry))) (rawAt raw))) ⌝ }
 {
     if !crossing::has_word(table, raw) {
         return IndexReply { found: 0, index: 0 };
@@ -670,7 +670,7 @@ pub extern "C" fn oli_padded_index_le(table: &[u8], raw: usize) -> IndexReply
 
 #[no_mangle]
 pub extern "C" fn oli_raw_index_le(table: &[u8], padded: usize) -> IndexReply
-    ensures { λ r. ⌜ r ≡ indexReply (inWhole (now (table .entry)) (rawIndex (wordsIn (now (table .entry))) padded)) ⌝ }
+    ensures { λ r. ⌜ r ≡ rawReply (inWhole (now (table .entry)) (rawIndex (wordsIn (now (table .entry))) (paddedAt padded))) ⌝ }
 {
     if !crossing::has_word(table, padded) {
         return IndexReply { found: 0, index: 0 };

@@ -2,7 +2,7 @@
 use mathlib.Core.Bool.{Bool, not, _&&_, _||_}
 use mathlib.Core.List.{List, [], map}
 use mathlib.Core.Option.{Option}
-use Prim.Native.Nat.{ℕ, _+_, _/_, _%_}
+use Prim.Native.Nat.{ℕ, _+_, _-_, _/_, _%_}
 use lib.ListN.{length}
 use lib.Dec.{leb, ltb, eqb}
 use lib.Seq.{sets}
@@ -52,7 +52,7 @@ filled a b =
 
 -- ---- build: "3, 14, 12, 4, 13"
 
--- "13: lent output smaller than the result needs"
+-- 13, "lent output smaller than the result needs"
 unfoldable pub roomFor : Block → Room → Bool
 roomFor b room = leb (length (b .ops)) (room .codes) && (leb (length (b .ops)) (room .values) && leb (length (b .records)) (room .records))
 
@@ -105,6 +105,25 @@ decoded w t s at room =
 abbrev pub readLeft : Read Block → Block
 readLeft (good b) = b .item
 readLeft (refused n p) = noBlock
+
+-- ---- what a reply tells: "A refusal replies with every length and total 0", as these are those of what is left
+
+pub record Totals : Type 0 where
+  pub batches : ℕ
+  pub operations : ℕ
+
+-- of a block that build or decode left
+abbrev pub totals : Block → Totals
+totals b = record { batches = length (b .records); operations = length (b .ops) }
+
+-- how many bytes encode wrote, or entries a table has
+abbrev pub lengthTold : Answer (List ℕ) → ℕ
+lengthTold d = length (bytesLeft d)
+
+-- decode, from a place on: "the reply says how many were used"
+abbrev pub used : ℕ → Read Block → ℕ
+used at (good b) = b .next - at
+used at (refused n p) = 0
 
 -- ---- a reader's steps, "count and operation reads only": decode's 3, 14 and 1, then the item at its place; the operation is the i-th
 
