@@ -10,13 +10,14 @@ use Rattle.rules.specs.Answer.{Answer, good, refused, refuse, Read}
 use Rattle.rules.specs.Lists.{fitted}
 use Rattle.rules.specs.Operations.{codes, values}
 use Rattle.rules.specs.Record.{Block, recordSize, wordBytes, recordsBytes}
-use Rattle.rules.specs.Block.{Room}
+use Rattle.rules.specs.Block.{Room, Head}
 use Rattle.rules.specs.Lookups.{Place}
 use Rattle.rules.specs.Functions.{Arena, arena, roomIn, filled, blockLeft, written, readLeft, bytesLeft, tableLeft}
 use Rattle.crossing.specs.Words.{whole}
 use Rattle.exports.specs.declared.BuildReply.{BuildReply}
 use Rattle.exports.specs.declared.EncodeReply.{EncodeReply}
 use Rattle.exports.specs.declared.DecodeReply.{DecodeReply}
+use Rattle.exports.specs.declared.HeadReply.{HeadReply}
 use Rattle.exports.specs.declared.CheckReply.{CheckReply}
 use Rattle.exports.specs.declared.TableReply.{TableReply}
 use Rattle.exports.specs.declared.IndexReply.{IndexReply}
@@ -49,6 +50,11 @@ decodeReply at (refused n p) = record { number = n; place = p; batches = 0; oper
 pub record Reads (answer : Room → Read Block) (at : ℕ) (r : DecodeReply) (before after : Arena) : Type 0 where
   pub reply : r ≡ decodeReply at (answer (roomIn before))
   pub runs : after ≡ filled before (readLeft (answer (roomIn before)))
+
+-- how many operations and batches the block needs room for
+abbrev pub headReply : Read Head → HeadReply
+headReply (good i) = record { number = 0; place = 0; batches = i .item .batches; operations = length (i .item .ops) }
+headReply (refused n p) = record { number = n; place = p; batches = 0; operations = 0 }
 
 abbrev pub checkReply : Answer Unit → CheckReply
 checkReply (good u) = record { number = 0; place = 0 }

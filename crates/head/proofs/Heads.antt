@@ -42,14 +42,14 @@ only (refused n p) e = record { reply = e; left = tt }
 
 -- ---- no count is over its limit
 
-few-operations : (s : List ℕ) (at : ℕ) → IfFound (λ (n next : ℕ). n ≤ 65535) (countAt s at)
+pub few-operations : (s : List ℕ) (at : ℕ) → IfFound (λ (n next : ℕ). n ≤ 65535) (countAt s at)
 unfolding countAt countBy
 few-operations s at =
     let t = trailingZeros 8 (getD s at 0) in
     let v = leAt (t + 1) s at / 2 ^ (t + 1) in
     if-refuse _ (leb (length s) at) 2 at _ (λ _. if-refuse _ (ltb 2 t) 3 0 _ (λ _. if-refuse _ (ltb (length s) (at + t + 1)) 2 at _ (λ _. if-refuse _ (ltb v (least t)) 3 0 _ (λ _. if-refuse _ (ltb 65535 v) 3 0 _ (λ b. ltb-false 65535 v b)))))
 
-few-batches : (s : List ℕ) (at : ℕ) → IfFound (λ (k next : ℕ). k ≤ 16384) (batchCountAt s at)
+pub few-batches : (s : List ℕ) (at : ℕ) → IfFound (λ (k next : ℕ). k ≤ 16384) (batchCountAt s at)
 unfolding batchCountAt
 few-batches s at =
     let k = leAt 4 s at in
