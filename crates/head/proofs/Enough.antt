@@ -1,5 +1,5 @@
 -- The room that a head names is enough. Assumes nothing.
-use mathlib.Core.Path.{_≡_, refl, ap}
+use mathlib.Core.Path.{_≡_, refl, sym, ap, _∙_}
 use mathlib.Core.Bool.{Bool, true, false, cond, not, _&&_}
 use mathlib.Core.List.{List}
 use Prim.Native.Nat.{ℕ, zero, suc, _+_, _-_, _/_, _^_, _≤_}
@@ -39,8 +39,9 @@ module _ (t s : List ℕ) (at : ℕ) (room : Room) (h : Head) (next : ℕ) (e : 
       let b = came (batchCountAt s (o .to)) _ _ (o .rest) in
       let k = passed (ltb 16384 (b .got)) 13 0 _ _ (b .rest) in
       let x : record { ops = o .got; batches = b .got } ≡ h = item _ h (b .to) next (k .1) in
-      let n : length (h .ops) ≡ a .got = rw x at (held _ (opsAt t s (a .got) (a .to) 0) (o .got) (o .to) (o .first) (ops-many t s (a .got) (a .to) 0)) in
-      let m : h .batches ≡ b .got = rw x at (refl {x = b .got}) in
+      let l = held _ (opsAt t s (a .got) (a .to) 0) (o .got) (o .to) (o .first) (ops-many t s (a .got) (a .to) 0) in
+      let n : length (h .ops) ≡ a .got = sym (ap (λ (y : Head). length (y .ops)) x) ∙ l in
+      let m : h .batches ≡ b .got = sym (ap (λ (y : Head). y .batches) x) in
       rw (a .first, le-leb (a .got) (room .codes) (omega arith), le-leb (a .got) (room .values) (omega arith), o .first, b .first, le-ltb (room .records) (b .got) (omega arith)) (k .1)
 
 -- ---- refusals handed on
