@@ -33,7 +33,7 @@ pub enum Decoded {
 }
 
 // A refused operation and a refused count, handed on.
-fn not_read(r: OpRead) -> CountRead
+pub fn not_read(r: OpRead) -> CountRead
     ensures { λ a. ⌜ a ≡ handOp r ⌝ }
 {
     match r {

@@ -5,15 +5,17 @@ use mathlib.Core.Option.{Option, none, some}
 use Prim.Native.Nat.{ℕ}
 use Rattle.rules.specs.Answer.{Answer, good, refused, Read}
 use Rattle.rules.specs.Record.{Block}
+use Rattle.rules.specs.Block.{Head}
 use Rattle.rules.specs.Lookups.{Place, Raw, rawAt, Padded, paddedAt}
 use Rattle.operation.specs.Verdict.{verdictOf}
 use Rattle.build.specs.Outcome.{builtOf}
 use Rattle.encoder.specs.Replies.{encodedOf}
 use Rattle.decoder.specs.Replies.{decodedOf}
+use Rattle.head.specs.Replies.{headOf}
 use Rattle.prefix.specs.Tables.{tabledOf, paddedFound, rawFound}
 use Rattle.op_batch.specs.OpBatch.{lookupOf, nextOf}
-use Rattle.exports.specs.Replies.{buildReply, encodeReply, decodeReply, checkReply, tableReply, paddedReply, rawReply, groupReply, nextReply}
-use Rattle.exports.specs.Flat.{flatBuilt, flatEncoded, flatDecoded, flatVerdict, flatTabled, flatPadded, flatRaw, flatGroup, flatNext}
+use Rattle.exports.specs.Replies.{buildReply, encodeReply, decodeReply, headReply, checkReply, tableReply, paddedReply, rawReply, groupReply, nextReply}
+use Rattle.exports.specs.Flat.{flatBuilt, flatEncoded, flatDecoded, flatHeaded, flatVerdict, flatTabled, flatPadded, flatRaw, flatGroup, flatNext}
 
 pub cross-built : (d : Answer Block) → flatBuilt (builtOf d) ≡ buildReply d
 cross-built (good b) = refl
@@ -26,6 +28,10 @@ cross-encoded (refused n p) = refl
 pub cross-decoded : (at : ℕ) (d : Read Block) → flatDecoded (decodedOf at d) ≡ decodeReply at d
 cross-decoded at (good i) = refl
 cross-decoded at (refused n p) = refl
+
+pub cross-headed : (d : Read Head) → flatHeaded (headOf d) ≡ headReply d
+cross-headed (good i) = refl
+cross-headed (refused n p) = refl
 
 pub cross-verdict : (d : Answer Unit) → flatVerdict (verdictOf d) ≡ checkReply d
 cross-verdict (good u) = refl

@@ -10,13 +10,14 @@ use Rattle.rules.specs.Answer.{Answer, good, refused, refuse, Read}
 use Rattle.rules.specs.Lists.{fitted}
 use Rattle.rules.specs.Operations.{codes, values}
 use Rattle.rules.specs.Record.{Block, recordSize, wordBytes, recordsBytes}
-use Rattle.rules.specs.Block.{Room}
+use Rattle.rules.specs.Block.{Room, Head}
 use Rattle.rules.specs.Lookups.{Place, Raw, rawAt, Padded, paddedAt}
 use Rattle.rules.specs.Functions.{Arena, arena, roomIn, filled, blockLeft, written, readLeft, bytesLeft, tableLeft, totals, lengthTold, used}
 use Rattle.crossing.specs.Words.{whole}
 use Rattle.exports.specs.declared.BuildReply.{BuildReply}
 use Rattle.exports.specs.declared.EncodeReply.{EncodeReply}
 use Rattle.exports.specs.declared.DecodeReply.{DecodeReply}
+use Rattle.exports.specs.declared.HeadReply.{HeadReply}
 use Rattle.exports.specs.declared.CheckReply.{CheckReply}
 use Rattle.exports.specs.declared.TableReply.{TableReply}
 use Rattle.exports.specs.declared.IndexReply.{IndexReply}
@@ -55,6 +56,11 @@ decodeReply at d = let t = totals (readLeft d) in record { number = numberIn d; 
 pub record Reads (answer : Room → Read Block) (at : ℕ) (r : DecodeReply) (before after : Arena) : Type 0 where
   pub reply : r ≡ decodeReply at (answer (roomIn before))
   pub runs : after ≡ filled before (readLeft (answer (roomIn before)))
+
+-- how many operations and batches the block needs room for
+abbrev pub headReply : Read Head → HeadReply
+headReply (good h) = record { number = 0; place = 0; batches = h .item .batches; operations = length (h .item .ops) }
+headReply (refused n p) = record { number = n; place = p; batches = 0; operations = 0 }
 
 abbrev pub checkReply : Answer Unit → CheckReply
 checkReply d = record { number = numberIn d; place = placeIn d }

@@ -12,7 +12,7 @@ use Rattle.rules.specs.Operations.{Op, operations, codes, values, goodTa
 use Rattle.rules.specs.Batching.{batchesOf}
 use Rattle.rules.specs.Record.{Record, Block, blockOf, noBlock, recordSize, recordsBytes, recordsIn}
 use Rattle.rules.specs.Bytes.{countAt, opAt}
-use Rattle.rules.specs.Block.{Room, blockBytes, blockAt}
+use Rattle.rules.specs.Block.{Room, Head, blockBytes, headAt, blockAt}
 use Rattle.rules.specs.Checks.{recordRight, structureFaults, paddingFaults, commitmentFaults}
 use Rattle.rules.specs.Lookups.{Place, groupOf, nextGroup, rawTable, paddedTable}
 
@@ -139,6 +139,19 @@ opHere t s at i =
     (refuse (not (goodTable t)) 14 0
     (refuse (ltb (length s) at) 1 0
     (opAt t s at i)))
+
+-- ---- how much a block needs: decode's first refusals and items 1 to 3, with room for 65,535 operations and 16,384 batches; no block has more, so that 13
+-- is never the answer
+
+abbrev pub most : Room
+most = record { codes = 65535; values = 65535; records = 16384 }
+
+unfoldable pub headed : List ℕ → List ℕ → ℕ → Read Head
+headed t s at =
+    refuse (ltb 1048576 (length s)) 3 0
+    (refuse (not (goodTable t)) 14 0
+    (refuse (ltb (length s) at) 1 0
+    (headAt t s at most)))
 
 -- ---- checks: "structure 3, 15; padding 3, 15, 10; commitment 3, 14, 15, 4, then batch by batch the first fault"
 
