@@ -209,7 +209,7 @@ module _ (s : List ℕ) (w : ℕ) where
           let e = passed (ltb 65535 n) 3 0 _ v next (d .1) in
           rw (item n v (at + t + 1) next (e .1)) at (ltb-false 65535 n (e .0))
 
-  batchCount-limit : (k at next : ℕ) → batchCountAt s at ≡ found k next → k ≤ 16384
+  pub batchCount-limit : (k at next : ℕ) → batchCountAt s at ≡ found k next → k ≤ 16384
   unfolding batchCountAt
   batchCount-limit k at next h =
       let n = leAt 4 s at in

@@ -1,11 +1,11 @@
 -- Demand 1: every answer is a result or one of document 01's refusals, and a refusal leaves nothing behind. Assumes nothing.
-use mathlib.Core.Path.{_≡_, refl, sym, ap, subst}
+use mathlib.Core.Path.{_≡_, refl, sym, ap, subst, _∙_}
 use mathlib.Core.Logic.{_⊎_, inl, inr}
 use mathlib.Core.List.{List, [], _∷_, map}
 use mathlib.Core.Bool.{Bool, true, false, cond, not, _&&_, _||_}
 use Prim.Native.Nat.{ℕ, zero, suc, _+_, _-_, _/_, _≤_, _<_, _^_}
 use native.Mathlib.Omega.{arith}
-use borrow.Author.Tests.{ltb-false, leb-false, eqb-true}
+use borrow.Author.Tests.{ltb-false, leb-false, eqb-true, le-leb, le-ltb}
 use lib.ListN.{length, getD, take, drop, replicate, length-map}
 use lib.Dec.{leb, ltb, eqb}
 use lib.Count.{trailingZeros}
@@ -19,10 +19,11 @@ use Rattle.rules.specs.Bytes.{least, countBy, countAt, valueAt, opAt, opsAt, ba
 use Rattle.rules.specs.Block.{Room, Head, Layout, blockBytes, placingsFault, countFrom, batchAt, batchesAt, headAt, layoutAt, batchesBy, blockAt}
 use Rattle.rules.specs.Checks.{Held, ninth, recordRight, structureFaults, heldFrom, held, paddingFault, paddingFaults, underCount, placingFault, begins, orElse, groupsFault, emptyZero, commitmentFault, commitmentFaults, paddingRight}
 use Rattle.rules.specs.Lookups.{groupOf, nextGroup}
-use Rattle.rules.specs.Functions.{Arena, arena, blockIn, within, filled, roomFor, built, encoded, written, decoded, countHere, opHere, structureChecked, paddingChecked, commitmentChecked, tableOf, tableLeft, groupLookup, nextLookup}
+use Rattle.rules.specs.Functions.{Arena, arena, blockIn, within, filled, roomFor, built, encoded, written, decoded, most, headed, countHere, opHere, structureChecked, paddingChecked, commitmentChecked, tableOf, tableLeft, groupLookup, nextLookup}
 use Rattle.rules.proofs.Answer.{first-append}
 use Rattle.rules.proofs.Runs.{zeros-fitted}
-use Rattle.claims.specs.Demand1.{Refusal, _of_, OneOf, Replies, zeros, ops, batches, buildRefusals, encodeRefusals, decodeRefusals, told, toldBatches, countRefusals, opRefusals, structureRefusals, paddingRefusals, commitmentRefusals, tableRefusals, lookupRefusals, Demand1}
+use Rattle.claims.proofs.Again.{count-limit, batchCount-limit}
+use Rattle.claims.specs.Demand1.{Refusal, _of_, OneOf, Replies, zeros, ops, batches, buildRefusals, encodeRefusals, decodeRefusals, headRefusals, told, toldBatches, countRefusals, opRefusals, structureRefusals, paddingRefusals, commitmentRefusals, tableRefusals, lookupRefusals, Demand1}
 
 -- ---- answers whose results have one property, and whose refusals another
 
@@ -35,6 +36,11 @@ module _ (P : ℕ → ℕ → Type 0) where
     by-refuse : (b : Bool) (n p : ℕ) (r : Answer A) → P n p → (b ≡ false → Holds Q r) → Holds Q (refuse b n p r)
     by-refuse true n p r h k = h
     by-refuse false n p r h k = k refl
+
+    -- where only some cases refuse
+    by-case : (b : Bool) (n p : ℕ) (r : Answer A) → (b ≡ true → P n p) → (b ≡ false → Holds Q r) → Holds Q (refuse b n p r)
+    by-case true n p r h k = h refl
+    by-case false n p r h k = k refl
 
   by-then : {A B : Type 0} (Q : Item A → Type 0) (R : B → Type 0) (r : Read A) (f : A → ℕ → Answer B) → Holds Q r → ((i : Item A) → Q i → Holds R (f (i .item) (i .next))) → Holds R (r then f)
   by-then Q R (good i) f h k = k i h
@@ -166,14 +172,21 @@ module _ (P : ℕ → ℕ → Type 0) where
         by-refuse Inside (ltb ((length s - (at + 4)) / 5) (leAt 4 s at)) 5 0 _ five λ e₁.
         by-refuse Inside (ltb 16384 (leAt 4 s at)) 3 0 _ three λ e₂. ltb-false (length s) (at + 4) e
 
-    by-head : (t : List ℕ) (at : ℕ) (room : Room) → P 3 0 → ((p : ℕ) → p < told (countAt s at) → P 4 p) → P 5 0 → P 13 0 → at ≤ length s → Holds Any (headAt t s at room)
-    unfolding headAt
-    by-head t at room three four five thirteen l =
+    -- no room for operations, and none for batches
+    Narrow : Room → ℕ → Type 0
+    Narrow room at = (n : Item ℕ) → countAt s at ≡ good n → not (leb (n .item) (room .codes) && leb (n .item) (room .values)) ≡ true → P 13 0
+
+    Scarce : Room → Type 0
+    Scarce room = (k : Item ℕ) (at : ℕ) → batchCountAt s at ≡ good k → ltb (room .records) (k .item) ≡ true → P 13 0
+
+    by-head : (t : List ℕ) (at : ℕ) (room : Room) → P 3 0 → ((p : ℕ) → p < told (countAt s at) → P 4 p) → P 5 0 → Narrow room at → Scarce room → at ≤ length s → Holds Any (headAt t s at room)
+    unfolding headAt Narrow Scarce
+    by-head t at room three four five narrow scarce l =
         by-stage Inside Any (countAt s at) _ (by-count at three l) λ n e q₁.
-        by-refuse Any (not (leb (n .item) (room .codes) && leb (n .item) (room .values))) 13 0 _ thirteen λ e₁.
+        by-case Any (not (leb (n .item) (room .codes) && leb (n .item) (room .values))) 13 0 _ (narrow n e) λ e₁.
         by-then Inside Any (opsAt t s (n .item) (n .next) 0) _ (by-opsAt t (n .item) (n .next) 0 (told (countAt s at)) four q₁ (omega (arith, ap told e))) λ xs q₂.
-        by-then Inside Any (batchCountAt s (xs .next)) _ (by-batchCount (xs .next) five three q₂) λ k q₃.
-        by-refuse Any (ltb (room .records) (k .item)) 13 0 _ thirteen λ e₂. tt
+        by-stage Inside Any (batchCountAt s (xs .next)) _ (by-batchCount (xs .next) five three q₂) λ k e₂ q₃.
+        by-case Any (ltb (room .records) (k .item)) 13 0 _ (scarce k (xs .next) e₂) λ e₃. tt
 
   module _ (s : List ℕ) (most : ℕ) (batch : (p : ℕ) → p < most → P 6 p × P 7 p × P 8 p × P 9 p × P 10 p) (eleven : P 11 0) where
     abbrev Length : ℕ → Item (List (List ℕ)) → Type 0
@@ -245,6 +258,9 @@ lists-same [] vs = omega arith
 lists-same (c ∷ cs) [] = omega arith
 lists-same (c ∷ cs) (v ∷ vs) = omega (arith, lists-same cs vs)
 
+true-false : true ≡ false → ⊥
+true-false h = let z : _≡_ {A = ℕ} 1 0 = ap (λ (b : Bool). cond b 1 0) h in omega arith
+
 -- how many places a number has among some refusals
 placesFor : ℕ → List Refusal → ℕ
 placesFor n [] = 0
@@ -296,7 +312,7 @@ module _ (w : ℕ) where
       (by-refuse P Q (ltb size (at + length (blockBytes t b))) 13 0 _ (listed 13 rs 0 (omega arith)) λ e₄. tt)))
 
   decode : (t s : List ℕ) (at : ℕ) (room : Room) → Replies (decodeRefusals (length s) (told (countAt s at)) (toldBatches (headAt t s at room))) (decoded w t s at room)
-  unfolding decoded blockAt placesFor
+  unfolding decoded blockAt placesFor Narrow Scarce
   decode t s at room =
       let k = toldBatches (headAt t s at room) in
       let rs = decodeRefusals (length s) (told (countAt s at)) k in
@@ -308,13 +324,30 @@ module _ (w : ℕ) where
       let five : P 5 0 = listed 5 rs 0 (omega arith) in
       let batch : (p : ℕ) → p < k → P 6 p × P 7 p × P 8 p × P 9 p × P 10 p = λ p l. (listed 6 rs p l, listed 7 rs p l, listed 8 rs p l, listed 9 rs p l, listed 10 rs p l) in
       let eleven : P 11 0 = listed 11 rs 0 (omega arith) in
+      let thirteen : P 13 0 = listed 13 rs 0 (omega arith) in
       replies rs Q (decoded w t s at room)
       (by-refuse P Q (ltb 1048576 (length s)) 3 0 _ three λ e₁.
       by-refuse P Q (not (goodTable t)) 14 0 _ (listed 14 rs 0 (omega arith)) λ e₂.
       by-refuse P Q (ltb (length s) at) 1 0 _ (listed 1 rs 0 (omega arith)) λ e₃.
-      by-stage P (Any P) Q (headAt t s at room) _ (by-head P s two t at room three four five (listed 13 rs 0 (omega arith)) (ltb-false (length s) at e₃)) λ h e q₁.
+      by-stage P (Any P) Q (headAt t s at room) _ (by-head P s two t at room three four five (λ n e f. thirteen) (λ n i e f. thirteen) (ltb-false (length s) at e₃)) λ h e q₁.
       by-then P _ Q (layoutAt w s (h .item .batches) (h .next)) _ (by-layout P s k batch eleven w (h .item .batches) (h .next) (omega (arith, ap toldBatches e))) λ l q₂.
       by-then P _ Q (batchesBy w t (h .item .ops) (l .item)) _ (by-records P s k batch eleven w t (h .item .ops) (l .item) q₂) λ r q₃. tt)
+
+  head : (t s : List ℕ) (at : ℕ) → Replies (headRefusals (length s) (told (countAt s at))) (headed t s at)
+  unfolding headed placesFor Narrow Scarce
+  head t s at =
+      let rs = headRefusals (length s) (told (countAt s at)) in
+      let P = OneOf rs in
+      let Q : Item Head → Type 0 = Any P in
+      let two : (p : ℕ) → p ≤ length s → P 2 p = λ p l. listed 2 rs p (omega arith) in
+      let three : P 3 0 = listed 3 rs 0 (omega arith) in
+      replies rs Q (headed t s at)
+      (by-refuse P Q (ltb 1048576 (length s)) 3 0 _ three λ e₁.
+      by-refuse P Q (not (goodTable t)) 14 0 _ (listed 14 rs 0 (omega arith)) λ e₂.
+      by-refuse P Q (ltb (length s) at) 1 0 _ (listed 1 rs 0 (omega arith)) λ e₃.
+      by-head P s two t at most three (λ p l. listed 4 rs p l) (listed 5 rs 0 (omega arith))
+      (λ n e f. let l = count-limit s w (n .item) at (n .next) e in absurd (true-false (sym f ∙ rw (le-leb (n .item) 65535 l))))
+      (λ k i e f. let l = batchCount-limit s w (k .item) i (k .next) e in absurd (true-false (sym f ∙ le-ltb 16384 (k .item) l))) (ltb-false (length s) at e₃))
 
   reader-count : (s : List ℕ) (at : ℕ) → Replies (countRefusals (length s)) (countHere s at)
   unfolding countHere placesFor
@@ -415,6 +448,7 @@ module _ (w : ℕ) where
         build = build;
         encode = encode;
         decode = decode;
+        head = head;
         reader-count = reader-count;
         reader-op = reader-op;
         structure = structure;

@@ -11,7 +11,7 @@ use Rattle.rules.specs.Answer.{Answer, good, refused, Read}
 use Rattle.rules.specs.Record.{Record, Block}
 use Rattle.rules.specs.Bytes.{countAt}
 use Rattle.rules.specs.Block.{Room, Head, headAt}
-use Rattle.rules.specs.Functions.{Arena, arena, blockIn, filled, built, blockLeft, encoded, written, decoded, readLeft, countHere, opHere, structureChecked, paddingChecked, commitmentChecked, tableOf, tableLeft, groupLookup, nextLookup}
+use Rattle.rules.specs.Functions.{Arena, arena, blockIn, filled, built, blockLeft, encoded, written, decoded, readLeft, headed, countHere, opHere, structureChecked, paddingChecked, commitmentChecked, tableOf, tableLeft, groupLookup, nextLookup}
 
 -- a number of refusal, and how many places it can have: its place is under that, so it is 0 where there is one
 pub record Refusal : Type 0 where
@@ -57,6 +57,10 @@ abbrev pub toldBatches : Read Head → ℕ
 toldBatches (good h) = h .item .batches
 toldBatches (refused n p) = 0
 
+-- of its head alone, which wants no room
+abbrev pub headRefusals : ℕ → ℕ → List Refusal
+headRefusals size n = 3 of 1 ∷ 14 of 1 ∷ 1 of 1 ∷ 2 of (size + 1) ∷ 4 of n ∷ 5 of 1 ∷ []
+
 -- the reader's steps; the operation is the i-th
 abbrev pub countRefusals : ℕ → List Refusal
 countRefusals size = 3 of 1 ∷ 1 of 1 ∷ 2 of (size + 1) ∷ []
@@ -88,6 +92,7 @@ pub record Demand1 (w : ℕ) : Type 0 where
   pub build : (t cs vs : List ℕ) (room : Room) → Replies (buildRefusals (length cs)) (built w t cs vs room)
   pub encode : (t : List ℕ) (a : Arena) (size at : ℕ) → Replies (encodeRefusals (ops a) (batches a)) (encoded w t a size at)
   pub decode : (t s : List ℕ) (at : ℕ) (room : Room) → Replies (decodeRefusals (length s) (told (countAt s at)) (toldBatches (headAt t s at room))) (decoded w t s at room)
+  pub head : (t s : List ℕ) (at : ℕ) → Replies (headRefusals (length s) (told (countAt s at))) (headed t s at)
   pub reader-count : (s : List ℕ) (at : ℕ) → Replies (countRefusals (length s)) (countHere s at)
   pub reader-op : (t s : List ℕ) (at i : ℕ) → Replies (opRefusals (length s) i) (opHere t s at i)
   pub structure : (a : Arena) → Replies (structureRefusals (batches a)) (structureChecked w a)
