@@ -19,6 +19,7 @@ one-answer =
       oli-decode-le = λ answer at before r q x y h k. (h .reply ∙ sym (k .reply), h .runs ∙ sym (k .runs));
       oli-raw-table-le = λ answer before r q x y h k. (h .reply ∙ sym (k .reply), h .left ∙ sym (k .left));
       oli-padded-table-le = λ answer before r q x y h k. (h .reply ∙ sym (k .reply), h .left ∙ sym (k .left));
+      oli-head = λ t s at. equal _;
       oli-structure = λ a. equal _;
       oli-padding = λ a. equal _;
       oli-commitment = λ t a. equal _;

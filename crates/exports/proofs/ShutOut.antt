@@ -17,6 +17,7 @@ shut-out =
       oli-build-le = λ r after h. (h .reply, h .runs);
       oli-decode-le = λ r after h. (h .reply, h .runs);
       oli-padded-table-le = λ r after h. (h .reply, h .left);
+      oli-head = (refl, refl);
       passed = (refl, refl, refl);
       oli-structure = refl;
       oli-padding = refl;

@@ -6,10 +6,10 @@ use Rattle.rules.specs.Answer.{Answer, Read}
 use Rattle.rules.specs.Record.{Block, recordAt}
 use Rattle.rules.specs.Block.{Room}
 use Rattle.rules.specs.Lookups.{rawAt, paddedAt, paddedIndex, rawIndex}
-use Rattle.rules.specs.Functions.{Arena, structureChecked, paddingChecked, commitmentChecked, groupLookup, nextLookup}
+use Rattle.rules.specs.Functions.{Arena, headed, structureChecked, paddingChecked, commitmentChecked, groupLookup, nextLookup}
 use Rattle.claims.specs.One.{One, Only}
 use Rattle.crossing.specs.Words.{wordsIn}
-use Rattle.exports.specs.Replies.{Builds, Writes, Reads, Tables, BuildsBytes, ReadsBytes, TablesBytes, checkReply, paddedReply, rawReply, oneRecord, wholeWords, inWhole, groupReply, nextReply}
+use Rattle.exports.specs.Replies.{Builds, Writes, Reads, Tables, BuildsBytes, ReadsBytes, TablesBytes, headReply, checkReply, paddedReply, rawReply, oneRecord, wholeWords, inWhole, groupReply, nextReply}
 
 -- `answer` is what the definitions answer: `built 8 ..`, `encoded 8 ..`, `decoded 8 ..`, `rawTabled 8 ..`, `paddedTabled 8 ..`
 pub record OneAnswer : Type 0 where
@@ -23,6 +23,7 @@ pub record OneAnswer : Type 0 where
   pub oli-decode-le : (answer : Room → Read Block) (at : ℕ) (before : Arena) → One (λ r after. ReadsBytes answer at r before after)
   pub oli-raw-table-le : (answer : Answer (List ℕ)) (before : List ℕ) → One (λ r after. TablesBytes answer r before after)
   pub oli-padded-table-le : (answer : Answer (List ℕ)) (before : List ℕ) → One (λ r after. TablesBytes answer r before after)
+  pub oli-head : (t s : List ℕ) (at : ℕ) → Only (λ r. r ≡ headReply (headed t s at))
   pub oli-structure : (a : Arena) → Only (λ r. r ≡ checkReply (structureChecked 8 a))
   pub oli-padding : (a : Arena) → Only (λ r. r ≡ checkReply (paddingChecked 8 a))
   pub oli-commitment : (t : List ℕ) (a : Arena) → Only (λ r. r ≡ checkReply (commitmentChecked 8 t a))

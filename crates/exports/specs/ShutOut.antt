@@ -7,14 +7,14 @@ use lib.ListN.{replicate}
 use Rattle.rules.specs.Record.{recordAt, recordsBytes, recordBytes, wordBytes}
 use Rattle.rules.specs.Block.{Room}
 use Rattle.rules.specs.Lookups.{rawAt, paddedAt, paddedIndex, rawIndex}
-use Rattle.rules.specs.Functions.{Arena, arena, built, encoded, decoded, structureChecked, paddingChecked, commitmentChecked, rawTabled, paddedTabled, groupLookup, nextLookup}
+use Rattle.rules.specs.Functions.{Arena, arena, built, encoded, decoded, headed, structureChecked, paddingChecked, commitmentChecked, rawTabled, paddedTabled, groupLookup, nextLookup}
 use Rattle.rules.specs.Examples.{tableT, is, lent, p1, p2}
 use Rattle.crossing.specs.Words.{wordsIn}
 use Rattle.exports.specs.declared.BuildReply.{BuildReply}
 use Rattle.exports.specs.declared.EncodeReply.{EncodeReply}
 use Rattle.exports.specs.declared.DecodeReply.{DecodeReply}
 use Rattle.exports.specs.declared.TableReply.{TableReply}
-use Rattle.exports.specs.Replies.{Builds, Writes, Reads, Tables, BuildsBytes, ReadsBytes, TablesBytes, checkReply, paddedReply, rawReply, oneRecord, inWhole, groupReply, nextReply}
+use Rattle.exports.specs.Replies.{Builds, Writes, Reads, Tables, BuildsBytes, ReadsBytes, TablesBytes, headReply, checkReply, paddedReply, rawReply, oneRecord, inWhole, groupReply, nextReply}
 
 abbrev pub nines : ℕ → List ℕ
 nines n = replicate n 9
@@ -59,6 +59,7 @@ pub record ShutOut : Type 0 where
       → (r ≡ record { number = 0; place = 0; batches = 1; operations = 2; used = 20 }) × (after ≡ arena codesLeft (5 ∷ replicate 24 0) recordsLeft)
   pub oli-padded-table-le : (r : TableReply) (after : List ℕ) → TablesBytes (paddedTabled 8 (lent p1) 4) r (nines 33) after
       → (r ≡ record { number = 0; place = 0; entries = 3 }) × (after ≡ wordBytes (0 ∷ 0 ∷ 1 ∷ 0 ∷ []) ++ (0 ∷ []))
+  pub oli-head : (headReply (headed tableT p2 0) ≡ record { number = 0; place = 0; batches = 1; operations = 2 }) × (headReply (headed tableT p2 20) ≡ record { number = 2; place = 20; batches = 0; operations = 0 })
   -- checks
   pub passed : (checkReply (structureChecked 8 (lent p1)) ≡ record { number = 0; place = 0 })
       × (checkReply (paddingChecked 8 (lent p1)) ≡ record { number = 0; place = 0 })

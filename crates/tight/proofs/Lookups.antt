@@ -1,4 +1,4 @@
--- The wrong tables, lookups and readers are shut out: two replies that are one have the same kind and the same numbers. Assumes nothing.
+-- The wrong tables, lookups, heads and readers are shut out: two replies that are one have the same kind and the same numbers. Assumes nothing.
 use mathlib.Core.Path.{_≡_, ap}
 use mathlib.Core.List.{List}
 use Prim.Native.Nat.{ℕ, suc}
@@ -15,11 +15,13 @@ use Rattle.prefix.specs.declared.RawFound.{RawFound}
 use Rattle.prefix.specs.declared.RawFound.the-variants as at-raw
 use Rattle.prefix.specs.declared.Tabled.{Tabled}
 use Rattle.prefix.specs.declared.Tabled.the-variants as table
+use Rattle.head.specs.declared.Headed.{Headed}
+use Rattle.head.specs.declared.Headed.the-variants as head
 use Rattle.wire.specs.declared.CountRead.{CountRead}
 use Rattle.wire.specs.declared.CountRead.the-variants as count
 use Rattle.wire.specs.declared.OpRead.{OpRead}
 use Rattle.wire.specs.declared.OpRead.the-variants as one
-use Rattle.tight.specs.Lookups.{RawTable, PaddedTable, ToPadded, ToRaw, GroupOf, NextOf, CountOf, OpOf, threeGroups, wrongCount, ShutOut}
+use Rattle.tight.specs.Lookups.{RawTable, PaddedTable, ToPadded, ToRaw, GroupOf, NextOf, HeadOf, CountOf, OpOf, threeGroups, wrongCount, ShutOut}
 
 -- ---- a reply by numbers: 0 where it refuses or finds nothing, one more than the number that it tells
 
@@ -55,6 +57,18 @@ nextRefused (next.At g) = 0
 nextRefused next.Nothing = 0
 nextRefused (next.Refused n p) = suc n
 
+opsTold : Headed → ℕ
+opsTold (head.Found o b n) = suc o
+opsTold (head.Refused n p) = 0
+
+batchesTold : Headed → ℕ
+batchesTold (head.Found o b n) = b
+batchesTold (head.Refused n p) = 0
+
+headNext : Headed → ℕ
+headNext (head.Found o b n) = n
+headNext (head.Refused n p) = 0
+
 countTold : CountRead → ℕ
 countTold (count.Found v n) = suc v
 countTold (count.Refused n p) = 0
@@ -77,7 +91,7 @@ opNext (one.Found c v n) = n
 opNext (one.Refused n p) = 0
 
 pub shut-out : ShutOut
-unfolding document made paddedTold rawTold groupTold placeTold nextTold nextRefused countTold countNext codeTold valueTold opNext
+unfolding document made paddedTold rawTold groupTold placeTold nextTold nextRefused opsTold batchesTold headNext countTold countNext codeTold valueTold opNext
 shut-out =
     record {
       table-refuses = λ n p after. (
@@ -119,6 +133,9 @@ shut-out =
         λ h. let z : _≡_ {A = ℕ} 0 1 = ap groupTold h in omega arith,
         λ h. let z : _≡_ {A = ℕ} 0 3 = ap nextTold h in omega arith,
       );
+      head-refuses = λ n p h. let z : _≡_ {A = ℕ} 0 3 = ap opsTold h in omega arith;
+      head-passes = λ o b n h. let z : suc o ≡ 0 = ap opsTold h in omega arith;
+      head-totals = λ o b n h. (let z : suc o ≡ 3 = ap opsTold h in omega arith, ap batchesTold h, ap headNext h);
       reader-refuses = λ n p. (
         λ h. let z : _≡_ {A = ℕ} 0 3 = ap countTold h in omega arith,
         λ h. let z : _≡_ {A = ℕ} 0 2 = ap codeTold h in omega arith,

@@ -22,6 +22,7 @@ one-answer =
       padded-to-raw-index = λ table i. equal _;
       op-idx-in-batch-to-group = λ b i. equal _;
       next-op-group-index = λ b g. equal _;
+      head = λ t s at. equal _;
       reader-count = λ s at. equal _;
       reader-op = λ t s at i. equal _;
     }

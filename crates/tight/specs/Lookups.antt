@@ -1,10 +1,10 @@
--- Wrong tables, lookups and readers that the contracts shut out, each at a named input.
+-- Wrong tables, lookups, heads and readers that the contracts shut out, each at a named input.
 use mathlib.Core.Path.{_≡_}
 use mathlib.Core.List.{List, [], _∷_}
 use Prim.Native.Nat.{ℕ}
 use lib.ListN.{replicate}
 use Rattle.rules.specs.Lookups.{rawAt, paddedAt, paddedIndex, rawIndex}
-use Rattle.rules.specs.Functions.{rawTabled, paddedTabled, groupLookup, nextLookup, countHere, opHere}
+use Rattle.rules.specs.Functions.{rawTabled, paddedTabled, groupLookup, nextLookup, headed, countHere, opHere}
 use Rattle.rules.specs.Examples.{tableT, lent, p1, p2}
 use Rattle.op_batch.specs.declared.OpBatch.{OpBatch}
 use Rattle.op_batch.specs.declared.Lookup.{Lookup}
@@ -19,6 +19,9 @@ use Rattle.prefix.specs.declared.RawFound.the-variants as at-raw
 use Rattle.prefix.specs.declared.Tabled.{Tabled}
 use Rattle.prefix.specs.declared.Tabled.the-variants as table
 use Rattle.prefix.specs.Tables.{Answered, paddedFound, rawFound}
+use Rattle.head.specs.declared.Headed.{Headed}
+use Rattle.head.specs.declared.Headed.the-variants as head
+use Rattle.head.specs.Replies.{headOf}
 use Rattle.wire.specs.declared.CountRead.{CountRead}
 use Rattle.wire.specs.declared.CountRead.the-variants as count
 use Rattle.wire.specs.declared.OpRead.{OpRead}
@@ -52,7 +55,10 @@ GroupOf b i r = r ≡ lookupOf (groupLookup 8 (recordIn b) i)
 abbrev pub NextOf : OpBatch → ℕ → NextGroup → Type 0
 NextOf b g r = r ≡ nextOf (nextLookup 8 (recordIn b) g)
 
--- the reader's steps on P2's bytes
+-- the head of P2's block, and the reader's steps on its bytes
+abbrev pub HeadOf : ℕ → Headed → Type 0
+HeadOf at r = r ≡ headOf (headed tableT p2 at)
+
 abbrev pub CountOf : ℕ → CountRead → Type 0
 CountOf at r = r ≡ countReadOf (countHere p2 at)
 
@@ -74,6 +80,10 @@ pub record ShutOut : Type 0 where
   pub lookup-next : (g : ℕ) → NextOf threeGroups 0 (next.At g) → g ≡ 2
   pub lookup-passes : (g p : ℕ) → (GroupOf wrongCount 0 (place.Found g p) → ⊥) × (GroupOf wrongCount 0 place.Nothing → ⊥) × (NextOf wrongCount 0 next.Nothing → ⊥)
   pub lookup-refuses : (n p : ℕ) → (GroupOf threeGroups 0 (place.Refused n p) → ⊥) × (NextOf threeGroups 0 (next.Refused n p) → ⊥)
+  -- the head: one that refuses everything, one that passes everything, one that tells invented totals
+  pub head-refuses : (n p : ℕ) → HeadOf 0 (head.Refused n p) → ⊥
+  pub head-passes : (o b n : ℕ) → HeadOf 20 (head.Found o b n) → ⊥
+  pub head-totals : (o b n : ℕ) → HeadOf 0 (head.Found o b n) → (o ≡ 2) × (b ≡ 1) × (n ≡ 15)
   -- the reader's steps: one that refuses everything, one that reads past the end, one that reads elsewhere
   pub reader-refuses : (n p : ℕ) → (CountOf 0 (count.Refused n p) → ⊥) × (OpOf 1 0 (one.Refused n p) → ⊥)
   pub reader-past : (v n : ℕ) → (CountOf 20 (count.Found v n) → ⊥) × (CountOf 21 (count.Refused n v) → n ≡ 1)

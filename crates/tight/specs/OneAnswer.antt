@@ -4,7 +4,7 @@ use mathlib.Core.List.{List}
 use Prim.Native.Nat.{ℕ}
 use lib.ListN.{length}
 use Rattle.rules.specs.Lookups.{rawAt, paddedAt, paddedIndex, rawIndex}
-use Rattle.rules.specs.Functions.{Arena, built, structureChecked, paddingChecked, commitmentChecked, rawTabled, paddedTabled, groupLookup, nextLookup, countHere, opHere}
+use Rattle.rules.specs.Functions.{Arena, built, structureChecked, paddingChecked, commitmentChecked, rawTabled, paddedTabled, groupLookup, nextLookup, headed, countHere, opHere}
 use Rattle.claims.specs.One.{One, Only}
 use Rattle.operation.specs.Verdict.{verdictOf}
 use Rattle.op_batch.specs.declared.OpBatch.{OpBatch}
@@ -13,6 +13,7 @@ use Rattle.wire.specs.Replies.{countReadOf, opReadOf}
 use Rattle.build.specs.Outcome.{Outcome}
 use Rattle.encoder.specs.Replies.{Encodes}
 use Rattle.decoder.specs.Replies.{Decodes}
+use Rattle.head.specs.Replies.{headOf}
 use Rattle.prefix.specs.Tables.{Answered, paddedFound, rawFound}
 
 pub record OneAnswer : Type 0 where
@@ -28,6 +29,7 @@ pub record OneAnswer : Type 0 where
   pub padded-to-raw-index : (table : List ℕ) (i : ℕ) → Only (λ r. r ≡ rawFound (rawIndex table (paddedAt i)))
   pub op-idx-in-batch-to-group : (b : OpBatch) (i : ℕ) → Only (λ r. r ≡ lookupOf (groupLookup 8 (recordIn b) i))
   pub next-op-group-index : (b : OpBatch) (g : ℕ) → Only (λ r. r ≡ nextOf (nextLookup 8 (recordIn b) g))
+  pub head : (t s : List ℕ) (at : ℕ) → Only (λ r. r ≡ headOf (headed t s at))
   -- the reader's steps
   pub reader-count : (s : List ℕ) (at : ℕ) → Only (λ r. r ≡ countReadOf (countHere s at))
   pub reader-op : (t s : List ℕ) (at i : ℕ) → Only (λ r. r ≡ opReadOf (opHere t s at i))
