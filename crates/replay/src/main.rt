@@ -4,8 +4,8 @@ ghost use mathlib.Core.Path.{_≡_};
 ghost use Prim.Native.Nat.{_≤_, _<_};
 ghost use lib.ListN.{length};
 ghost use Rattle.io.specs.Counts.{Counts};
-use listing::number as print;
-use listing::say;
+use console::print as say;
+use console::print_number as print;
 use text::Number;
 
 // ---- the numbers of a line, which ends in its line feed
@@ -730,9 +730,12 @@ fn load(path: &[u8], text: &mut [u8]) -> usize
     if fd < 0 {
         return 0;
     }
-    let n = io::read_full(fd, text);
+    let got = console::fill(fd, text);
     libc::close(fd);
-    n
+    if got.failed {
+        return 0;
+    }
+    got.count
 }
 
 // The counts of a file, and the line where it was left, if it was.
@@ -802,7 +805,7 @@ fn files(count: usize, counts: &mut [u64]) {
 
 fn main() {
     if os::arg_count() < 2 {
-        say(b"usage: replay FILE..\n");
+        console::tell(b"usage: replay FILE..\n");
         return;
     }
     let mut counts = [0u64; 16];

@@ -1,14 +1,21 @@
 use mathlib.Core.Path.{sym}
 use native.Mathlib.Omega.{arith}
-use lib.Seq.{length-take-le}
 use borrow.Author.Needs.{needs}
-use Rattle.batch.proofs.print_built.Statement.{statement}
-use Rattle.batch.proofs.print_built.Tie as tie
-use Rattle.batch.proofs.print_built.Reads as reads
-use Rattle.batch.proofs.print_built.Lts as lts
+use lib.Seq.{length-take-le}
+use Rattle.batch.proofs.write.Statement.{statement}
+use Rattle.batch.proofs.write.Tie as tie
+use Rattle.batch.proofs.write.Reads as reads
+use Rattle.batch.proofs.write.Lts as lts
+use Rattle.batch.proofs.answer.Reads as answer-reads
 use Rattle.batch.proofs.not_written.Reads as not-written-reads
-use Rattle.batch.proofs.written.Reads as written-reads
 use Rattle.encoder.proofs.encode.Reads as encode-reads
+use Rattle.vm.proofs.table.Reads as table-reads
+
+table-requires : tie.Need-table-requires
+table-requires c κs = search needs
+
+slice-aggregate-encode : tie.Need-slice-aggregate-encode
+slice-aggregate-encode c = search needs
 
 encode-requires : tie.Need-encode-requires
 encode-requires c κs = search needs
@@ -34,14 +41,14 @@ same-length-2 c = search needs
 returns-2 : tie.Need-returns-2
 returns-2 c = search needs
 
-slice-reshare-prefix-written : tie.Need-slice-reshare-prefix-written
-slice-reshare-prefix-written c = search needs
+slice-reshare-prefix-answer : tie.Need-slice-reshare-prefix-answer
+slice-reshare-prefix-answer c = search needs
 
-slice-aggregate-written : tie.Need-slice-aggregate-written
-slice-aggregate-written c = sym (length-take-le _ _ (omega arith))
+slice-aggregate-answer : tie.Need-slice-aggregate-answer
+slice-aggregate-answer c = sym (length-take-le _ _ (omega arith))
 
-written-requires : tie.Need-written-requires
-written-requires c κs = search needs
+answer-requires : tie.Need-answer-requires
+answer-requires c κs = search needs
 
 same-length-3 : tie.Need-same-length-3
 same-length-3 c = search needs
@@ -49,10 +56,12 @@ same-length-3 c = search needs
 returns-3 : tie.Need-returns-3
 returns-3 c = search needs
 
-pub print-built-spec : {M : Type 1} → statement M
-print-built-spec =
+pub write-spec : {M : Type 1} → statement M
+write-spec =
     tie.close
     (tie.spec
+    table-requires
+    slice-aggregate-encode
     encode-requires
     enum-known-r
     enum-told
@@ -61,8 +70,8 @@ print-built-spec =
     returns
     same-length-2
     returns-2
-    slice-reshare-prefix-written
-    slice-aggregate-written
-    written-requires
+    slice-reshare-prefix-answer
+    slice-aggregate-answer
+    answer-requires
     same-length-3
     returns-3)
