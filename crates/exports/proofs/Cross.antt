@@ -4,7 +4,7 @@ use mathlib.Core.List.{List}
 use mathlib.Core.Option.{Option, none, some}
 use Prim.Native.Nat.{ℕ}
 use Rattle.rules.specs.Answer.{Answer, good, refused, Read}
-use Rattle.rules.specs.Record.{Block}
+use Rattle.rules.specs.Record.{Block, noBlock}
 use Rattle.rules.specs.Block.{Head}
 use Rattle.rules.specs.Lookups.{Place, Raw, rawAt, Padded, paddedAt}
 use Rattle.operation.specs.Verdict.{verdictOf}
@@ -18,6 +18,7 @@ use Rattle.exports.specs.Replies.{buildReply, encodeReply, decodeReply, 
 use Rattle.exports.specs.Flat.{flatBuilt, flatEncoded, flatDecoded, flatHeaded, flatVerdict, flatTabled, flatPadded, flatRaw, flatGroup, flatNext}
 
 pub cross-built : (d : Answer Block) → flatBuilt (builtOf d) ≡ buildReply d
+unfolding noBlock
 cross-built (good b) = refl
 cross-built (refused n p) = refl
 
@@ -26,6 +27,7 @@ cross-encoded (good bytes) = refl
 cross-encoded (refused n p) = refl
 
 pub cross-decoded : (at : ℕ) (d : Read Block) → flatDecoded (decodedOf at d) ≡ decodeReply at d
+unfolding noBlock
 cross-decoded at (good i) = refl
 cross-decoded at (refused n p) = refl
 

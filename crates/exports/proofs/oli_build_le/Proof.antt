@@ -2,7 +2,7 @@ use Rattle.exports.proofs.Builds.{built-broken}
 use Rattle.exports.proofs.Whole.{few, front}
 use Rattle.exports.specs.Replies.{buildReply, roomBytes, filledBytes}
 use Rattle.rules.specs.Functions.{arena, blockLeft}
-use Rattle.rules.specs.Record.{Block}
+use Rattle.rules.specs.Record.{Block, noBlock}
 use Rattle.rules.specs.Answer.{Answer}
 use borrow.Author.Tests.{not-true, not-false}
 use native.Mathlib.Omega.{arith}
@@ -37,6 +37,7 @@ same-length-3 : tie.Need-same-length-3
 same-length-3 c = search needs
 
 returns : tie.Need-returns
+unfolding noBlock
 returns c =
     let a = c .before .before .before .before .before .before .before .before .before .before .before .before .before .before .before .before .before .before .args in
     let s = arena (a .out-codes .now) (a .out-values .now) (a .records .now) in
