@@ -270,7 +270,22 @@ fn replace(path: &[u8], new: &[u8], bytes: &[u8]) -> bool {
     true
 }
 
+// A device or a pipe has nothing to put on a disk, and is not to lose its name.
+fn replaceable(path: &[u8]) -> bool {
+    let fd = os::open_update(path);
+    if fd < 0 {
+        return true;
+    }
+    let file = libc::fsync(fd) == 0;
+    libc::close(fd);
+    file
+}
+
 fn save(path: &[u8], bytes: &[u8]) -> bool {
+    if !replaceable(path) {
+        console::wrong(b"batch", path, b"not a file that can be replaced");
+        return false;
+    }
     let mut room = io::large_buffer();
     let k = console::copy(&mut room, 0, path);
     let n = console::copy(&mut room, k, b".new");
@@ -321,18 +336,20 @@ fn answer(file: &[u8], codes: &[u8], values: &[u64], records: &[u8], bytes: &[u8
     }
 }
 
-fn refused(refusal: u8, place: usize) {
-    let mut page = console::errors();
-    say(&mut page, b"batch: ");
-    listing::print_refusal(&mut page, refusal, place);
-    say(&mut page, b"\n");
-    console::flush(&mut page);
+// A refusal, or number 0.
+struct Refusal {
+    number: u8,
+    place: usize,
 }
 
-fn not_written(r: Encoded) {
+fn refuse(number: u8, place: usize) -> Refusal {
+    Refusal { number, place }
+}
+
+fn not_written(r: Encoded) -> Refusal {
     match r {
-        Encoded::Refused { number, place } => refused(number, place),
-        Encoded::Written { length: _ } => {}
+        Encoded::Refused { number, place } => refuse(number, place),
+        Encoded::Written { length: _ } => refuse(0, 0),
     }
 }
 
@@ -344,17 +361,17 @@ fn write(
     records: &[u8],
     batches: usize,
     room: &mut [u8],
-) {
+) -> Refusal {
     let table = vm::table();
     let r = encoder::encode(&table, codes, values, records, room, 0);
     let Encoded::Written { length } = r else {
-        not_written(r);
-        return;
+        return not_written(r);
     };
     if room.len() < length {
-        return;
+        return refuse(13, 0);
     }
     answer(file, codes, values, records, &room[..length], batches);
+    refuse(0, 0)
 }
 
 // `build` makes no more than its room; told here again, since lending a front of a run asks for it.
@@ -366,19 +383,19 @@ fn lend(
     batches: usize,
     operations: usize,
     room: &mut [u8],
-) {
+) -> Refusal {
     if codes.len() < operations {
-        return;
+        return refuse(13, 0);
     }
     if values.len() < operations {
-        return;
+        return refuse(13, 0);
     }
     if 16384 < batches {
-        return;
+        return refuse(13, 0);
     }
     let end = 82 * batches;
     if records.len() < end {
-        return;
+        return refuse(13, 0);
     }
     write(
         file,
@@ -387,10 +404,10 @@ fn lend(
         &records[..end],
         batches,
         room,
-    );
+    )
 }
 
-fn batch(file: &[u8], codes: &[u8], values: &[u64], room: &mut [u8]) {
+fn batch(file: &[u8], codes: &[u8], values: &[u64], room: &mut [u8]) -> Refusal {
     let table = vm::table();
     let mut out_codes = space::codes();
     let mut out_values = space::values();
@@ -416,7 +433,7 @@ fn batch(file: &[u8], codes: &[u8], values: &[u64], room: &mut [u8]) {
             operations,
             room,
         ),
-        Built::Refused { number, place } => refused(number, place),
+        Built::Refused { number, place } => refuse(number, place),
     }
 }
 
@@ -441,6 +458,18 @@ fn codes_room() -> [u8; 16384]
     [0; 16384]
 }
 
+fn tell_refusal(name: &[u8], r: Refusal) {
+    if r.number == 0 {
+        return;
+    }
+    let mut page = console::errors();
+    console::about(&mut page, b"batch", name);
+    say(&mut page, b": ");
+    listing::print_refusal(&mut page, r.number, r.place);
+    say(&mut page, b"\n");
+    console::flush(&mut page);
+}
+
 // The n bytes of a list, whose room takes the block's bytes in the end.
 fn batch_text(name: &[u8], file: &[u8], list: &mut [u8], n: usize)
     requires { ⌜ n ≤ length (now list) ⌝ }
@@ -452,7 +481,7 @@ fn batch_text(name: &[u8], file: &[u8], list: &mut [u8], n: usize)
         return;
     }
     let k = t.count;
-    batch(file, &codes[..k], &values[..k], list);
+    tell_refusal(name, batch(file, &codes[..k], &values[..k], list));
 }
 
 fn batch_from(name: &[u8], file: &[u8], fd: i32) {

@@ -211,7 +211,7 @@ fn offset() -> Number {
 
 fn help() {
     console::print(
-        b"show FILE [OFFSET]: prints the batches of the block that starts at byte OFFSET of FILE (0 where none is given), under the virtual machine's\nown table; or says in one line, on standard error, what is wrong: the number of the refusal, what it means, and where. The file may have any size:\nonly the 1048576 bytes from OFFSET on are read, and no block is longer than 671742. Of a group it prints the number, the index of its first operation in the block, and that operation's byte in the file.\nWhat it prints was read from a whole block: one that is cut short is refused. It does not notice batch data of another list that fits these\noperations, nor a changed byte that leaves a good block: only batching the list again would.\n",
+        b"show FILE [OFFSET]: prints the batches of the block that starts at byte OFFSET of FILE (0 where none is given), under the virtual machine's\nown table; or says on standard error, in one line, what is wrong: the number of the refusal, what it means, and where.\nFor a group it prints its number, the index of its first operation in the block, and the byte of the file where that operation starts.\nThe file may have any size: the 1048576 bytes from OFFSET on are read, and no block is longer than 671742.\nWhat is printed was read from a whole block: one that is cut short is refused. Batch data of another list that fits these operations, or a\nchanged byte that leaves a good block, is not noticed: only batching the list again would show it.\n",
     );
 }
 

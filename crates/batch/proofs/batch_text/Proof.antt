@@ -9,6 +9,7 @@ use Rattle.batch.proofs.batch_text.Lts as lts
 use Rattle.batch.proofs.batch.Reads as batch-reads
 use Rattle.batch.proofs.codes_room.Reads as codes-room-reads
 use Rattle.batch.proofs.read.Reads as read-reads
+use Rattle.batch.proofs.tell_refusal.Reads as tell-refusal-reads
 use Rattle.batch.proofs.values_room.Reads as values-room-reads
 
 codes-room-requires : tie.Need-codes-room-requires
@@ -53,6 +54,9 @@ slice-aggregate-batch-2 c = sym (length-take-le _ _ (omega arith))
 batch-requires : tie.Need-batch-requires
 batch-requires c κs = search needs
 
+tell-refusal-requires : tie.Need-tell-refusal-requires
+tell-refusal-requires c κs = search needs
+
 same-length-2 : tie.Need-same-length-2
 same-length-2 c = search needs
 
@@ -77,5 +81,6 @@ batch-text-spec =
     array-share-prefix-values
     slice-aggregate-batch-2
     batch-requires
+    tell-refusal-requires
     same-length-2
     returns-2)

@@ -6,19 +6,32 @@ use Rattle.batch.proofs.lend.Statement.{statement}
 use Rattle.batch.proofs.lend.Tie as tie
 use Rattle.batch.proofs.lend.Reads as reads
 use Rattle.batch.proofs.lend.Lts as lts
+use Rattle.batch.proofs.refuse.Reads as refuse-reads
 use Rattle.batch.proofs.write.Reads as write-reads
+
+refuse-requires : tie.Need-refuse-requires
+refuse-requires c κs = search needs
 
 returns : tie.Need-returns
 returns c = search needs
 
+refuse-requires-2 : tie.Need-refuse-requires-2
+refuse-requires-2 c κs = search needs
+
 returns-2 : tie.Need-returns-2
 returns-2 c = search needs
+
+refuse-requires-3 : tie.Need-refuse-requires-3
+refuse-requires-3 c κs = search needs
 
 returns-3 : tie.Need-returns-3
 returns-3 c = search needs
 
 mul-end : tie.Need-mul-end
 mul-end c = search needs
+
+refuse-requires-4 : tie.Need-refuse-requires-4
+refuse-requires-4 c κs = search needs
 
 returns-4 : tie.Need-returns-4
 returns-4 c = search needs
@@ -45,10 +58,14 @@ pub lend-spec : {M : Type 1} → statement M
 lend-spec =
     tie.close
     (tie.spec
+    refuse-requires
     returns
+    refuse-requires-2
     returns-2
+    refuse-requires-3
     returns-3
     mul-end
+    refuse-requires-4
     returns-4
     slice-aggregate-write
     slice-aggregate-write-2

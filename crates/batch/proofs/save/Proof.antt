@@ -7,8 +7,25 @@ use Rattle.batch.proofs.save.Tie as tie
 use Rattle.batch.proofs.save.Reads as reads
 use Rattle.batch.proofs.save.Lts as lts
 use Rattle.batch.proofs.replace.Reads as replace-reads
+use Rattle.batch.proofs.replaceable.Reads as replaceable-reads
 use Rattle.console.proofs.copy.Reads as copy-reads
+use Rattle.console.proofs.wrong.Reads as wrong-reads
 use Rattle.io.proofs.large_buffer.Reads as large-buffer-reads
+
+replaceable-requires : tie.Need-replaceable-requires
+replaceable-requires c κs = search needs
+
+slice-aggregate-wrong : tie.Need-slice-aggregate-wrong
+slice-aggregate-wrong c = search needs
+
+slice-aggregate-wrong-2 : tie.Need-slice-aggregate-wrong-2
+slice-aggregate-wrong-2 c = search needs
+
+wrong-requires : tie.Need-wrong-requires
+wrong-requires c κs = search needs
+
+returns : tie.Need-returns
+returns c = search needs
 
 large-buffer-requires : tie.Need-large-buffer-requires
 large-buffer-requires c κs = search needs
@@ -37,13 +54,18 @@ slice-aggregate-replace c = sym (length-take-le _ _ (omega arith))
 replace-requires : tie.Need-replace-requires
 replace-requires c κs = search needs
 
-returns : tie.Need-returns
-returns c = search needs
+returns-2 : tie.Need-returns-2
+returns-2 c = search needs
 
 pub save-spec : {M : Type 1} → statement M
 save-spec =
     tie.close
     (tie.spec
+    replaceable-requires
+    slice-aggregate-wrong
+    slice-aggregate-wrong-2
+    wrong-requires
+    returns
     large-buffer-requires
     slice-aggregate-copy
     copy-requires
@@ -53,4 +75,4 @@ save-spec =
     array-share-prefix-room
     slice-aggregate-replace
     replace-requires
-    returns)
+    returns-2)

@@ -8,6 +8,7 @@ use Rattle.batch.proofs.write.Reads as reads
 use Rattle.batch.proofs.write.Lts as lts
 use Rattle.batch.proofs.answer.Reads as answer-reads
 use Rattle.batch.proofs.not_written.Reads as not-written-reads
+use Rattle.batch.proofs.refuse.Reads as refuse-reads
 use Rattle.encoder.proofs.encode.Reads as encode-reads
 use Rattle.vm.proofs.table.Reads as table-reads
 
@@ -35,6 +36,9 @@ same-length c = search needs
 returns : tie.Need-returns
 returns c = search needs
 
+refuse-requires : tie.Need-refuse-requires
+refuse-requires c κs = search needs
+
 same-length-2 : tie.Need-same-length-2
 same-length-2 c = search needs
 
@@ -49,6 +53,9 @@ slice-aggregate-answer c = sym (length-take-le _ _ (omega arith))
 
 answer-requires : tie.Need-answer-requires
 answer-requires c κs = search needs
+
+refuse-requires-2 : tie.Need-refuse-requires-2
+refuse-requires-2 c κs = search needs
 
 same-length-3 : tie.Need-same-length-3
 same-length-3 c = search needs
@@ -68,10 +75,12 @@ write-spec =
     not-written-requires
     same-length
     returns
+    refuse-requires
     same-length-2
     returns-2
     slice-reshare-prefix-answer
     slice-aggregate-answer
     answer-requires
+    refuse-requires-2
     same-length-3
     returns-3)
