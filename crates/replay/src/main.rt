@@ -362,7 +362,23 @@ fn block_is(c: Case, s: &[u8], codes: &[u8], values: &[u64], records: &[u8]) -> 
 
 // ---- the functions, each on what its line lends; an array is made where it is used
 
-fn build(mut c: Case, s: &[u8], table: &[u8], codes: &[u8], values: &[u64]) -> Case {
+fn build(
+    c: Case,
+    s: &[u8],
+    table: &[u8],
+    codes: &[u8],
+    values: &[u64],
+    out_codes: &mut [u8],
+    out_values: &mut [u64],
+    out: &mut [u8],
+) -> Case {
+    soil(out_codes, out_values, out);
+    let r = exports::oli_build(table, codes, values, out_codes, out_values, out);
+    let d = made(c, s, r.number, r.place, r.batches, r.operations);
+    block_is(d, s, out_codes, out_values, out)
+}
+
+fn to_block(mut c: Case, s: &[u8], table: &[u8], codes: &[u8], values: &[u64]) -> Case {
     let r = block_room(s, c.at);
     c.at = r.at;
     let x = r.codes;
@@ -371,20 +387,36 @@ fn build(mut c: Case, s: &[u8], table: &[u8], codes: &[u8], values: &[u64]) -> C
     let mut out_codes = space::codes();
     let mut out_values = space::values();
     let mut out = space::records();
-    soil(&mut out_codes[..x], &mut out_values[..y], &mut out[..z]);
-    let b = exports::oli_build(
+    build(
+        c,
+        s,
         table,
         codes,
         values,
         &mut out_codes[..x],
         &mut out_values[..y],
         &mut out[..z],
-    );
-    let d = made(c, s, b.number, b.place, b.batches, b.operations);
-    block_is(d, s, &out_codes[..x], &out_values[..y], &out[..z])
+    )
 }
 
-fn decode(mut c: Case, s: &[u8], table: &[u8], block: &[u8], from: usize) -> Case {
+fn decode(
+    c: Case,
+    s: &[u8],
+    table: &[u8],
+    block: &[u8],
+    from: usize,
+    out_codes: &mut [u8],
+    out_values: &mut [u64],
+    out: &mut [u8],
+) -> Case {
+    soil(out_codes, out_values, out);
+    let r = exports::oli_decode(table, block, from, out_codes, out_values, out);
+    let d = made(c, s, r.number, r.place, r.batches, r.operations);
+    let e = is(d, s, b"bytes used", r.used);
+    block_is(e, s, out_codes, out_values, out)
+}
+
+fn from_bytes(mut c: Case, s: &[u8], table: &[u8], block: &[u8], from: usize) -> Case {
     let r = block_room(s, c.at);
     c.at = r.at;
     let x = r.codes;
@@ -393,21 +425,35 @@ fn decode(mut c: Case, s: &[u8], table: &[u8], block: &[u8], from: usize) -> Cas
     let mut out_codes = space::codes();
     let mut out_values = space::values();
     let mut out = space::records();
-    soil(&mut out_codes[..x], &mut out_values[..y], &mut out[..z]);
-    let b = exports::oli_decode(
+    decode(
+        c,
+        s,
         table,
         block,
         from,
         &mut out_codes[..x],
         &mut out_values[..y],
         &mut out[..z],
-    );
-    let d = made(c, s, b.number, b.place, b.batches, b.operations);
-    let e = is(d, s, b"bytes used", b.used);
-    block_is(e, s, &out_codes[..x], &out_values[..y], &out[..z])
+    )
 }
 
 fn encode(
+    c: Case,
+    s: &[u8],
+    table: &[u8],
+    codes: &[u8],
+    values: &[u64],
+    records: &[u8],
+    out: &mut [u8],
+    from: usize,
+) -> Case {
+    let r = exports::oli_encode(table, codes, values, records, out, from);
+    let d = refusal(c, s, r.number, r.place);
+    let e = is(d, s, b"length", r.length);
+    bytes_are(e, s, b"bytes", out)
+}
+
+fn to_bytes(
     mut c: Case,
     s: &[u8],
     table: &[u8],
@@ -420,17 +466,16 @@ fn encode(
     let from = number(s, k.at);
     c.at = from.at;
     let n = k.lent;
-    let r = exports::oli_encode(
+    encode(
+        c,
+        s,
         table,
         codes,
         values,
         records,
         &mut out[..n],
         from.value as usize,
-    );
-    let d = refusal(c, s, r.number, r.place);
-    let e = is(d, s, b"length", r.length);
-    bytes_are(e, s, b"bytes", &out[..n])
+    )
 }
 
 fn check(c: Case, s: &[u8], table: &[u8], codes: &[u8], values: &[u64], records: &[u8]) -> Case {
@@ -516,7 +561,7 @@ fn on_list(mut c: Case, s: &[u8], table: &[u8]) -> Case {
     c.at = v.at;
     let n = k.lent;
     let m = v.lent;
-    build(c, s, table, &codes[..n], &values[..m])
+    to_block(c, s, table, &codes[..n], &values[..m])
 }
 
 fn on_bytes(mut c: Case, s: &[u8], table: &[u8]) -> Case {
@@ -525,7 +570,7 @@ fn on_bytes(mut c: Case, s: &[u8], table: &[u8]) -> Case {
     let from = number(s, k.at);
     c.at = from.at;
     let n = k.lent;
-    decode(c, s, table, &run[..n], from.value as usize)
+    from_bytes(c, s, table, &run[..n], from.value as usize)
 }
 
 // The functions on a block: encode, the checks and the tables.
@@ -538,7 +583,7 @@ fn with_block(
     records: &[u8],
 ) -> Case {
     if c.what == 2 {
-        return encode(c, s, table, codes, values, records);
+        return to_bytes(c, s, table, codes, values, records);
     }
     if c.what <= 6 {
         return check(c, s, table, codes, values, records);

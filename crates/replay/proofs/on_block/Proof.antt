@@ -9,51 +9,57 @@ use Rattle.replay.proofs.on_block.Lts as lts
 use Rattle.replay.proofs.bytes.Reads as bytes-reads
 use Rattle.replay.proofs.with_block.Reads as with-block-reads
 use Rattle.replay.proofs.words.Reads as words-reads
+use Rattle.space.proofs.codes.Reads as codes-reads
+use Rattle.space.proofs.records.Reads as records-reads
+use Rattle.space.proofs.values.Reads as values-reads
+
+codes-requires : tie.Need-codes-requires
+codes-requires c κs = search needs
+
+values-requires : tie.Need-values-requires
+values-requires c κs = search needs
+
+records-requires : tie.Need-records-requires
+records-requires c κs = search needs
+
+slice-aggregate-bytes : tie.Need-slice-aggregate-bytes
+slice-aggregate-bytes c = search needs
 
 bytes-requires : tie.Need-bytes-requires
 bytes-requires c κs = search needs
 
+slice-aggregate-words : tie.Need-slice-aggregate-words
+slice-aggregate-words c = search needs
+
 words-requires : tie.Need-words-requires
 words-requires c κs = search needs
+
+slice-aggregate-bytes-2 : tie.Need-slice-aggregate-bytes-2
+slice-aggregate-bytes-2 c = search needs
 
 bytes-requires-2 : tie.Need-bytes-requires-2
 bytes-requires-2 c κs = search needs
 
-slice-reshare-prefix-with-block : tie.Need-slice-reshare-prefix-with-block
-slice-reshare-prefix-with-block c = search needs
+array-share-prefix-codes : tie.Need-array-share-prefix-codes
+array-share-prefix-codes c = search needs
 
 slice-aggregate-with-block : tie.Need-slice-aggregate-with-block
 slice-aggregate-with-block c = sym (length-take-le _ _ (omega arith))
 
-slice-reshare-prefix-with-block-2 : tie.Need-slice-reshare-prefix-with-block-2
-slice-reshare-prefix-with-block-2 c = search needs
+array-share-prefix-values : tie.Need-array-share-prefix-values
+array-share-prefix-values c = search needs
 
 slice-aggregate-with-block-2 : tie.Need-slice-aggregate-with-block-2
 slice-aggregate-with-block-2 c = sym (length-take-le _ _ (omega arith))
 
-slice-reshare-prefix-with-block-3 : tie.Need-slice-reshare-prefix-with-block-3
-slice-reshare-prefix-with-block-3 c = search needs
+array-share-prefix-records : tie.Need-array-share-prefix-records
+array-share-prefix-records c = search needs
 
 slice-aggregate-with-block-3 : tie.Need-slice-aggregate-with-block-3
 slice-aggregate-with-block-3 c = sym (length-take-le _ _ (omega arith))
 
 with-block-requires : tie.Need-with-block-requires
 with-block-requires c κs = search needs
-
-same-length : tie.Need-same-length
-same-length c = search needs
-
-same-length-2 : tie.Need-same-length-2
-same-length-2 c = search needs
-
-same-length-3 : tie.Need-same-length-3
-same-length-3 c = search needs
-
-same-length-4 : tie.Need-same-length-4
-same-length-4 c = search needs
-
-same-length-5 : tie.Need-same-length-5
-same-length-5 c = search needs
 
 returns : tie.Need-returns
 returns c = search needs
@@ -62,19 +68,20 @@ pub on-block-spec : {M : Type 1} → statement M
 on-block-spec =
     tie.close
     (tie.spec
+    codes-requires
+    values-requires
+    records-requires
+    slice-aggregate-bytes
     bytes-requires
+    slice-aggregate-words
     words-requires
+    slice-aggregate-bytes-2
     bytes-requires-2
-    slice-reshare-prefix-with-block
+    array-share-prefix-codes
     slice-aggregate-with-block
-    slice-reshare-prefix-with-block-2
+    array-share-prefix-values
     slice-aggregate-with-block-2
-    slice-reshare-prefix-with-block-3
+    array-share-prefix-records
     slice-aggregate-with-block-3
     with-block-requires
-    same-length
-    same-length-2
-    same-length-3
-    same-length-4
-    same-length-5
     returns)

@@ -9,6 +9,13 @@ use Rattle.replay.proofs.on_entries.Lts as lts
 use Rattle.replay.proofs.index.Reads as index-reads
 use Rattle.replay.proofs.number.Reads as number-reads
 use Rattle.replay.proofs.words.Reads as words-reads
+use Rattle.space.proofs.values.Reads as values-reads
+
+values-requires : tie.Need-values-requires
+values-requires c κs = search needs
+
+slice-aggregate-words : tie.Need-slice-aggregate-words
+slice-aggregate-words c = search needs
 
 words-requires : tie.Need-words-requires
 words-requires c κs = search needs
@@ -16,17 +23,14 @@ words-requires c κs = search needs
 number-requires : tie.Need-number-requires
 number-requires c κs = search needs
 
-slice-reshare-prefix-index : tie.Need-slice-reshare-prefix-index
-slice-reshare-prefix-index c = search needs
+array-share-prefix-entries : tie.Need-array-share-prefix-entries
+array-share-prefix-entries c = search needs
 
 slice-aggregate-index : tie.Need-slice-aggregate-index
 slice-aggregate-index c = sym (length-take-le _ _ (omega arith))
 
 index-requires : tie.Need-index-requires
 index-requires c κs = search needs
-
-same-length : tie.Need-same-length
-same-length c = search needs
 
 returns : tie.Need-returns
 returns c = search needs
@@ -35,10 +39,11 @@ pub on-entries-spec : {M : Type 1} → statement M
 on-entries-spec =
     tie.close
     (tie.spec
+    values-requires
+    slice-aggregate-words
     words-requires
     number-requires
-    slice-reshare-prefix-index
+    array-share-prefix-entries
     slice-aggregate-index
     index-requires
-    same-length
     returns)

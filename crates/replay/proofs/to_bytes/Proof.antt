@@ -9,6 +9,13 @@ use Rattle.replay.proofs.to_bytes.Lts as lts
 use Rattle.replay.proofs.bytes.Reads as bytes-reads
 use Rattle.replay.proofs.encode.Reads as encode-reads
 use Rattle.replay.proofs.number.Reads as number-reads
+use Rattle.space.proofs.records.Reads as records-reads
+
+records-requires : tie.Need-records-requires
+records-requires c κs = search needs
+
+slice-aggregate-bytes : tie.Need-slice-aggregate-bytes
+slice-aggregate-bytes c = search needs
 
 bytes-requires : tie.Need-bytes-requires
 bytes-requires c κs = search needs
@@ -16,17 +23,14 @@ bytes-requires c κs = search needs
 number-requires : tie.Need-number-requires
 number-requires c κs = search needs
 
-slice-relend-prefix-encode : tie.Need-slice-relend-prefix-encode
-slice-relend-prefix-encode c = search needs
+array-borrow-prefix-out : tie.Need-array-borrow-prefix-out
+array-borrow-prefix-out c = search needs
 
 slice-aggregate-encode : tie.Need-slice-aggregate-encode
 slice-aggregate-encode c = sym (length-take-le _ _ (omega arith))
 
 encode-requires : tie.Need-encode-requires
 encode-requires c κs = search needs
-
-same-length : tie.Need-same-length
-same-length c = search needs
 
 returns : tie.Need-returns
 returns c = search needs
@@ -35,10 +39,11 @@ pub to-bytes-spec : {M : Type 1} → statement M
 to-bytes-spec =
     tie.close
     (tie.spec
+    records-requires
+    slice-aggregate-bytes
     bytes-requires
     number-requires
-    slice-relend-prefix-encode
+    array-borrow-prefix-out
     slice-aggregate-encode
     encode-requires
-    same-length
     returns)

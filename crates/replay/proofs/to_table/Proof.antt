@@ -8,21 +8,22 @@ use Rattle.replay.proofs.to_table.Reads as reads
 use Rattle.replay.proofs.to_table.Lts as lts
 use Rattle.replay.proofs.index_table.Reads as index-table-reads
 use Rattle.replay.proofs.room.Reads as room-reads
+use Rattle.space.proofs.values.Reads as values-reads
 
 room-requires : tie.Need-room-requires
 room-requires c κs = search needs
 
-slice-relend-prefix-index-table : tie.Need-slice-relend-prefix-index-table
-slice-relend-prefix-index-table c = search needs
+values-requires : tie.Need-values-requires
+values-requires c κs = search needs
+
+array-borrow-prefix-out : tie.Need-array-borrow-prefix-out
+array-borrow-prefix-out c = search needs
 
 slice-aggregate-index-table : tie.Need-slice-aggregate-index-table
 slice-aggregate-index-table c = sym (length-take-le _ _ (omega arith))
 
 index-table-requires : tie.Need-index-table-requires
 index-table-requires c κs = search needs
-
-same-length : tie.Need-same-length
-same-length c = search needs
 
 returns : tie.Need-returns
 returns c = search needs
@@ -32,8 +33,8 @@ to-table-spec =
     tie.close
     (tie.spec
     room-requires
-    slice-relend-prefix-index-table
+    values-requires
+    array-borrow-prefix-out
     slice-aggregate-index-table
     index-table-requires
-    same-length
     returns)
