@@ -1,14 +1,15 @@
 -- Document 01, "Block bytes (001)": a whole block, written and read.
-use mathlib.Core.Bool.{Bool, true, false, cond, not, _&&_}
+use mathlib.Core.Bool.{not, _&&_}
 use mathlib.Core.List.{List, [], _∷_, _++_}
-use Prim.Native.Nat.{ℕ, zero, suc, _+_}
-use lib.ListN.{length, take, drop}
-use lib.Dec.{leb, ltb, eqb}
-use Rattle.rules.specs.Lists.{total}
+use Prim.Native.Nat.{ℕ, _+_}
+use lib.ListN.{length, take}
+use lib.Dec.{leb, ltb}
+use Rattle.rules.specs.Lists.{fitted, total}
 use Rattle.rules.specs.Digits.{leBytes}
-use Rattle.rules.specs.Answer.{refused, Read, found, refuse, _then_}
-use Rattle.rules.specs.Operations.{Op, hasImmediate}
-use Rattle.rules.specs.Record.{Record, Block, codesNumber, recordBy}
+use Rattle.rules.specs.Answer.{Read, found, refuse, refuseFirst, _then_}
+use Rattle.rules.specs.Operations.{Op}
+use Rattle.rules.specs.Record.{Record, Block, startsFrom, cut, immediates, codesNumber}
+use Rattle.rules.specs.Checks.{orElse, placingFault, paddingRight}
 use Rattle.rules.specs.Bytes.{countAt, countBytes, opsAt, opsBytes, batchCountAt, nibblesAt, nibbleBytes, flagsAt, flagBytes}
 
 -- ---- writing: the five items, one after the other
@@ -20,59 +21,37 @@ blockBytes t b =
     (leBytes 4 (length (b .records)) ++
     (nibbleBytes (b .records) ++ flagBytes (b .records))))
 
--- ---- "Decoding a batch"
+-- ---- "Decoding a batch", of groups cut out of the operations
 
--- n operations from a place on
-abbrev pub part : ℕ → List Op → ℕ → List Op
-part n xs at = take n (drop at xs)
+-- "for each non-empty group in order .. its immediates go to the slots right after it": the first fault of placing
+unfoldable pub placingsFault : List ℕ → List (List Op) → ℕ
+placingsFault t [] = 0
+placingsFault t (g ∷ gs) = orElse (placingFault (length (immediates t g)) gs) (placingsFault t gs)
 
--- the operations of groups of these sizes, from a place on
-unfoldable pub cut : List ℕ → List Op → ℕ → List (List Op)
-cut [] xs at = []
-cut (n ∷ ns) xs at = part n xs at ∷ cut ns xs (at + n)
+-- "its number is worked out as above and its immediates go to the slots right after it"; "Other group numbers are 0": where the immediates `due` of the
+-- group before still want a slot
+unfoldable pub numbersFrom : List ℕ → List ℕ → List (List Op) → List ℕ
+numbersFrom t due [] = []
+numbersFrom t [] ([] ∷ gs) = 0 ∷ numbersFrom t [] gs
+numbersFrom t (v ∷ due) ([] ∷ gs) = v ∷ numbersFrom t due gs
+numbersFrom t due ((x ∷ xs) ∷ gs) = codesNumber (x ∷ xs) ∷ numbersFrom t (immediates t (x ∷ xs)) gs
 
--- the values of the operations with an immediate, in order
-unfoldable pub immediates : List ℕ → List Op → List ℕ
-immediates t [] = []
-immediates t (x ∷ xs) = cond (hasImmediate t x) (x .value ∷ immediates t xs) (immediates t xs)
+-- "The count is the last non-empty group's index (0 to 7), plus 1, plus how many immediates it placed; if all nibbles are 0 the count is 0": where the
+-- first group here is the i-th, and n is the count that the groups before it give
+unfoldable pub countFrom : List ℕ → ℕ → ℕ → List (List Op) → ℕ
+countFrom t i n [] = n
+countFrom t i n ([] ∷ gs) = countFrom t (i + 1) n gs
+countFrom t i n ((x ∷ xs) ∷ gs) = countFrom t (i + 1) (i + 1 + length (immediates t (x ∷ xs))) gs
 
--- an empty group counts only where one that is not stands after it
-unfoldable pub emptyBefore : List ℕ → List ℕ
-emptyBefore [] = []
-emptyBefore (v ∷ vs) = 0 ∷ v ∷ vs
-
--- The numbers of the groups of these sizes, where the immediates `due` still want a slot; the operations start at a place.
--- "for each non-empty group in order, its number is worked out as above and its immediates go to the slots right after it, each of which must be an
--- empty group under 8": 8 where there is no slot under the width, 9 where it is an operation group, for the b-th batch.
--- "The count is the last non-empty group's index, plus 1, plus how many immediates it placed; if all nibbles are 0 the count is 0. Other group
--- numbers are 0": the count is how many numbers there are.
-unfoldable pub slots : List ℕ → ℕ → List ℕ → List ℕ → List Op → ℕ → Read (List ℕ)
-slots t b [] [] xs at = found [] at
-slots t b [] (v ∷ due) xs at = refused 8 b
-slots t b (zero ∷ ns) [] xs at = slots t b ns [] xs at then λ vs end. found (emptyBefore vs) end
-slots t b (zero ∷ ns) (v ∷ due) xs at = slots t b ns due xs at then λ vs end. found (v ∷ vs) end
-slots t b (suc n ∷ ns) [] xs at =
-    slots t b ns (immediates t (part (suc n) xs at)) xs (at + suc n) then λ vs end. found (codesNumber (part (suc n) xs at) ∷ vs) end
-slots t b (suc n ∷ ns) (v ∷ due) xs at = refused 9 b
-
--- "a flagged group under the count is non-empty and ends in opcode 0, and no flag is set from the count on", for the groups under the count
-unfoldable pub endsInNoop : List Op → Bool
-endsInNoop [] = false
-endsInNoop (x ∷ []) = eqb (x .code) 0
-endsInNoop (x ∷ y ∷ xs) = endsInNoop (y ∷ xs)
-
-unfoldable pub paddingRight : List (List Op) → List ℕ → Bool
-paddingRight gs [] = true
-paddingRight [] (f ∷ fs) = eqb f 0 && paddingRight [] fs
-paddingRight (g ∷ gs) (f ∷ fs) = cond (eqb f 0) true (endsInNoop g) && paddingRight gs fs
-
--- the b-th batch, of these sizes and flags, in the operations from a place on: "7, 8 or 9, 10"
+-- the b-th batch, of these sizes and flags, in the operations from a place on: "7, 8 or 9, 10". Its groups are those under the width.
 unfoldable pub batchAt : ℕ → List ℕ → List Op → ℕ → ℕ → List ℕ → List ℕ → Read Record
 batchAt w t xs at b ns fs =
+    let gs = cut (take w ns) xs at in
+    let n = countFrom t 0 0 gs in
     refuse (ltb (length xs) (at + total ns)) 7 b
-    (slots t b (take w ns) [] xs at then λ vs end.
-    refuse (not (paddingRight (take (length vs) (cut ns xs at)) fs)) 10 b
-    (found (recordBy ns fs vs) end))
+    (refuseFirst b (placingsFault t gs ∷ [])
+    (refuse (not (paddingRight (take n gs) fs)) 10 b
+    (found (record { starts = startsFrom 0 ns; flags = fs; numbers = fitted 8 (numbersFrom t [] gs); count = n }) (at + total ns))))
 
 unfoldable pub batchesAt : ℕ → List ℕ → List Op → ℕ → ℕ → List (List ℕ) → List (List ℕ) → Read (List Record)
 batchesAt w t xs at b [] fss = found [] at

@@ -37,6 +37,7 @@ countAt s at = refuse (leb (length s) at) 2 at (countBy (trailingZeros 8 (getD s
 unfoldable pub more : ℕ → ℕ
 more v = cond (ltb v 128) 0 (cond (ltb v 16384) 1 2)
 
+-- v above a 1 bit above as many zero bits: shifted right past these, it is v again
 unfoldable pub countBytes : ℕ → List ℕ
 countBytes v = leBytes (more v + 1) ((2 * v + 1) * 2 ^ more v)
 

@@ -6,8 +6,7 @@ use lib.ListN.{length, getD, take}
 use lib.Dec.{leb, eqb}
 use Rattle.rules.specs.Lists.{total, every}
 use Rattle.rules.specs.Operations.{Op}
-use Rattle.rules.specs.Record.{Record, Block, differences, codesNumber}
-use Rattle.rules.specs.Block.{cut, immediates, paddingRight}
+use Rattle.rules.specs.Record.{Record, Block, differences, cut, immediates, codesNumber}
 
 -- ---- structure
 
@@ -53,7 +52,17 @@ held b = heldFrom (b .records) (b .ops) 0
 abbrev pub underCount : Held → List (List Op)
 underCount h = take (h .batch .count) (h .groups)
 
--- "a flagged group under the count is non-empty and ends in opcode 0, and no flag is set from the count on"
+unfoldable pub endsInNoop : List Op → Bool
+endsInNoop [] = false
+endsInNoop (x ∷ []) = eqb (x .code) 0
+endsInNoop (x ∷ y ∷ xs) = endsInNoop (y ∷ xs)
+
+-- "a flagged group under the count is non-empty and ends in opcode 0, and no flag is set from the count on", for the groups under the count
+unfoldable pub paddingRight : List (List Op) → List ℕ → Bool
+paddingRight gs [] = true
+paddingRight [] (f ∷ fs) = eqb f 0 && paddingRight [] fs
+paddingRight (g ∷ gs) (f ∷ fs) = cond (eqb f 0) true (endsInNoop g) && paddingRight gs fs
+
 unfoldable pub paddingFault : Held → ℕ
 paddingFault h = cond (paddingRight (underCount h) (h .batch .flags)) 0 10
 
@@ -93,7 +102,8 @@ groupsFault t ((x ∷ xs) ∷ gs) (n ∷ ns) =
     (orElse (cond (begins ns vs) 0 16)
     (groupsFault t gs ns)))
 
--- "every empty group under the count without an immediate is 0", where the first k groups hold immediates
+-- "every empty group under the count without an immediate is 0": the next k empty groups hold the immediates of the group before them, and a group with
+-- operations says how many of those after it hold its own
 unfoldable pub emptyZero : List ℕ → ℕ → List (List Op) → List ℕ → Bool
 emptyZero t k [] ns = true
 emptyZero t k (g ∷ gs) [] = true

@@ -29,7 +29,7 @@ arena cs vs rs = record { codes = cs; values = vs; records = rs }
 unfoldable pub blockIn : Arena → Block
 blockIn a = record { ops = operations (a .codes) (a .values); records = recordsIn (a .records) }
 
--- "65,535 padded operations and 16,384 batches in a block"; lists of equal length; records whole
+-- what is not refused with 3: lists of equal length, at most 65,535 operations, whole records, at most 16,384 of them
 unfoldable pub within : Arena → Bool
 within a =
     eqb (length (a .codes)) (length (a .values)) &&

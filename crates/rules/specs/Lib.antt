@@ -5,8 +5,8 @@ pub mod Operations
 pub mod Batching
 pub mod Record
 pub mod Bytes
-pub mod Block
 pub mod Checks
+pub mod Block
 pub mod Lookups
 pub mod Functions
 pub mod Open

@@ -68,14 +68,21 @@ paddedTable b = paddedEntries 0 (marks (b .records))
 
 -- ---- index lookups
 
+-- "A raw index and a padded index are different kinds of number and must not be mixed."
+pub data Raw : Type 0 where
+  raw : ℕ → Raw
+
+pub data Padded : Type 0 where
+  padded : ℕ → Padded
+
 -- the largest index
 abbrev pub largest : ℕ
 largest = 18446744073709551615
 
 -- "Padded index = raw index + entry"; "An index past the last entry gives none; so does .. a sum over the largest index"
-unfoldable pub paddedIndex : List ℕ → ℕ → Option ℕ
-paddedIndex table i = cond (ltb i (length table) && leb (i + getD table i 0) largest) (some (i + getD table i 0)) none
+unfoldable pub paddedIndex : List ℕ → Raw → Option Padded
+paddedIndex table (raw i) = cond (ltb i (length table) && leb (i + getD table i 0) largest) (some (padded (i + getD table i 0))) none
 
 -- "raw index = padded index - entry"; "An index past the last entry gives none; so does an entry greater than the padded index"
-unfoldable pub rawIndex : List ℕ → ℕ → Option ℕ
-rawIndex table i = cond (ltb i (length table) && leb (getD table i 0) i) (some (i - getD table i 0)) none
+unfoldable pub rawIndex : List ℕ → Padded → Option Raw
+rawIndex table (padded i) = cond (ltb i (length table) && leb (getD table i 0) i) (some (raw (i - getD table i 0))) none

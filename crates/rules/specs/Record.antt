@@ -2,10 +2,10 @@
 use mathlib.Core.Bool.{cond}
 use mathlib.Core.List.{List, [], _∷_, _++_, map}
 use Prim.Native.Nat.{ℕ, zero, suc, _+_, _-_, _*_, _/_}
-use lib.ListN.{length, getD}
+use lib.ListN.{length, getD, take, drop}
 use Rattle.rules.specs.Lists.{fitted}
 use Rattle.rules.specs.Digits.{number, leBytes, leAt}
-use Rattle.rules.specs.Operations.{Op, codes}
+use Rattle.rules.specs.Operations.{Op, codes, hasImmediate}
 use Rattle.rules.specs.Batching.{Group, ops, imm}
 
 -- "A batch records nine starts, eight padding flags, eight group numbers and a group count."
@@ -25,6 +25,20 @@ unfoldable pub differences : List ℕ → List ℕ
 differences [] = []
 differences (a ∷ []) = []
 differences (a ∷ b ∷ s) = (b - a) ∷ differences (b ∷ s)
+
+-- n operations from a place on
+abbrev pub part : ℕ → List Op → ℕ → List Op
+part n xs at = take n (drop at xs)
+
+-- the operations of groups of these sizes, from a place on
+unfoldable pub cut : List ℕ → List Op → ℕ → List (List Op)
+cut [] xs at = []
+cut (n ∷ ns) xs at = part n xs at ∷ cut ns xs (at + n)
+
+-- the values of the operations with an immediate, in order
+unfoldable pub immediates : List ℕ → List Op → List ℕ
+immediates t [] = []
+immediates t (x ∷ xs) = cond (hasImmediate t x) (x .value ∷ immediates t xs) (immediates t xs)
 
 -- a record by its eight sizes, its eight flags and the numbers of the groups under the count:
 -- "Group numbers and flags from the count on are zero; starts after the count repeat the batch's operation total."
