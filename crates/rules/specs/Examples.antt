@@ -11,7 +11,7 @@ use Rattle.rules.specs.Operations.{Op, codes, values, kindOf, admissible
 use Rattle.rules.specs.Record.{Record, Block, recordsBytes}
 use Rattle.rules.specs.Bytes.{countAt, countBytes}
 use Rattle.rules.specs.Block.{Room}
-use Rattle.rules.specs.Lookups.{Place, nextGroup, paddedIndex, rawIndex}
+use Rattle.rules.specs.Lookups.{Place, nextGroup, raw, padded, paddedIndex, rawIndex}
 use Rattle.rules.specs.Functions.{Arena, arena, roomIn, filled, built, blockLeft, encoded, written, decoded, readLeft, structureChecked, paddingChecked, commitmentChecked, rawTabled, paddedTabled, tableLeft, groupLookup, nextLookup}
 use Rattle.rules.specs.Open.{document}
 
@@ -408,10 +408,10 @@ pub record OfLookups : Type 0 where
   pub padded-short : paddedTabled 8 (lent p7more) 10 ≡ refused 13 0
   pub no-room : (rawTabled 8 (lent (block [] [])) 0 ≡ refused 13 0) × (paddedTabled 8 (lent (block [] [])) 0 ≡ refused 13 0)
   -- index lookups: every entry, one past the last, no entries, an entry greater than the index, a sum at the largest index and over it
-  pub to-padded : (paddedIndex (0 ∷ 1 ∷ []) 0 ≡ some 0) × (paddedIndex (0 ∷ 1 ∷ []) 1 ≡ some 2) × (paddedIndex (0 ∷ 1 ∷ []) 2 ≡ none) × (paddedIndex [] 0 ≡ none)
-  pub to-raw : (rawIndex (0 ∷ 0 ∷ 1 ∷ []) 1 ≡ some 1) × (rawIndex (0 ∷ 0 ∷ 1 ∷ []) 2 ≡ some 1) × (rawIndex (0 ∷ 0 ∷ 1 ∷ []) 3 ≡ none) × (rawIndex [] 0 ≡ none)
-  pub entry-greater : (rawIndex (0 ∷ 1 ∷ []) 1 ≡ some 0) × (rawIndex (0 ∷ 2 ∷ []) 1 ≡ none) × (rawIndex (1 ∷ []) 0 ≡ none)
-  pub sum-largest : (paddedIndex (0 ∷ 18446744073709551614 ∷ []) 1 ≡ some 18446744073709551615) × (paddedIndex (0 ∷ 18446744073709551615 ∷ []) 1 ≡ none)
+  pub to-padded : (paddedIndex (0 ∷ 1 ∷ []) (raw 0) ≡ some (padded 0)) × (paddedIndex (0 ∷ 1 ∷ []) (raw 1) ≡ some (padded 2)) × (paddedIndex (0 ∷ 1 ∷ []) (raw 2) ≡ none) × (paddedIndex [] (raw 0) ≡ none)
+  pub to-raw : (rawIndex (0 ∷ 0 ∷ 1 ∷ []) (padded 1) ≡ some (raw 1)) × (rawIndex (0 ∷ 0 ∷ 1 ∷ []) (padded 2) ≡ some (raw 1)) × (rawIndex (0 ∷ 0 ∷ 1 ∷ []) (padded 3) ≡ none) × (rawIndex [] (padded 0) ≡ none)
+  pub entry-greater : (rawIndex (0 ∷ 1 ∷ []) (padded 1) ≡ some (raw 0)) × (rawIndex (0 ∷ 2 ∷ []) (padded 1) ≡ none) × (rawIndex (1 ∷ []) (padded 0) ≡ none)
+  pub sum-largest : (paddedIndex (0 ∷ 18446744073709551614 ∷ []) (raw 1) ≡ some (padded 18446744073709551615)) × (paddedIndex (0 ∷ 18446744073709551615 ∷ []) (raw 1) ≡ none)
 
 -- ---- "Numbers of refusal": what each function gives by itself, and the orders: each input has the fault named and the next one of the order
 
