@@ -8,11 +8,12 @@ use Prim.Native.Nat.{ℕ, _+_, _*_}
 use lib.ListN.{length, replicate}
 use Rattle.rules.specs.Answer.{Answer, good, refused, Read, found}
 use Rattle.rules.specs.Operations.{Op, codes, values, kindOf, admissible}
+use Rattle.rules.specs.Batching.{target}
 use Rattle.rules.specs.Record.{Record, Block, recordsBytes}
 use Rattle.rules.specs.Bytes.{countAt, countBytes}
 use Rattle.rules.specs.Block.{Room}
 use Rattle.rules.specs.Lookups.{Place, nextGroup, raw, padded, paddedIndex, rawIndex}
-use Rattle.rules.specs.Functions.{Arena, arena, roomIn, filled, built, blockLeft, encoded, written, decoded, readLeft, structureChecked, paddingChecked, commitmentChecked, rawTabled, paddedTabled, tableLeft, groupLookup, nextLookup}
+use Rattle.rules.specs.Functions.{Arena, arena, blockIn, roomIn, filled, built, blockLeft, encoded, written, decoded, readLeft, structureChecked, paddingChecked, commitmentChecked, rawTabled, paddedTabled, tableLeft, groupLookup, nextLookup}
 use Rattle.rules.specs.Open.{document}
 
 -- "Table T: opcodes 0 and 2 kind 0, opcode 1 kind 1, opcode 3 kind 2, the rest 3."
@@ -152,11 +153,13 @@ pub record OfOperations : Type 0 where
   -- "Limits": 16,384 operations in a list to batch, as many values
   pub list-16385 : (cs vs : List ℕ) → length cs ≡ 16385 → length vs ≡ 16385 → built 8 tableT cs vs ample ≡ refused 3 0
   pub list-16384 : (cs vs : List ℕ) → length cs ≡ 16384 → length vs ≡ 16384 → built 8 [] cs vs ample ≡ refused 14 0
-  pub values-short : built 8 tableT (2 ∷ 2 ∷ []) (0 ∷ []) ample ≡ refused 3 0
-  pub values-long : built 8 tableT (2 ∷ []) (0 ∷ 0 ∷ []) ample ≡ refused 3 0
-  -- 65,535 padded operations, 16,384 batches, records whole
+  pub fewer-values : built 8 tableT (2 ∷ 2 ∷ []) (0 ∷ []) ample ≡ refused 3 0
+  pub more-values : built 8 tableT (2 ∷ []) (0 ∷ 0 ∷ []) ample ≡ refused 3 0
+  -- 65,535 padded operations and as many values, 16,384 batches, records whole
   pub block-65536 : (cs vs : List ℕ) → length cs ≡ 65536 → length vs ≡ 65536 → structureChecked 8 (arena cs vs []) ≡ refused 3 0
   pub batches-16385 : (rs : List ℕ) → length rs ≡ 1343570 → structureChecked 8 (arena [] [] rs) ≡ refused 3 0
+  pub block-fewer : structureChecked 8 (arena (2 ∷ []) [] (recordsBytes (single ∷ []))) ≡ refused 3 0
+  pub block-more : structureChecked 8 (arena (2 ∷ []) (0 ∷ 0 ∷ []) (recordsBytes (single ∷ []))) ≡ refused 3 0
   pub block-full : (cs vs rs : List ℕ) → length cs ≡ 65535 → length vs ≡ 65535 → length rs ≡ 1343488 → commitmentChecked 8 [] (arena cs vs rs) ≡ refused 14 0
   pub record-81 : structureChecked 8 (arena [] [] (zeros 81)) ≡ refused 3 0
   pub record-83 : structureChecked 8 (arena [] [] (zeros 83)) ≡ refused 3 0
@@ -172,6 +175,7 @@ pub record OfOperations : Type 0 where
 
 pub record OfBatching : Type 0 where
   -- "close and open until next free is a power of two": the group counts of plain operations
+  pub targets : map target (1 ∷ 2 ∷ 3 ∷ 4 ∷ 5 ∷ 6 ∷ 7 ∷ 8 ∷ []) ≡ 1 ∷ 2 ∷ 4 ∷ 4 ∷ 8 ∷ 8 ∷ 8 ∷ 8 ∷ []
   pub plain-1 : counts (build (twos 1)) ≡ 1 ∷ []
   pub plain-10 : counts (build (twos 10)) ≡ 2 ∷ []
   pub plain-18 : counts (build (twos 18)) ≡ 2 ∷ []
@@ -326,6 +330,7 @@ pub record OfChecks : Type 0 where
   pub padding-later : padding (block (twos 2) (single ∷ flagged (1 ∷ zeros 7) ∷ [])) ≡ refused 10 1
   -- commitment
   pub number-wrong : commitment (block (twos 1) (numbered (3 ∷ zeros 7) 1 ∷ [])) ≡ refused 16 0
+  pub number-less : commitment (block (twos 1) (numbered (1 ∷ zeros 7) 1 ∷ [])) ≡ refused 16 0
   pub number-later : commitment (block (twos 2) (single ∷ numbered (3 ∷ zeros 7) 1 ∷ [])) ≡ refused 16 1
   pub second-number : commitment (block (twos 2) (is (0 ∷ 1 ∷ replicate 7 2) (zeros 8) (2 ∷ 3 ∷ zeros 6) 2 ∷ [])) ≡ refused 16 0
   pub slot-at-count : commitment (block (pushes 1) (numbered (1 ∷ 5 ∷ zeros 6) 1 ∷ [])) ≡ refused 8 0
@@ -334,8 +339,10 @@ pub record OfChecks : Type 0 where
   pub slot-taken : commitment (block (op 1 5 ∷ op 2 0 ∷ []) (is (0 ∷ 1 ∷ replicate 7 2) (zeros 8) (1 ∷ 2 ∷ zeros 6) 2 ∷ [])) ≡ refused 9 0
   pub slot-taken-later : commitment (block (op 2 0 ∷ op 1 5 ∷ op 2 0 ∷ []) (single ∷ is (0 ∷ 1 ∷ replicate 7 2) (zeros 8) (1 ∷ 2 ∷ zeros 6) 2 ∷ [])) ≡ refused 9 1
   pub values-right : commitment (block (op 1 5 ∷ op 1 6 ∷ []) (is (0 ∷ replicate 8 2) (zeros 8) (129 ∷ 5 ∷ 6 ∷ zeros 5) 3 ∷ [])) ≡ good tt
+  pub value-top : commitment (block (op 1 18446744069414584320 ∷ []) (numbered (1 ∷ 18446744069414584320 ∷ zeros 6) 2 ∷ [])) ≡ good tt
   pub second-value : commitment (block (op 1 5 ∷ op 1 6 ∷ []) (is (0 ∷ replicate 8 2) (zeros 8) (129 ∷ 5 ∷ 7 ∷ zeros 5) 3 ∷ [])) ≡ refused 16 0
   pub value-later : commitment (block (op 2 0 ∷ op 1 6 ∷ []) (single ∷ numbered (1 ∷ 5 ∷ zeros 6) 2 ∷ [])) ≡ refused 16 1
+  pub empty-0 : commitment (block (twos 1) (numbered (2 ∷ zeros 7) 2 ∷ [])) ≡ good tt
   pub empty-not-0 : commitment (block (twos 1) (numbered (2 ∷ 7 ∷ zeros 6) 2 ∷ [])) ≡ refused 16 0
   pub empty-first-not-0 : commitment (block (twos 1) (is (0 ∷ 0 ∷ replicate 7 1) (zeros 8) (7 ∷ 2 ∷ zeros 6) 2 ∷ [])) ≡ refused 16 0
   pub empty-after-slot : commitment (block (pushes 1) (numbered (1 ∷ 5 ∷ 7 ∷ zeros 5) 3 ∷ [])) ≡ refused 16 0
@@ -486,6 +493,7 @@ pub record OfOutputs : Type 0 where
   pub record-bytes :
       recordsBytes (is (0 ∷ 1 ∷ 2 ∷ 3 ∷ 4 ∷ 5 ∷ 6 ∷ 7 ∷ 8 ∷ []) (1 ∷ 0 ∷ 1 ∷ 1 ∷ 0 ∷ 0 ∷ 0 ∷ 1 ∷ []) (258 ∷ 3 ∷ 4 ∷ 5 ∷ 6 ∷ 7 ∷ 8 ∷ 72623859790382856 ∷ []) 8 ∷ [])
       ≡ (0 ∷ 1 ∷ 2 ∷ 3 ∷ 4 ∷ 5 ∷ 6 ∷ 7 ∷ 8 ∷ 1 ∷ 0 ∷ 1 ∷ 1 ∷ 0 ∷ 0 ∷ 0 ∷ 1 ∷ 2 ∷ 1 ∷ zeros 6) ++ ((3 ∷ zeros 7) ++ ((4 ∷ zeros 7) ++ ((5 ∷ zeros 7) ++ ((6 ∷ zeros 7) ++ ((7 ∷ zeros 7) ++ ((8 ∷ zeros 7) ++ (8 ∷ 7 ∷ 6 ∷ 5 ∷ 4 ∷ 3 ∷ 2 ∷ 1 ∷ 8 ∷ [])))))))
+  pub block-in : blockIn (lent p7more) ≡ p7more
   -- room: only whole records count
   pub room-in : roomIn (arena (zeros 3) (zeros 2) (zeros 163)) ≡ room 3 2 1
   pub room-for-two : roomIn (arena [] [] (zeros 164)) ≡ room 0 0 2
@@ -581,10 +589,12 @@ numbers =
         field-2 = refl;
         list-16385 = λ cs vs h k. rw (h, k);
         list-16384 = λ cs vs h k. rw (h, k);
-        values-short = refl;
-        values-long = refl;
+        fewer-values = refl;
+        more-values = refl;
         block-65536 = λ cs vs h k. rw (h, k);
         batches-16385 = λ rs h. rw h;
+        block-fewer = refl;
+        block-more = refl;
         block-full = λ cs vs rs h k l. rw (h, k, l);
         record-81 = refl;
         record-83 = refl;
@@ -596,6 +606,7 @@ numbers =
         buffer-1048576 = refl;
       };
       batching = record {
+        targets = refl;
         plain-1 = refl;
         plain-10 = refl;
         plain-18 = refl;
@@ -722,6 +733,7 @@ numbers =
         flag-last = refl;
         padding-later = refl;
         number-wrong = refl;
+        number-less = refl;
         number-later = refl;
         second-number = refl;
         slot-at-count = refl;
@@ -730,8 +742,10 @@ numbers =
         slot-taken = refl;
         slot-taken-later = refl;
         values-right = refl;
+        value-top = refl;
         second-value = refl;
         value-later = refl;
+        empty-0 = refl;
         empty-not-0 = refl;
         empty-first-not-0 = refl;
         empty-after-slot = refl;
@@ -840,6 +854,7 @@ numbers =
       };
       outputs = record {
         record-bytes = refl;
+        block-in = refl;
         room-in = refl;
         room-for-two = refl;
         room-for-none = refl;
