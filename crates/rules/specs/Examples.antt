@@ -271,6 +271,7 @@ pub record OfReading : Type 0 where
   pub slot-taken : read (laid 2 (push ++ (2 ∷ [])) 1 (low 0x11) (0 ∷ [])) 0 ≡ refused 9 0
   pub slot-taken-later : read (laid 3 (2 ∷ (push ++ (2 ∷ []))) 2 (low 1 ++ low 0x11) (0 ∷ 0 ∷ [])) 0 ≡ refused 9 1
   pub slot-taken-first : read (laid 4 (push ++ (push ++ (push ++ (2 ∷ [])))) 1 (high 0x13) (0 ∷ [])) 0 ≡ refused 9 0
+  pub first-group-first : read (laid 3 (push ++ (2 ∷ push)) 1 (0x11 ∷ 0 ∷ 0 ∷ 0x10 ∷ []) (0 ∷ [])) 0 ≡ refused 9 0
   pub no-noop-flagged : read (laid 1 (2 ∷ []) 1 (low 1) (1 ∷ [])) 0 ≡ refused 10 0
   pub noop-before-end : read (laid 2 (0 ∷ 2 ∷ []) 1 (low 2) (1 ∷ [])) 0 ≡ refused 10 0
   pub empty-flagged : read (laid 1 (2 ∷ []) 1 (low 0x10) (1 ∷ [])) 0 ≡ refused 10 0
@@ -682,6 +683,7 @@ numbers =
         slot-taken = refl;
         slot-taken-later = refl;
         slot-taken-first = refl;
+        first-group-first = refl;
         no-noop-flagged = refl;
         noop-before-end = refl;
         empty-flagged = refl;
