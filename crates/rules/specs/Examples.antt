@@ -6,6 +6,7 @@ use mathlib.Core.List.{List, [], _∷_, _++_, map}
 use mathlib.Core.Option.{Option, none, some}
 use Prim.Native.Nat.{ℕ, _+_, _*_}
 use lib.ListN.{length, replicate}
+use Rattle.rules.specs.Lists.{butLast}
 use Rattle.rules.specs.Answer.{Answer, good, refused, Read, found}
 use Rattle.rules.specs.Operations.{Op, codes, values, kindOf, admissible}
 use Rattle.rules.specs.Batching.{target}
@@ -199,6 +200,8 @@ pub record OfBatching : Type 0 where
       build (twos 7 ++ pushes 2)
       ≡ good (block (twos 7 ++ (op 1 5 ∷ op 0 0 ∷ op 1 5 ∷ op 0 0 ∷ [])) (is (0 ∷ 9 ∷ 9 ∷ replicate 6 11) (1 ∷ 0 ∷ 1 ∷ zeros 5) (571815307018498 ∷ 5 ∷ 1 ∷ 5 ∷ zeros 4) 4 ∷ []))
   pub no-noop : build (op 1 5 ∷ op 1 6 ∷ op 2 0 ∷ []) ≡ good (block (op 1 5 ∷ op 1 6 ∷ op 2 0 ∷ op 0 0 ∷ []) (is (0 ∷ 3 ∷ 3 ∷ 3 ∷ replicate 5 4) (0 ∷ 0 ∷ 0 ∷ 1 ∷ zeros 4) (32897 ∷ 5 ∷ 6 ∷ zeros 5) 4 ∷ []))
+  -- all but the last of a list
+  pub but-last : (butLast (op 1 5 ∷ op 2 0 ∷ op 0 0 ∷ []) ≡ op 1 5 ∷ op 2 0 ∷ []) × (butLast (twos 1) ≡ [])
   -- "Errors the rules must catch": a kind 2 value in a group, a caller's own Noop dropped
   pub kind-two : build (op 3 7 ∷ []) ≡ good (block (op 3 7 ∷ []) (numbered (3 ∷ zeros 7) 1 ∷ []))
   pub own-noop : build (op 2 0 ∷ op 0 0 ∷ []) ≡ good (block (op 2 0 ∷ op 0 0 ∷ []) (is (0 ∷ replicate 8 2) (zeros 8) (2 ∷ zeros 7) 1 ∷ []))
@@ -217,7 +220,8 @@ pub record OfBytes : Type 0 where
   pub count-65535 : (countBytes 65535 ≡ 0xfc ∷ 0xff ∷ 0x07 ∷ []) × (countAt (0xfc ∷ 0xff ∷ 0x07 ∷ []) 0 ≡ found 65535 3)
   pub count-65536 : countAt (0x04 ∷ 0x00 ∷ 0x08 ∷ []) 0 ≡ refused 3 0
   -- an operation: 2 has the place of its opcode, 4 its number, and an unassigned opcode goes before a missing value
-  pub op-missing : read (5 ∷ 2 ∷ []) 0 ≡ refused 2 2
+  pub op-missing : read (3 ∷ []) 0 ≡ refused 2 1
+  pub op-missing-later : read (5 ∷ 2 ∷ []) 0 ≡ refused 2 2
   pub value-cut : read (3 ∷ 1 ∷ 5 ∷ zeros 6) 0 ≡ refused 2 1
   pub value-cut-later : read (5 ∷ 2 ∷ 3 ∷ 5 ∷ []) 0 ≡ refused 2 2
   pub value-whole : read (3 ∷ 1 ∷ 5 ∷ zeros 7) 0 ≡ refused 2 10
@@ -255,21 +259,23 @@ pub record OfBytes : Type 0 where
 pub record OfReading : Type 0 where
   -- the numbers and the count
   pub empty-group : read (bare 2 (0x01 ∷ 0x01 ∷ 0 ∷ 0 ∷ [])) 0 ≡ found (block (twos 2) (is (0 ∷ 1 ∷ 1 ∷ replicate 6 2) (zeros 8) (2 ∷ 0 ∷ 2 ∷ zeros 5) 3 ∷ [])) 12
+  pub groups-after : read (bare 3 (0x01 ∷ 0x11 ∷ 0 ∷ 0 ∷ [])) 0 ≡ found (block (twos 3) (is (0 ∷ 1 ∷ 1 ∷ 2 ∷ replicate 5 3) (zeros 8) (2 ∷ 0 ∷ 2 ∷ 2 ∷ zeros 4) 4 ∷ [])) 13
   pub empty-first : read (bare 1 (low 0x10)) 0 ≡ found (block (twos 1) (is (0 ∷ 0 ∷ replicate 7 1) (zeros 8) (0 ∷ 2 ∷ zeros 6) 2 ∷ [])) 11
   pub slot-after : read (laid 2 (2 ∷ push) 1 (low 0x11) (0 ∷ [])) 0 ≡ found (block (op 2 0 ∷ op 1 5 ∷ []) (is (0 ∷ 1 ∷ replicate 7 2) (zeros 8) (2 ∷ 1 ∷ 5 ∷ zeros 5) 3 ∷ [])) 20
   pub slot-then-empty : read (laid 2 (push ++ (2 ∷ [])) 1 (0x01 ∷ 0x10 ∷ 0 ∷ 0 ∷ []) (0 ∷ [])) 0 ≡ found (block (op 1 5 ∷ op 2 0 ∷ []) (is (0 ∷ 1 ∷ 1 ∷ 1 ∷ replicate 5 2) (zeros 8) (1 ∷ 5 ∷ 0 ∷ 2 ∷ zeros 4) 4 ∷ [])) 20
+  pub two-slots : read (laid 2 (push ++ push) 1 (0x01 ∷ 0x01 ∷ 0 ∷ 0 ∷ []) (0 ∷ [])) 0 ≡ found (block (pushes 2) (is (0 ∷ 1 ∷ 1 ∷ replicate 6 2) (zeros 8) (1 ∷ 5 ∷ 1 ∷ 5 ∷ zeros 4) 4 ∷ [])) 28
   pub slot-seven : read (laid 1 push 1 (high 0x01) (0 ∷ [])) 0 ≡ found (block (op 1 5 ∷ []) (is (zeros 7 ++ (1 ∷ 1 ∷ [])) (zeros 8) (zeros 6 ++ (1 ∷ 5 ∷ [])) 8 ∷ [])) 19
   pub kind-2-read : read (laid 2 (3 ∷ 2 ∷ 1 ∷ (zeros 6 ++ (2 ∷ []))) 1 (low 2) (0 ∷ [])) 0 ≡ found (block (op 3 258 ∷ op 2 0 ∷ []) (is (0 ∷ replicate 8 2) (zeros 8) (259 ∷ zeros 7) 1 ∷ [])) 20
   pub empty-between : read (laid 2 (2 ∷ 2 ∷ []) 3 (low 1 ++ (low 0 ++ low 1)) (0 ∷ 0 ∷ 0 ∷ [])) 0 ≡ found (block (twos 2) (single ∷ nothing ∷ single ∷ [])) 22
   -- 7, 8, 9, 10 and 11, in the first batch and in a later one
   pub runs-past : read (bare 1 (low 2)) 0 ≡ refused 7 0
   pub runs-past-by-two : read (bare 1 (low 0x11)) 0 ≡ refused 7 0
-  pub runs-past-later : read (laid 2 (2 ∷ 2 ∷ []) 2 (low 1 ++ low 2) (0 ∷ 0 ∷ [])) 0 ≡ refused 7 1
+  pub runs-past-later : read (laid 3 (2 ∷ 2 ∷ 2 ∷ []) 2 (low 2 ++ low 2) (0 ∷ 0 ∷ [])) 0 ≡ refused 7 1
   pub slot-eight : read (laid 1 push 1 (high 0x10) (0 ∷ [])) 0 ≡ refused 8 0
-  pub slot-eight-later : read (laid 2 (2 ∷ push) 2 (low 1 ++ high 0x10) (0 ∷ 0 ∷ [])) 0 ≡ refused 8 1
+  pub slot-eight-later : read (laid 3 (2 ∷ 2 ∷ push) 2 (low 2 ++ high 0x10) (0 ∷ 0 ∷ [])) 0 ≡ refused 8 1
   pub eight-slots : read (laid 8 (push ++ (push ++ (push ++ (push ++ (push ++ (push ++ (push ++ push))))))) 1 (low 8) (0 ∷ [])) 0 ≡ refused 8 0
   pub slot-taken : read (laid 2 (push ++ (2 ∷ [])) 1 (low 0x11) (0 ∷ [])) 0 ≡ refused 9 0
-  pub slot-taken-later : read (laid 3 (2 ∷ (push ++ (2 ∷ []))) 2 (low 1 ++ low 0x11) (0 ∷ 0 ∷ [])) 0 ≡ refused 9 1
+  pub slot-taken-later : read (laid 4 (2 ∷ 2 ∷ (push ++ (2 ∷ []))) 2 (low 2 ++ low 0x11) (0 ∷ 0 ∷ [])) 0 ≡ refused 9 1
   pub slot-taken-first : read (laid 4 (push ++ (push ++ (push ++ (2 ∷ [])))) 1 (high 0x13) (0 ∷ [])) 0 ≡ refused 9 0
   pub first-group-first : read (laid 3 (push ++ (2 ∷ push)) 1 (0x11 ∷ 0 ∷ 0 ∷ 0x10 ∷ []) (0 ∷ [])) 0 ≡ refused 9 0
   pub no-noop-flagged : read (laid 1 (2 ∷ []) 1 (low 1) (1 ∷ [])) 0 ≡ refused 10 0
@@ -279,7 +285,9 @@ pub record OfReading : Type 0 where
   pub flag-at-count : read (laid 1 (2 ∷ []) 1 (low 1) (0x02 ∷ [])) 0 ≡ refused 10 0
   pub flag-last : read (laid 1 (2 ∷ []) 1 (low 1) (0x80 ∷ [])) 0 ≡ refused 10 0
   pub flag-of-none : read (laid 0 [] 1 (low 0) (1 ∷ [])) 0 ≡ refused 10 0
-  pub flag-later : read (laid 2 (2 ∷ 2 ∷ []) 2 (low 1 ++ low 1) (0 ∷ 1 ∷ [])) 0 ≡ refused 10 1
+  pub flag-later : read (laid 3 (2 ∷ 2 ∷ 2 ∷ []) 2 (low 2 ++ low 1) (0 ∷ 1 ∷ [])) 0 ≡ refused 10 1
+  pub flag-third : read (laid 4 (2 ∷ 2 ∷ 2 ∷ 2 ∷ []) 3 (low 2 ++ (low 1 ++ low 1)) (0 ∷ 0 ∷ 1 ∷ [])) 0 ≡ refused 10 2
+  pub flag-right-later : read (laid 3 (2 ∷ 2 ∷ 0 ∷ []) 2 (low 1 ++ low 0x11) (0 ∷ 0x02 ∷ [])) 0 ≡ found (block (op 2 0 ∷ op 2 0 ∷ op 0 0 ∷ []) (single ∷ is (0 ∷ 1 ∷ replicate 7 2) (0 ∷ 1 ∷ zeros 6) (2 ∷ zeros 7) 2 ∷ [])) 18
   pub flag-right : read (laid 2 (2 ∷ 0 ∷ []) 1 (low 2) (1 ∷ [])) 0 ≡ found (block (op 2 0 ∷ op 0 0 ∷ []) (is (0 ∷ replicate 8 2) (1 ∷ zeros 7) (2 ∷ zeros 7) 1 ∷ [])) 12
   pub left-over : read (laid 2 (2 ∷ 2 ∷ []) 1 (low 1) (0 ∷ [])) 0 ≡ refused 11 0
   -- 13: room exactly enough, and one less of each
@@ -344,7 +352,10 @@ pub record OfChecks : Type 0 where
   pub second-value : commitment (block (op 1 5 ∷ op 1 6 ∷ []) (is (0 ∷ replicate 8 2) (zeros 8) (129 ∷ 5 ∷ 7 ∷ zeros 5) 3 ∷ [])) ≡ refused 16 0
   pub value-later : commitment (block (op 2 0 ∷ op 1 6 ∷ []) (single ∷ numbered (1 ∷ 5 ∷ zeros 6) 2 ∷ [])) ≡ refused 16 1
   pub empty-0 : commitment (block (twos 1) (numbered (2 ∷ zeros 7) 2 ∷ [])) ≡ good tt
+  pub empty-then-slot : commitment (block (pushes 1) (is (0 ∷ 0 ∷ replicate 7 1) (zeros 8) (0 ∷ 1 ∷ 5 ∷ zeros 5) 3 ∷ [])) ≡ good tt
+  pub two-slots : commitment (block (op 1 5 ∷ op 1 6 ∷ []) (is (0 ∷ 1 ∷ 1 ∷ replicate 6 2) (zeros 8) (1 ∷ 5 ∷ 1 ∷ 6 ∷ zeros 4) 4 ∷ [])) ≡ good tt
   pub empty-not-0 : commitment (block (twos 1) (numbered (2 ∷ 7 ∷ zeros 6) 2 ∷ [])) ≡ refused 16 0
+  pub second-empty-not-0 : commitment (block (twos 1) (numbered (2 ∷ 0 ∷ 7 ∷ zeros 5) 3 ∷ [])) ≡ refused 16 0
   pub empty-first-not-0 : commitment (block (twos 1) (is (0 ∷ 0 ∷ replicate 7 1) (zeros 8) (7 ∷ 2 ∷ zeros 6) 2 ∷ [])) ≡ refused 16 0
   pub empty-after-slot : commitment (block (pushes 1) (numbered (1 ∷ 5 ∷ 7 ∷ zeros 5) 3 ∷ [])) ≡ refused 16 0
   pub empty-after-next : commitment (block (op 1 5 ∷ op 2 0 ∷ []) (is (0 ∷ 1 ∷ 1 ∷ replicate 6 2) (zeros 8) (1 ∷ 5 ∷ 2 ∷ 7 ∷ zeros 4) 4 ∷ [])) ≡ refused 16 0
@@ -626,6 +637,7 @@ numbers =
         five-of-nine = refl;
         noop-ninth = refl;
         no-noop = refl;
+        but-last = (refl, refl);
         kind-two = refl;
         own-noop = refl;
       };
@@ -640,6 +652,7 @@ numbers =
         count-65535 = (refl, refl);
         count-65536 = refl;
         op-missing = refl;
+        op-missing-later = refl;
         value-cut = refl;
         value-cut-later = refl;
         value-whole = refl;
@@ -668,9 +681,11 @@ numbers =
       };
       reading = record {
         empty-group = refl;
+        groups-after = refl;
         empty-first = refl;
         slot-after = refl;
         slot-then-empty = refl;
+        two-slots = refl;
         slot-seven = refl;
         kind-2-read = refl;
         empty-between = refl;
@@ -692,6 +707,8 @@ numbers =
         flag-last = refl;
         flag-of-none = refl;
         flag-later = refl;
+        flag-third = refl;
+        flag-right-later = refl;
         flag-right = refl;
         left-over = refl;
         room-right = refl;
@@ -748,7 +765,10 @@ numbers =
         second-value = refl;
         value-later = refl;
         empty-0 = refl;
+        empty-then-slot = refl;
+        two-slots = refl;
         empty-not-0 = refl;
+        second-empty-not-0 = refl;
         empty-first-not-0 = refl;
         empty-after-slot = refl;
         empty-after-next = refl;
