@@ -1,5 +1,5 @@
--- Document 01's numbers and sentences, computed by the checker from the definitions: one table, `Numbers`, under one claim. It has the numbers to check, and
--- for each guard of each function an input on either side of its bound, with the number and place, and an input that also has the next fault in the order.
+-- Document 01's numbers and sentences, computed by the checker from the definitions: one table, `Numbers`, under one claim. It has the numbers to check and, for
+-- the guards of each function, inputs on both sides of the bound, with number and place (in a later operation or batch too), and inputs with two faults.
 use mathlib.Core.Path.{_≡_, refl}
 use mathlib.Core.Bool.{true, false}
 use mathlib.Core.List.{List, [], _∷_, _++_, map}
@@ -353,7 +353,7 @@ pub record OfChecks : Type 0 where
   pub value-later : commitment (block (op 2 0 ∷ op 1 6 ∷ []) (single ∷ numbered (1 ∷ 5 ∷ zeros 6) 2 ∷ [])) ≡ refused 16 1
   pub empty-0 : commitment (block (twos 1) (numbered (2 ∷ zeros 7) 2 ∷ [])) ≡ good tt
   pub empty-then-slot : commitment (block (pushes 1) (is (0 ∷ 0 ∷ replicate 7 1) (zeros 8) (0 ∷ 1 ∷ 5 ∷ zeros 5) 3 ∷ [])) ≡ good tt
-  pub two-slots : commitment (block (op 1 5 ∷ op 1 6 ∷ []) (is (0 ∷ 1 ∷ 1 ∷ replicate 6 2) (zeros 8) (1 ∷ 5 ∷ 1 ∷ 6 ∷ zeros 4) 4 ∷ [])) ≡ good tt
+  pub two-slots : commitment (block (op 1 5 ∷ op 1 6 ∷ op 2 0 ∷ []) (is (0 ∷ 1 ∷ 1 ∷ replicate 6 3) (zeros 8) (1 ∷ 5 ∷ 257 ∷ 6 ∷ zeros 4) 4 ∷ [])) ≡ good tt
   pub empty-not-0 : commitment (block (twos 1) (numbered (2 ∷ 7 ∷ zeros 6) 2 ∷ [])) ≡ refused 16 0
   pub second-empty-not-0 : commitment (block (twos 1) (numbered (2 ∷ 0 ∷ 7 ∷ zeros 5) 3 ∷ [])) ≡ refused 16 0
   pub empty-first-not-0 : commitment (block (twos 1) (is (0 ∷ 0 ∷ replicate 7 1) (zeros 8) (7 ∷ 2 ∷ zeros 6) 2 ∷ [])) ≡ refused 16 0
@@ -432,9 +432,9 @@ pub record OfLookups : Type 0 where
   pub entry-greater : (rawIndex (0 ∷ 1 ∷ []) (padded 1) ≡ some (raw 0)) × (rawIndex (0 ∷ 2 ∷ []) (padded 1) ≡ none) × (rawIndex (1 ∷ []) (padded 0) ≡ none)
   pub sum-largest : (paddedIndex (0 ∷ 18446744073709551614 ∷ []) (raw 1) ≡ some (padded 18446744073709551615)) × (paddedIndex (0 ∷ 18446744073709551615 ∷ []) (raw 1) ≡ none)
 
--- ---- "Numbers of refusal": what each function gives by itself, and the orders: each input has the fault named and the next one of the order
+-- ---- "Numbers of refusal", the orders: an example named 3-14 has both faults and gets the first; one with a single number has that bound's two sides
 
--- a list of two operations with one value; a structure fault, with a padding fault where the flag is not looked at
+-- two opcodes with one value, and a record that fails structure
 abbrev pub unequal : Arena
 unequal = arena (2 ∷ 2 ∷ []) (0 ∷ []) (recordsBytes (flagged (2 ∷ zeros 7) ∷ []))
 
