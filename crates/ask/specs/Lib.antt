@@ -4,8 +4,10 @@
 use mathlib.Core.Path.{_≡_, refl}
 use mathlib.Core.List.{List, [], _∷_}
 use Rattle.rules.specs.Answer.{Read, found, good, refused}
-use Rattle.rules.specs.Examples.{op, build, write, read, p1}
+use Rattle.rules.specs.Examples.{op, is, block, p1}
 use Rattle.rules.specs.Open.{document}
+use Rattle.ask.specs.Plain.{build, write, read}
+pub mod Plain
 
 -- the block at byte 0 of these bytes, under table T
 bytes : read (0x05 ∷ 0x01 ∷ 0x05 ∷ 0 ∷ 0 ∷ 0 ∷ 0 ∷ 0 ∷ 0 ∷ 0 ∷ 0x00 ∷ 0x01 ∷ 0 ∷ 0 ∷ 0 ∷ 0x02 ∷ 0 ∷ 0 ∷ 0 ∷ 0x01 ∷ []) 0 ≡ found p1 20

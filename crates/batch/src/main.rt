@@ -1,13 +1,15 @@
-// batch < LIST: batches a list of operations under the virtual machine's own table, and prints the block's batches and, in hex, its bytes; or says in
-// one line what is wrong. A line of the list is an operation's name or opcode and its value, if it has one; # starts a comment.
+// batch [LIST [FILE]]: batches a list of operations under the virtual machine's own table, and prints the block's batches and, in hex, its bytes, or
+// writes its bytes to a file; or says in one line what is wrong. A line of the list is an operation's name or opcode and its value, if it has one;
+// # starts a comment.
 ghost use mathlib.Core.Path.{_≡_};
 ghost use Prim.Native.Nat.{_≤_, _<_};
 ghost use lib.ListN.{length};
 use build::Built;
+use console::say;
 use encoder::Encoded;
 use libc::STDIN_FILENO;
-use listing::number as print;
-use listing::say;
+use listing::After;
+use listing::Block;
 use text::Number;
 use vm::Named;
 
@@ -28,18 +30,24 @@ const LARGE: u8 = 6;
 
 const WORDS: u8 = 7;
 
-const MANY: u8 = 8;
+const OPEN: u8 = 8;
 
-fn say_fault(fault: u8) {
+const MANY: u8 = 9;
+
+const UNASSIGNED: u8 = 10;
+
+fn say_fault(page: &mut [u8], fault: u8) {
     match fault {
-        NO_NAME => say(b"no operation has this name"),
-        NO_OPCODE => say(b"an opcode is a number up to 255"),
-        NO_VALUE => say(b"a value is missing"),
-        UNNEEDED => say(b"this operation has no value"),
-        NO_NUMBER => say(b"the value is not a number"),
-        LARGE => say(b"the value is larger than 18446744073709551615"),
-        WORDS => say(b"more than an operation and its value"),
-        _ => say(b"more than 16384 operations"),
+        NO_NAME => say(page, b": no operation has this name\n"),
+        NO_OPCODE => say(page, b": an opcode is a number up to 127\n"),
+        NO_VALUE => say(page, b": a value is missing\n"),
+        UNNEEDED => say(page, b": this operation has no value\n"),
+        NO_NUMBER => say(page, b": the value is not a number\n"),
+        LARGE => say(page, b": a value is at most 18446744069414584320\n"),
+        WORDS => say(page, b": more than an operation and its value\n"),
+        OPEN => say(page, b": a parenthesis is not closed\n"),
+        UNASSIGNED => say(page, b": this opcode is unassigned\n"),
+        _ => say(page, b": more than 16384 operations\n"),
     }
 }
 
@@ -60,66 +68,94 @@ fn opcode(word: &[u8]) -> Parsed {
     let Number::Is(n) = text::either(word) else {
         return Parsed::Wrong(NO_OPCODE);
     };
-    if 255 < n {
+    if 127 < n {
         return Parsed::Wrong(NO_OPCODE);
     }
     Parsed::Op(n as u8, 0)
 }
 
-// An operation's kind, 3 where it is unassigned: then `build` has to refuse it, with a value or without.
-fn kind(code: u8) -> u8 {
-    if 128 <= code {
-        return 3;
-    }
-    let table = vm::table();
-    table[code as usize]
-}
-
 fn without_value(code: u8) -> Parsed {
-    let k = kind(code);
-    if k == 1 || k == 2 {
-        return Parsed::Wrong(NO_VALUE);
+    match vm::kind(code) {
+        0 => Parsed::Op(code, 0),
+        3 => Parsed::Wrong(UNASSIGNED),
+        _ => Parsed::Wrong(NO_VALUE),
     }
-    Parsed::Op(code, 0)
 }
 
-fn with_value(code: u8, word: &[u8]) -> Parsed {
-    if kind(code) == 0 {
-        return Parsed::Wrong(UNNEEDED);
-    }
+fn value(code: u8, word: &[u8]) -> Parsed {
     match text::either(word) {
-        Number::Is(v) => Parsed::Op(code, v),
+        Number::Is(v) => {
+            if 18446744069414584320 < v {
+                return Parsed::Wrong(LARGE);
+            }
+            Parsed::Op(code, v)
+        }
         Number::Not => Parsed::Wrong(NO_NUMBER),
         Number::Large => Parsed::Wrong(LARGE),
     }
 }
 
-// The value of an opcode, if the line has one from a place on.
-fn valued(code: u8, line: &[u8], from: usize) -> Parsed
-    requires { ⌜ from ≤ length (now line) ⌝ }
-{
-    let start = text::word_start(line, from);
-    let end = text::word_end(line, start);
-    if text::word_start(line, end) < line.len() {
-        return Parsed::Wrong(WORDS);
+fn with_value(code: u8, word: &[u8]) -> Parsed {
+    match vm::kind(code) {
+        0 => Parsed::Wrong(UNNEEDED),
+        3 => Parsed::Wrong(UNASSIGNED),
+        _ => value(code, word),
     }
-    if start == end {
-        return without_value(code);
-    }
-    with_value(code, &line[start..end])
 }
 
-fn parse(line: &[u8]) -> Parsed {
-    let start = text::word_start(line, 0);
-    let end = text::word_end(line, start);
-    if start == end {
+// `5`
+fn plain(code: u8, s: &[u8]) -> Parsed {
+    let end = text::word_end(s, 0);
+    if end < s.len() {
+        return Parsed::Wrong(WORDS);
+    }
+    with_value(code, s)
+}
+
+// `5)`
+fn bracketed(code: u8, s: &[u8]) -> Parsed {
+    let start = text::word_start(s, 0);
+    let end = text::word_end(s, start);
+    let close = text::word_start(s, end);
+    if close == s.len() {
+        return Parsed::Wrong(OPEN);
+    }
+    if s[close] != b')' || close + 1 < s.len() {
+        return Parsed::Wrong(WORDS);
+    }
+    with_value(code, &s[start..end])
+}
+
+// What stands after an opcode: nothing, `5` or `(5)`.
+fn valued(code: u8, s: &[u8]) -> Parsed {
+    let start = text::word_start(s, 0);
+    if start == s.len() {
+        return without_value(code);
+    }
+    if s[start] != b'(' {
+        return plain(code, &s[start..]);
+    }
+    let inner = start + 1;
+    bracketed(code, &s[inner..])
+}
+
+// The words of a line.
+fn parse(s: &[u8]) -> Parsed {
+    let start = text::word_start(s, 0);
+    if start == s.len() {
         return Parsed::Empty;
     }
-    let p = opcode(&line[start..end]);
+    let end = text::word_end(s, start);
+    let p = opcode(&s[start..end]);
     let Parsed::Op(code, _) = p else {
         return p;
     };
-    valued(code, line, end)
+    valued(code, &s[end..])
+}
+
+fn parse_line(line: &[u8]) -> Parsed {
+    let end = text::words_end(line);
+    parse(&line[..end])
 }
 
 // ---- the list
@@ -130,15 +166,7 @@ struct Taken {
     fault: u8,
 }
 
-fn store(
-    code: u8,
-    value: u64,
-    count: usize,
-    line: usize,
-    codes: &mut [u8],
-    values: &mut [u64],
-    lines: &mut [u64],
-) -> Taken
+fn store(code: u8, value: u64, count: usize, codes: &mut [u8], values: &mut [u64]) -> Taken
     requires { ⌜ count ≤ length (now codes) ⌝ }
     ensures { λ r. ⌜ r .count ≤ length (now (codes .exit)) ⌝ }
 {
@@ -147,50 +175,50 @@ fn store(
     }
     word::store8(codes, count, code);
     word::store64(values, count, value);
-    word::store64(lines, count, line as u64);
     Taken {
         count: count + 1,
         fault: 0,
     }
 }
 
-fn take(
-    p: Parsed,
-    count: usize,
-    line: usize,
-    codes: &mut [u8],
-    values: &mut [u64],
-    lines: &mut [u64],
-) -> Taken
+fn take(p: Parsed, count: usize, codes: &mut [u8], values: &mut [u64]) -> Taken
     requires { ⌜ count ≤ length (now codes) ⌝ }
     ensures { λ r. ⌜ r .count ≤ length (now (codes .exit)) ⌝ }
 {
     match p {
         Parsed::Empty => Taken { count, fault: 0 },
         Parsed::Wrong(fault) => Taken { count, fault },
-        Parsed::Op(code, value) => store(code, value, count, line, codes, values, lines),
+        Parsed::Op(code, value) => store(code, value, count, codes, values),
     }
 }
 
-fn say_line(line: usize) {
-    say(b"batch: line ");
-    print(line);
-    say(b": ");
+// The start of a line of text about a line of the list.
+fn say_line(page: &mut [u8], name: &[u8], n: usize) {
+    console::about(page, b"batch", name);
+    say(page, b": line ");
+    console::number(page, n as u64);
+    say(page, b": ");
 }
 
-// One line of text for a fault, with the word that the line starts with.
-fn complain(line: &[u8], n: usize, fault: u8) {
+// One line of text for a fault, with the words of the line that has it.
+fn complain(name: &[u8], words: &[u8], n: usize, fault: u8) {
+    let mut page = console::errors();
+    say_line(&mut page, name, n);
+    console::quote(&mut page, words, 40);
+    say_fault(&mut page, fault);
+    console::flush(&mut page);
+}
+
+fn complain_line(name: &[u8], line: &[u8], n: usize, fault: u8) {
+    let end = text::words_end(line);
     let start = text::word_start(line, 0);
-    let end = text::word_end(line, start);
-    say_line(n);
-    say(&line[start..end]);
-    say(b": ");
-    say_fault(fault);
-    say(b"\n");
+    if start <= end {
+        complain(name, &line[start..end], n, fault);
+    }
 }
 
-// The operations of a list, and the line of each; a line that is wrong is told, and ends it.
-fn read(s: &[u8], codes: &mut [u8], values: &mut [u64], lines: &mut [u64]) -> Taken
+// The operations of a list; a line that is wrong is told, and ends it.
+fn read(name: &[u8], s: &[u8], codes: &mut [u8], values: &mut [u64]) -> Taken
     ensures { λ r. ⌜ r .count ≤ length (now (codes .exit)) ⌝ }
 {
     let mut count: usize = 0;
@@ -199,9 +227,9 @@ fn read(s: &[u8], codes: &mut [u8], values: &mut [u64], lines: &mut [u64]) -> Ta
     while from < s.len() {
         n += 1;
         let end = text::line_end(s, from);
-        let t = take(parse(&s[from..end]), count, n, codes, values, lines);
+        let t = take(parse_line(&s[from..end]), count, codes, values);
         if t.fault != 0 {
-            complain(&s[from..end], n, t.fault);
+            complain_line(name, &s[from..end], n, t.fault);
             return t;
         }
         count = t.count;
@@ -210,64 +238,115 @@ fn read(s: &[u8], codes: &mut [u8], values: &mut [u64], lines: &mut [u64]) -> Ta
     Taken { count, fault: 0 }
 }
 
-// ---- the block
+// ---- a file of the block's bytes
 
-// What a digit looks like in hex.
-fn hex_digit(n: u8) -> u8 {
-    if n < 10 {
-        return 48 + n;
+// All of the bytes, as far as the disk.
+fn put(fd: i32, bytes: &[u8]) -> bool {
+    if !io::write_all(fd, bytes) {
+        return false;
     }
-    if n < 16 {
-        return 87 + n;
-    }
-    b'?'
+    libc::fsync(fd) == 0
 }
 
-fn print_byte(b: u8) {
-    let pair = [hex_digit(b / 16), hex_digit(b % 16)];
-    say(&pair);
+// The bytes in a new file, which then takes the name of the old one. Nothing is left behind where that fails.
+fn replace(path: &[u8], new: &[u8], bytes: &[u8]) -> bool {
+    let fd = os::create(new);
+    if fd < 0 {
+        console::fail(b"batch", new);
+        return false;
+    }
+    if !put(fd, bytes) {
+        console::fail(b"batch", new);
+        libc::close(fd);
+        os::unlink(new);
+        return false;
+    }
+    libc::close(fd);
+    if os::rename(new, path) != 0 {
+        console::fail(b"batch", path);
+        os::unlink(new);
+        return false;
+    }
+    true
+}
+
+fn save(path: &[u8], bytes: &[u8]) -> bool {
+    let mut room = io::large_buffer();
+    let k = console::copy(&mut room, 0, path);
+    let n = console::copy(&mut room, k, b".new");
+    replace(path, &room[..n], bytes)
+}
+
+// ---- the block
+
+fn print_end(page: &mut [u8], printed: usize, all: usize) {
+    if printed % 32 == 0 || printed == all {
+        say(page, b"\n");
+    }
 }
 
 // A line has 32 bytes.
-fn print_end(printed: usize, all: usize) {
-    if printed % 32 == 0 || printed == all {
-        say(b"\n");
-    }
-}
-
-fn print_hex(bytes: &[u8]) {
+fn print_hex(page: &mut [u8], bytes: &[u8]) {
     let mut i: usize = 0;
     while i < bytes.len() {
-        print_byte(bytes[i]);
+        console::hex(page, bytes[i]);
         i += 1;
-        print_end(i, bytes.len());
+        print_end(page, i, bytes.len());
     }
 }
 
-fn written(
-    table: &[u8],
-    codes: &[u8],
-    values: &[u64],
-    records: &[u8],
-    bytes: &[u8],
-    batches: usize,
-) {
-    let n = bytes.len();
-    listing::print_block(table, codes, values, records, 0, batches, codes.len(), n);
-    say(b"bytes\n");
-    print_hex(bytes);
+fn print_bytes(bytes: &[u8]) {
+    let mut page = console::output();
+    say(&mut page, b"bytes\n");
+    print_hex(&mut page, bytes);
+    console::flush(&mut page);
 }
 
-// A block that was built, written into the room and printed.
-fn print_built(
-    table: &[u8],
+// What was asked: the block in a file, or printed where there is no file's name.
+fn answer(file: &[u8], codes: &[u8], values: &[u64], records: &[u8], bytes: &[u8], batches: usize) {
+    let block = Block {
+        at: 0,
+        batches,
+        operations: codes.len(),
+        used: bytes.len(),
+    };
+    if 0 < file.len() {
+        if save(file, bytes) {
+            listing::print_line(records, block);
+        }
+        return;
+    }
+    if listing::print_block(codes, values, records, block, After::Unasked) {
+        print_bytes(bytes);
+    }
+}
+
+fn refused(refusal: u8, place: usize) {
+    let mut page = console::errors();
+    say(&mut page, b"batch: ");
+    listing::print_refusal(&mut page, refusal, place);
+    say(&mut page, b"\n");
+    console::flush(&mut page);
+}
+
+fn not_written(r: Encoded) {
+    match r {
+        Encoded::Refused { number, place } => refused(number, place),
+        Encoded::Written { length: _ } => {}
+    }
+}
+
+// A block that was built, written into the room.
+fn write(
+    file: &[u8],
     codes: &[u8],
     values: &[u64],
     records: &[u8],
     batches: usize,
     room: &mut [u8],
 ) {
-    let r = encoder::encode(table, codes, values, records, room, 0);
+    let table = vm::table();
+    let r = encoder::encode(&table, codes, values, records, room, 0);
     let Encoded::Written { length } = r else {
         not_written(r);
         return;
@@ -275,29 +354,12 @@ fn print_built(
     if room.len() < length {
         return;
     }
-    written(table, codes, values, records, &room[..length], batches);
-}
-
-fn not_written(r: Encoded) {
-    match r {
-        Encoded::Refused { number, place } => listing::print_refusal(number, place),
-        Encoded::Written { length: _ } => {}
-    }
-}
-
-// A refusal of `build`, with the line of the operation that is not admissible.
-fn refused(refusal: u8, place: usize, lines: &[u64]) {
-    if refusal == 4 {
-        if place < lines.len() {
-            say_line(lines[place] as usize);
-        }
-    }
-    listing::print_refusal(refusal, place);
+    answer(file, codes, values, records, &room[..length], batches);
 }
 
 // `build` makes no more than its room; told here again, since lending a front of a run asks for it.
 fn lend(
-    table: &[u8],
+    file: &[u8],
     codes: &[u8],
     values: &[u64],
     records: &[u8],
@@ -318,8 +380,8 @@ fn lend(
     if records.len() < end {
         return;
     }
-    print_built(
-        table,
+    write(
+        file,
         &codes[..operations],
         &values[..operations],
         &records[..end],
@@ -328,7 +390,7 @@ fn lend(
     );
 }
 
-fn batch(codes: &[u8], values: &[u64], lines: &[u64], room: &mut [u8]) {
+fn batch(file: &[u8], codes: &[u8], values: &[u64], room: &mut [u8]) {
     let table = vm::table();
     let mut out_codes = space::codes();
     let mut out_values = space::values();
@@ -346,7 +408,7 @@ fn batch(codes: &[u8], values: &[u64], lines: &[u64], room: &mut [u8]) {
             batches,
             operations,
         } => lend(
-            &table,
+            file,
             &out_codes,
             &out_values,
             &records,
@@ -354,7 +416,7 @@ fn batch(codes: &[u8], values: &[u64], lines: &[u64], room: &mut [u8]) {
             operations,
             room,
         ),
-        Built::Refused { number, place } => refused(number, place, lines),
+        Built::Refused { number, place } => refused(number, place),
     }
 }
 
@@ -367,39 +429,103 @@ fn list_room() -> [u8; 1048576]
     [0; 1048576]
 }
 
-fn numbers_room() -> [u64; 16384]
+fn values_room() -> [u64; 16384]
     ensures { λ r. ⌜ 16384 ≡ length r ⌝ }
 {
     [0; 16384]
 }
 
-fn names_room() -> [u8; 16384]
+fn codes_room() -> [u8; 16384]
     ensures { λ r. ⌜ 16384 ≡ length r ⌝ }
 {
     [0; 16384]
 }
 
-fn main() {
-    // a folder can be opened, and only a read says that it is none
-    let mut nothing = [0u8; 0];
-    if libc::read(STDIN_FILENO, &mut nothing) < 0 {
-        say(b"batch: the list cannot be read\n");
-        return;
-    }
-    let mut list = list_room();
-    let n = io::read_full(STDIN_FILENO, &mut list);
-    if n == list.len() {
-        say(b"batch: the list is longer than 1048575 bytes\n");
-        return;
-    }
-    let mut codes = names_room();
-    let mut values = numbers_room();
-    let mut lines = numbers_room();
-    let t = read(&list[..n], &mut codes, &mut values, &mut lines);
+// The n bytes of a list, whose room takes the block's bytes in the end.
+fn batch_text(name: &[u8], file: &[u8], list: &mut [u8], n: usize)
+    requires { ⌜ n ≤ length (now list) ⌝ }
+{
+    let mut codes = codes_room();
+    let mut values = values_room();
+    let t = read(name, &list[..n], &mut codes, &mut values);
     if t.fault != 0 {
         return;
     }
     let k = t.count;
-    // the list is read: its room takes the block's bytes
-    batch(&codes[..k], &values[..k], &lines[..k], &mut list);
+    batch(file, &codes[..k], &values[..k], list);
+}
+
+fn batch_from(name: &[u8], file: &[u8], fd: i32) {
+    let mut list = list_room();
+    let got = console::fill(fd, &mut list);
+    if got.failed {
+        console::fail(b"batch", name);
+        return;
+    }
+    let n = got.count;
+    if n == list.len() {
+        console::wrong(b"batch", name, b"longer than 1048575 bytes");
+        return;
+    }
+    batch_text(name, file, &mut list, n);
+}
+
+fn batch_file(name: &[u8], file: &[u8]) {
+    let fd = os::open_read(name);
+    if fd < 0 {
+        console::fail(b"batch", name);
+        return;
+    }
+    batch_from(name, file, fd);
+    libc::close(fd);
+}
+
+// ---- arguments
+
+fn help() {
+    console::print(
+        b"batch [LIST [FILE]]: batches the list of operations in LIST, or on standard input, under the virtual machine's own table, and prints the\nblock's batches and, after a line `bytes`, its bytes in hex; or, with FILE, writes its bytes there: to FILE.new, which then takes the name FILE.\nWhat is wrong is said in one line on standard error, and then no file is touched.\nA line of the list is an operation's name or opcode, with its value where it has one: add, push 5, push(5), 0x22, 91 0xff; # starts a comment.\nA list has at most 16384 operations and 1048575 bytes; a line may be as long as that.\n",
+    );
+}
+
+// With both arguments.
+fn to_file(name: &[u8]) {
+    let mut file = io::buffer();
+    let n = os::arg(2, &mut file);
+    if n == 0 {
+        console::tell(b"batch: the name FILE is empty or too long\n");
+        return;
+    }
+    batch_file(name, &file[..n]);
+}
+
+fn run(name: &[u8], count: usize) {
+    if check::same(name, b"--help") {
+        help();
+        return;
+    }
+    if count == 2 {
+        batch_file(name, b"");
+        return;
+    }
+    to_file(name);
+}
+
+fn main() {
+    let count = os::arg_count();
+    if count < 2 {
+        batch_from(b"standard input", b"", STDIN_FILENO);
+        return;
+    }
+    if 3 < count {
+        console::tell(b"usage: batch [LIST [FILE]] (batch --help says more)\n");
+        return;
+    }
+    let mut name = io::buffer();
+    let n = os::arg(1, &mut name);
+    if n == 0 {
+        console::tell(b"batch: the name LIST is empty or too long\n");
+        return;
+    }
+    run(&name[..n], count);
 }

@@ -419,7 +419,20 @@ fn cases(s: &[u8], table: &mut [u8], codes: &mut [u8], values: &mut [u64], runs:
 
 fn main() {
     let mut space = io::large_buffer();
-    let n = io::read_full(0, &mut space);
+    let got = console::fill(0, &mut space);
+    if got.failed {
+        console::fail(b"check_cases", b"standard input");
+        return;
+    }
+    let n = got.count;
+    if n == space.len() {
+        console::wrong(
+            b"check_cases",
+            b"standard input",
+            b"longer than 65535 bytes",
+        );
+        return;
+    }
     let mut table = [0u8; 128];
     let mut codes = space::codes();
     let mut values = space::values();

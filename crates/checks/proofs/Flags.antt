@@ -12,9 +12,8 @@ use lib.Seq.{drop-cons}
 use lib.Dec.{ltb, eqb}
 use Rattle.rules.specs.Digits.{number}
 use Rattle.rules.specs.Operations.{Op, operations}
-use Rattle.rules.specs.Record.{Record, recordAt}
-use Rattle.rules.specs.Block.{part, endsInNoop, paddingRight}
-use Rattle.rules.specs.Checks.{paddingFault}
+use Rattle.rules.specs.Record.{Record, recordAt, part}
+use Rattle.rules.specs.Checks.{paddingFault, endsInNoop, paddingRight}
 use Rattle.rules.specs.Functions.{Arena}
 use Rattle.rules.proofs.Digits.{split}
 use Rattle.rules.proofs.Operations.{op}

@@ -8,8 +8,7 @@ use native.Mathlib.Omega.{arith}
 use lib.ListN.{length, getD, take, drop}
 use lib.Seq.{drop-cons}
 use Rattle.rules.specs.Operations.{Op, operations}
-use Rattle.rules.specs.Record.{Record, differences, recordAt}
-use Rattle.rules.specs.Block.{cut, part}
+use Rattle.rules.specs.Record.{Record, differences, recordAt, cut, part}
 use Rattle.rules.specs.Checks.{ninth}
 use Rattle.rules.specs.Functions.{Arena}
 use Rattle.rules.proofs.Operations.{op, operations-turn}

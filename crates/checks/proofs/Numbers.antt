@@ -12,8 +12,7 @@ use lib.Seq.{drop-cons}
 use lib.Dec.{eqb}
 use Rattle.rules.specs.Digits.{number}
 use Rattle.rules.specs.Operations.{Op, operations, codes, kindOf, hasImmediate}
-use Rattle.rules.specs.Record.{Record, differences, codesNumber}
-use Rattle.rules.specs.Block.{cut, part, immediates}
+use Rattle.rules.specs.Record.{Record, differences, codesNumber, cut, part, immediates}
 use Rattle.rules.specs.Checks.{placingFault, begins, orElse, groupsFault, emptyZero}
 use Rattle.rules.proofs.Operations.{op}
 use Rattle.checks.specs.Batch.{under, span}

@@ -5,8 +5,7 @@ use Prim.Native.Nat.{ℕ, _+_, _-_, _≤_, _<_}
 use native.Mathlib.Omega.{arith}
 use lib.ListN.{length, getD}
 use Rattle.rules.specs.Operations.{Op, operations}
-use Rattle.rules.specs.Record.{Record, recordAt, codesNumber}
-use Rattle.rules.specs.Block.{immediates}
+use Rattle.rules.specs.Record.{Record, recordAt, codesNumber, immediates}
 use Rattle.rules.specs.Checks.{placingFault, orElse, commitmentFault}
 use Rattle.rules.specs.Functions.{Arena}
 use Rattle.checks.specs.Batch.{Lies, under, span}

@@ -9,8 +9,7 @@ use borrow.Author.Tests.{lt-ltb, le-leb, lt-leb, ne-eqb, leb-false, eqb-true}
 use lib.ListN.{length, getD, drop}
 use lib.Dec.{leb, eqb}
 use Rattle.rules.specs.Operations.{Op, operations, kindOf, hasImmediate, field, assigned, valued, valueRight, admissible, opFault}
-use Rattle.rules.specs.Record.{codesNumber}
-use Rattle.rules.specs.Block.{immediates}
+use Rattle.rules.specs.Record.{codesNumber, immediates}
 use Rattle.rules.specs.Checks.{begins}
 use Rattle.rules.proofs.Digits.{split}
 use Rattle.rules.proofs.Operations.{op, kind-at}

@@ -64,6 +64,10 @@ pub equal-lengths : (cs vs rs : List ℕ) → within (arena cs vs rs) ≡ true �
 unfolding within
 equal-lengths cs vs rs h = eqb-true (length cs) (length vs) (true-left (eqb (length cs) (length vs)) _ h)
 
+pub few-codes : (cs vs rs : List ℕ) → within (arena cs vs rs) ≡ true → length cs ≤ 65535
+unfolding within
+few-codes cs vs rs h = leb-true (length cs) 65535 (true-left (leb (length cs) 65535) _ (true-right (eqb (length cs) (length vs)) _ h))
+
 pub few-records : (cs vs rs : List ℕ) → within (arena cs vs rs) ≡ true → length rs / 82 ≤ 16384
 unfolding within
 few-records cs vs rs h =

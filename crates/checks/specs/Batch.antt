@@ -5,8 +5,7 @@ use Prim.Native.Nat.{ℕ, _+_, _-_, _*_, _≤_, _<_}
 use mathlib.Core.List.{List}
 use lib.ListN.{length, getD, take, drop}
 use Rattle.rules.specs.Operations.{Op, operations}
-use Rattle.rules.specs.Record.{Record, recordAt, differences}
-use Rattle.rules.specs.Block.{cut, part}
+use Rattle.rules.specs.Record.{Record, recordAt, differences, cut, part}
 use Rattle.rules.specs.Checks.{Held, ninth, recordRight}
 use Rattle.rules.specs.Functions.{Arena}
 

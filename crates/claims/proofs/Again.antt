@@ -13,10 +13,11 @@ use Rattle.rules.specs.Lists.{total, every}
 use Rattle.rules.specs.Digits.{digits, number, leAt}
 use Rattle.rules.specs.Answer.{found}
 use Rattle.rules.specs.Operations.{Op, codes, field, assigned, valued, hasImmediate, valueRight, goodTable, admissible}
-use Rattle.rules.specs.Record.{Record, Block, startsFrom, codesNumber, recordBy}
+use Rattle.rules.specs.Record.{Record, Block, startsFrom, codesNumber, recordBy, part, cut, immediates}
 use Rattle.rules.specs.Bytes.{countBy, countAt, valueAt, opAt, opsAt, batchCountAt, upTo, sizesAt, bitsAt, nibblesAt, flagsAt}
-use Rattle.rules.specs.Block.{Room, part, emptyBefore, slots, cut, paddingRight, batchAt, batchesAt, immediates}
-use Rattle.rules.specs.Checks.{ninth, startsRight, recordRight}
+use Rattle.rules.specs.Block.{Room, batchAt, batchesAt}
+use Rattle.rules.proofs.Slots.{emptyBefore, slots, batchBy, batch-is, total-split}
+use Rattle.rules.specs.Checks.{ninth, startsRight, recordRight, paddingRight}
 use Rattle.rules.specs.Functions.{decoded, roomFor}
 use Rattle.rules.proofs.Answer.{item, settle}
 use Rattle.rules.proofs.Digits.{length-digits}
@@ -70,12 +71,6 @@ module _ (t : List ℕ) (b : ℕ) where
   laid (suc n ∷ ns) (v ∷ due) xs at vs end h = absurd (clash 9 b vs end h)
 
 -- ---- a record made from sizes and flags
-
-pub total-split : (j : ℕ) (ks : List ℕ) → total (take j ks) + total (drop j ks) ≡ total ks
-unfolding total
-total-split zero ks = zero-add (total ks)
-total-split (suc j) [] = refl
-total-split (suc j) (k ∷ ks) = omega (arith, total-split j ks)
 
 pub start-at : (j n : ℕ) (ks : List ℕ) → j ≤ length ks → getD (startsFrom n ks) j 0 ≡ n + total (take j ks)
 unfolding startsFrom total
@@ -214,7 +209,7 @@ module _ (s : List ℕ) (w : ℕ) where
           let e = passed (ltb 65535 n) 3 0 _ v next (d .1) in
           rw (item n v (at + t + 1) next (e .1)) at (ltb-false 65535 n (e .0))
 
-  batchCount-limit : (k at next : ℕ) → batchCountAt s at ≡ found k next → k ≤ 16384
+  pub batchCount-limit : (k at next : ℕ) → batchCountAt s at ≡ found k next → k ≤ 16384
   unfolding batchCountAt
   batchCount-limit k at next h =
       let n = leAt 4 s at in
@@ -351,9 +346,9 @@ module _ (w : ℕ) (t : List ℕ) (xs : List Op) (o : All (λ x. admissible t x 
     pub inside : next ≤ length xs
 
   pub batch-made : (at b : ℕ) (ns fs : List ℕ) (r : Record) (next : ℕ) → Sizes w ns → Bits fs → batchAt w t xs at b ns fs ≡ found r next → Read-batch at r next
-  unfolding batchAt
+  unfolding batchBy
   batch-made at b ns fs r next z f h =
-      let a = passed (ltb (length xs) (at + total ns)) 7 b _ r next h in
+      let a = passed (ltb (length xs) (at + total ns)) 7 b _ r next (sym (batch-is w t xs at b ns fs (z .high)) ∙ h) in
       let d = came (slots t b (take w ns) [] xs at) _ r next (a .1) in
       let vs = d .got in
       let e = passed (not (paddingRight (take (length vs) (cut ns xs at)) fs)) 10 b _ r next (d .rest) in

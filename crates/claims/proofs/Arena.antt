@@ -16,7 +16,10 @@ use Rattle.rules.specs.Block.{Room}
 use Rattle.rules.specs.Functions.{Arena, blockIn, within, roomIn, filled, roomFor}
 use Rattle.rules.proofs.Digits.{leAt-back, length-leBytes}
 use Rattle.rules.proofs.Operations.{codes-back, true-left, true-right}
+use Rattle.rules.proofs.Runs.{fitted-front}
 use Rattle.claims.specs.Shape.{All}
+use Rattle.claims.specs.Sizes.{NineAndEight}
+use Rattle.claims.proofs.Lists.{all-map}
 use Rattle.claims.specs.Demand3.{lent, front}
 use Rattle.rules.proofs.Sizes.{length-words}
 
@@ -45,6 +48,9 @@ pub record Sized (r : Record) : Type 0 where
   pub flags : length (r .flags) ≡ 8
   pub numbers : length (r .numbers) ≡ 8
   pub small : All (λ n. n < 256 ^ 8) (r .numbers)
+
+pub nine-and-eight : (rs : List Record) → All Sized rs → All NineAndEight rs
+nine-and-eight rs h = all-map (λ r k. record { starts = k .starts; flags = k .flags; numbers = k .numbers }) rs h
 
 record-back : (p q : List ℕ) (r : Record) (b : ℕ) → length p ≡ 82 * b → Sized r → recordAt (p ++ (recordBytes r ++ q)) b ≡ r
 unfolding recordAt recordBytes
@@ -130,12 +136,6 @@ roomed b room h =
     )
 
 -- ---- what a function leaves in lent runs, cut at the lengths that it replies, is the block
-
-fitted-front : (n : ℕ) (xs : List ℕ) → length xs ≤ n → take (length xs) (fitted n xs) ≡ xs
-unfolding fitted
-fitted-front n [] h = refl
-fitted-front zero (x ∷ xs) h = absurd (omega arith)
-fitted-front (suc n) (x ∷ xs) h = ap (λ (l : List ℕ). x ∷ l) (fitted-front n xs (omega arith))
 
 front-at : (n k : ℕ) (xs : List ℕ) → length xs ≡ k → k ≤ n → take k (fitted n xs) ≡ xs
 front-at n k xs e h = rw (sym e) (fitted-front n xs (omega arith))

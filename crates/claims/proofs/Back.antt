@@ -13,11 +13,14 @@ use Rattle.rules.specs.Digits.{digits, number, leBytes}
 use Rattle.rules.specs.Answer.{found}
 use Rattle.rules.specs.Operations.{Op, noop, goodTable}
 use Rattle.rules.specs.Batching.{Group, ops, imm}
-use Rattle.rules.specs.Record.{Record, opsIn, opsOf, paddedOf, sizeOf, flagOf, codesNumber, numberOf, startsFrom, recordBy, recordOf, Block, blockOf, differences}
+use Rattle.rules.specs.Record.{Record, opsIn, opsOf, paddedOf, sizeOf, flagOf, codesNumber, numberOf, startsFrom, recordBy, recordOf, Block, blockOf, differences, part, cut, immediates}
 use Rattle.rules.specs.Bytes.{countAt, countBytes, opsAt, opsBytes, batchCountAt, nibbleBytes, flagBytes, upTo, sizesAt, bitsAt, nibblesAt, flagsAt}
-use Rattle.rules.specs.Block.{Room, blockBytes, part, emptyBefore, slots, cut, endsInNoop, paddingRight, batchAt, batchesAt, headAt, layoutAt, batchesBy, blockAt, immediates}
+use Rattle.rules.specs.Block.{Room, blockBytes, batchAt, batchesAt, headAt, layoutAt, batchesBy, blockAt}
+use Rattle.rules.proofs.Slots.{emptyBefore, slots, batchBy, batch-is, total-split}
+use Rattle.rules.specs.Checks.{endsInNoop, paddingRight}
 use Rattle.rules.specs.Functions.{decoded}
-use Rattle.claims.specs.Shape.{All, EndsInNoop, RightGroup, Follow}
+use Rattle.claims.specs.Shape.{All, EndsInNoop}
+use Rattle.claims.proofs.Shape.{RightGroup, Follow}
 use Rattle.rules.proofs.Runs.{fitted-length, zeros-fitted}
 use Rattle.claims.proofs.Stands.{Stands, here, first-of, rest-of, stands-fits}
 use Rattle.claims.proofs.Bytes.{digits-number, count-back, ops-back, batchCount-stands}
@@ -60,6 +63,17 @@ number-small b (d ∷ ds) h =
     let ih = number-small b ds (h .1) in
     let m : b * suc (number b ds) ≤ b * b ^ length ds = mul-le-mul-left b ih in
     rw pow-succ' (omega (arith, h .0, rw mul-suc at m))
+
+-- ---- the operations of a batch
+
+pub part-at : (pre g post : List Op) → part (length g) (pre ++ (g ++ post)) (length pre) ≡ g
+part-at pre g post = rw (drop-append-seam pre (g ++ post), take-append-seam g post)
+
+pub total-sizes : (gs : List Group) (k : ℕ) → total (map sizeOf gs ++ replicate k 0) ≡ length (opsOf gs)
+unfolding total opsOf sizeOf
+total-sizes [] zero = refl
+total-sizes [] (suc k) = rw (total-sizes [] k)
+total-sizes (g ∷ gs) k = rw (total-sizes gs k) (sym (length-append (opsIn g) (opsOf gs)))
 
 module _ (w : ℕ) (w8 : w ≤ 8) where
   -- a record as the bytes can say it
@@ -130,15 +144,6 @@ module _ (w : ℕ) (w8 : w ≤ 8) where
 
   -- ---- a batch
 
-  part-at : (pre g post : List Op) → part (length g) (pre ++ (g ++ post)) (length pre) ≡ g
-  part-at pre g post = rw (drop-append-seam pre (g ++ post), take-append-seam g post)
-
-  total-sizes : (gs : List Group) (k : ℕ) → total (map sizeOf gs ++ replicate k 0) ≡ length (opsOf gs)
-  unfolding total opsOf sizeOf
-  total-sizes [] zero = refl
-  total-sizes [] (suc k) = rw (total-sizes [] k)
-  total-sizes (g ∷ gs) k = rw (total-sizes gs k) (sym (length-append (opsIn g) (opsOf gs)))
-
   cut-back : (gs : List Group) (ns : List ℕ) (pre post : List Op) → take (length gs) (cut (map sizeOf gs ++ ns) (pre ++ (opsOf gs ++ post)) (length pre)) ≡ map opsIn gs
   unfolding cut opsOf sizeOf
   cut-back [] ns pre post = refl
@@ -149,7 +154,7 @@ module _ (w : ℕ) (w8 : w ≤ 8) where
       let rest : take (length gs) (cut (map sizeOf gs ++ ns) (pre ++ (x ++ (r ++ post))) (length pre + length x)) ≡ map opsIn gs = rw (append-assoc pre x (r ++ post), length-append pre x) at ih in
       rw (append-assoc x r post, part-at pre x (r ++ post), rest)
 
-  ends : (xs : List Op) → EndsInNoop true xs → endsInNoop xs ≡ true
+  ends : (xs : List Op) → EndsInNoop xs → endsInNoop xs ≡ true
   unfolding endsInNoop noop
   ends [] h = elim h [ ]
   ends (x ∷ []) h = eq-eqb (x .code) 0 (ap (λ (o : Op). o .code) h)
@@ -192,10 +197,10 @@ module _ (w : ℕ) (w8 : w ≤ 8) where
       pub groups : All (RightGroup t) gs
       pub follow : Follow t [] gs
 
-    batch-back : (gs : List Group) (b : ℕ) (pre post : List Op) → Writable gs
-        → batchAt w t (pre ++ (opsOf gs ++ post)) (length pre) b (fitted 8 (map sizeOf gs)) (fitted 8 (map flagOf gs)) ≡ found (recordOf gs) (length pre + length (opsOf gs))
-    unfolding batchAt recordOf
-    batch-back gs b pre post wr =
+    by-walk : (gs : List Group) (b : ℕ) (pre post : List Op) → Writable gs
+        → batchBy w t (pre ++ (opsOf gs ++ post)) (length pre) b (fitted 8 (map sizeOf gs)) (fitted 8 (map flagOf gs)) ≡ found (recordOf gs) (length pre + length (opsOf gs))
+    unfolding batchBy recordOf
+    by-walk gs b pre post wr =
         let ns = map sizeOf gs ++ replicate (8 - length (map sizeOf gs)) 0 in
         let xs = pre ++ (opsOf gs ++ post) in
         let n : length xs ≡ length pre + (length (opsOf gs) + length post) = simp length-append in
@@ -215,6 +220,20 @@ module _ (w : ℕ) (w8 : w ≤ 8) where
           cut-back gs (replicate (8 - length (map sizeOf gs)) 0) pre post,
           padding-back gs (8 - length (map flagOf gs)) (wr .groups),
         )
+
+    -- no group from the width on has operations
+    none-past : (gs : List Group) → Writable gs → total (drop w (fitted 8 (map sizeOf gs))) ≡ 0
+    none-past gs wr =
+        let m : length (map sizeOf gs) ≡ length gs = length-map gs sizeOf in
+        let mm : length (map sizeOf gs) ≤ w = omega (arith, wr .most) in
+        let ns = map sizeOf gs ++ replicate (8 - length (map sizeOf gs)) 0 in
+        let f : take w ns ≡ map sizeOf gs ++ replicate (w - length (map sizeOf gs)) 0 = front (map sizeOf gs) 8 mm w8 in
+        let a : total (take w ns) ≡ length (opsOf gs) = rw f (total-sizes gs (w - length (map sizeOf gs))) in
+        rw (fitted-is 8 (map sizeOf gs) (omega arith)) (omega (arith, a, total-split w ns, total-sizes gs (8 - length (map sizeOf gs))))
+
+    batch-back : (gs : List Group) (b : ℕ) (pre post : List Op) → Writable gs
+        → batchAt w t (pre ++ (opsOf gs ++ post)) (length pre) b (fitted 8 (map sizeOf gs)) (fitted 8 (map flagOf gs)) ≡ found (recordOf gs) (length pre + length (opsOf gs))
+    batch-back gs b pre post wr = batch-is w t _ (length pre) b _ _ (none-past gs wr) ∙ by-walk gs b pre post wr
 
     sizes-of : (gs : List Group) → sizesOf (recordOf gs) ≡ fitted 8 (map sizeOf gs)
     unfolding recordOf recordBy

@@ -7,7 +7,7 @@ use lib.Seq.{append-snoc}
 use Rattle.rules.specs.Lists.{butLast}
 use Rattle.rules.specs.Operations.{Op, noop}
 use Rattle.rules.specs.Batching.{Group, ops, imm, Batch, empty, fits, wantsNoop, closeGroup, groups, turned, full, ready, joined, added, turnedTimes, ended, Work, start, endBatch, room, step, steps, batchesOf}
-use Rattle.claims.specs.Shape.{rawIn, raw, raws}
+use Rattle.claims.proofs.Shape.{rawIn, raw, raws}
 
 -- ---- dropping the flagged padding gives the list back
 

@@ -10,17 +10,18 @@ use lib.Dec.{leb, eqb}
 use Rattle.rules.specs.Lists.{total}
 use Rattle.rules.specs.Answer.{Answer, good, refuseFirst}
 use Rattle.rules.specs.Operations.{goodTable, opFault, admissible, Op}
-use Rattle.rules.specs.Record.{Record, Block, startsFrom, differences, recordAt, recordsFrom, recordsIn, codesNumber}
+use Rattle.rules.specs.Record.{Record, Block, startsFrom, differences, recordAt, recordsFrom, recordsIn, codesNumber, immediates}
 use Rattle.rules.specs.Bytes.{upTo}
 use Rattle.rules.specs.Checks.{ninth, startsRight, recordRight, structureFaults, held, paddingFault, paddingFaults, orElse, commitmentFault, commitmentFaults, groupsFault, placingFault, begins}
 use Rattle.rules.specs.Functions.{Arena, blockIn, within, paddingChecked, commitmentChecked}
 use Rattle.rules.proofs.Answer.{clash, passed, first-append}
 use Rattle.rules.proofs.Operations.{true-left, true-right, length-operations}
 use Rattle.claims.specs.Shape.{All}
-use Rattle.claims.proofs.Again.{start-at, take-total, total-split}
+use Rattle.claims.specs.Sizes.{NineAndEight}
+use Rattle.rules.proofs.Slots.{total-split}
+use Rattle.claims.proofs.Again.{start-at, take-total}
 use Rattle.rules.proofs.Sizes.{length-bytesAt, length-wordsAt}
 use Rattle.claims.proofs.Lists.{all-map}
-use Rattle.rules.specs.Block.{immediates}
 
 pub or-first : (m n : ℕ) → orElse m n ≡ 0 → (m ≡ 0) × (n ≡ 0)
 or-first zero n h = (refl, h)
@@ -65,15 +66,9 @@ unfolding differences
 sizes-many a [] = refl
 sizes-many a (b ∷ s) = ap suc (sizes-many b s)
 
--- how many elements a record has where it lies in a run
-pub record Shaped (r : Record) : Type 0 where
-  pub starts : length (r .starts) ≡ 9
-  pub flags : length (r .flags) ≡ 8
-  pub numbers : length (r .numbers) ≡ 8
-
 -- what the structure check says of such a record
 pub record Made (w : ℕ) (r : Record) : Type 0 where
-  pub shaped : Shaped r
+  pub shaped : NineAndEight r
   pub few : r .count ≤ w
   pub bits : upTo 1 (r .flags) ≡ true
   pub starts : startsFrom 0 (differences (r .starts)) ≡ r .starts
@@ -86,7 +81,7 @@ whole : (s : List ℕ) → length s ≡ 9 → getD s 0 0 ≡ 0 → startsRight s
 whole [] l e h = absurd (omega arith)
 whole (a ∷ s) l e h = (ap (λ (k : ℕ). startsFrom k (differences (a ∷ s))) (sym e) ∙ starts-back a s h, sizes-small a s h, omega (arith, sizes-many a s))
 
-pub made : (w : ℕ) (w8 : w ≤ 8) (r : Record) → Shaped r → recordRight w r ≡ true → Made w r
+pub made : (w : ℕ) (w8 : w ≤ 8) (r : Record) → NineAndEight r → recordRight w r ≡ true → Made w r
 unfolding recordRight
 made w w8 r z h =
     let h₁ = true-right (leb (r .count) w) _ h in
@@ -164,7 +159,7 @@ no-padding-fault w a h = first-none paddingFault 0 (held (blockIn a)) _ tt (stru
 
 -- ---- records as they lie in a run
 
-shaped-from : (k : ℕ) (s : List ℕ) (b : ℕ) → All Shaped (recordsFrom k s b) × (length (recordsFrom k s b) ≡ k)
+shaped-from : (k : ℕ) (s : List ℕ) (b : ℕ) → All NineAndEight (recordsFrom k s b) × (length (recordsFrom k s b) ≡ k)
 unfolding recordsFrom recordAt
 shaped-from zero s b = (tt, refl)
 shaped-from (suc k) s b =
@@ -183,6 +178,6 @@ limits a h =
     let l = length-operations (a .codes) (a .values) (eqb-true n (length (a .values)) (true-left equal _ h)) in
     (rw l (leb-true n 65535 (true-left (leb n 65535) _ h₁)), rw (shaped-from (k / 82) (a .records) 0 .1) (leb-true (k / 82) 16384 h₂))
 
-pub shaped-in : (a : Arena) → All Shaped (blockIn a .records)
+pub shaped-in : (a : Arena) → All NineAndEight (blockIn a .records)
 unfolding blockIn recordsIn
 shaped-in a = shaped-from (length (a .records) / 82) (a .records) 0 .0

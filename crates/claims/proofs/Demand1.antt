@@ -1,11 +1,11 @@
 -- Demand 1: every answer is a result or one of document 01's refusals, and a refusal leaves nothing behind. Assumes nothing.
-use mathlib.Core.Path.{_≡_, refl, sym, ap, subst}
+use mathlib.Core.Path.{_≡_, refl, sym, ap, subst, _∙_}
 use mathlib.Core.Logic.{_⊎_, inl, inr}
 use mathlib.Core.List.{List, [], _∷_, map}
 use mathlib.Core.Bool.{Bool, true, false, cond, not, _&&_, _||_}
 use Prim.Native.Nat.{ℕ, zero, suc, _+_, _-_, _/_, _≤_, _<_, _^_}
 use native.Mathlib.Omega.{arith}
-use borrow.Author.Tests.{ltb-false, leb-false}
+use borrow.Author.Tests.{ltb-false, leb-false, eqb-true, le-leb, le-ltb}
 use lib.ListN.{length, getD, take, drop, replicate, length-map}
 use lib.Dec.{leb, ltb, eqb}
 use lib.Count.{trailingZeros}
@@ -14,15 +14,16 @@ use Rattle.rules.specs.Digits.{digits, leAt}
 use Rattle.rules.specs.Answer.{Answer, good, refused, Item, Read, found, refuse, refuseFirst, _then_}
 use Rattle.rules.specs.Operations.{Op, operations, field, assigned, valued, admissible, opFault, goodTable, codes, values}
 use Rattle.rules.specs.Batching.{batchesOf}
-use Rattle.rules.specs.Record.{Record, Block, noBlock, codesNumber, blockOf, recordsBytes}
+use Rattle.rules.specs.Record.{Record, Block, noBlock, codesNumber, blockOf, recordsBytes, cut, immediates}
 use Rattle.rules.specs.Bytes.{least, countBy, countAt, valueAt, opAt, opsAt, batchCountAt, upTo, sizesAt, nibblesAt, bitsAt, flagsAt}
-use Rattle.rules.specs.Block.{Room, Head, Layout, blockBytes, part, cut, immediates, slots, paddingRight, batchAt, batchesAt, headAt, layoutAt, batchesBy, blockAt}
-use Rattle.rules.specs.Checks.{Held, ninth, recordRight, structureFaults, heldFrom, held, paddingFault, paddingFaults, underCount, placingFault, begins, orElse, groupsFault, emptyZero, commitmentFault, commitmentFaults}
+use Rattle.rules.specs.Block.{Room, Head, Layout, blockBytes, placingsFault, countFrom, batchAt, batchesAt, headAt, layoutAt, batchesBy, blockAt}
+use Rattle.rules.specs.Checks.{Held, ninth, recordRight, structureFaults, heldFrom, held, paddingFault, paddingFaults, underCount, placingFault, begins, orElse, groupsFault, emptyZero, commitmentFault, commitmentFaults, paddingRight}
 use Rattle.rules.specs.Lookups.{groupOf, nextGroup}
-use Rattle.rules.specs.Functions.{Arena, arena, blockIn, within, filled, roomFor, built, encoded, written, decoded, structureChecked, paddingChecked, commitmentChecked, tableOf, tableLeft, groupLookup, nextLookup}
+use Rattle.rules.specs.Functions.{Arena, arena, blockIn, within, filled, roomFor, built, encoded, written, decoded, most, headed, countHere, opHere, structureChecked, paddingChecked, commitmentChecked, tableOf, tableLeft, groupLookup, nextLookup}
 use Rattle.rules.proofs.Answer.{first-append}
 use Rattle.rules.proofs.Runs.{zeros-fitted}
-use Rattle.claims.specs.Demand1.{Refusal, _of_, OneOf, Replies, zeros, ops, batches, buildRefusals, encodeRefusals, decodeRefusals, structureRefusals, paddingRefusals, commitmentRefusals, tableRefusals, lookupRefusals, Demand1}
+use Rattle.claims.proofs.Again.{count-limit, batchCount-limit}
+use Rattle.claims.specs.Demand1.{Refusal, _of_, OneOf, Replies, zeros, ops, batches, buildRefusals, encodeRefusals, decodeRefusals, headRefusals, told, toldBatches, countRefusals, opRefusals, structureRefusals, paddingRefusals, commitmentRefusals, tableRefusals, lookupRefusals, Demand1}
 
 -- ---- answers whose results have one property, and whose refusals another
 
@@ -36,9 +37,19 @@ module _ (P : ℕ → ℕ → Type 0) where
     by-refuse true n p r h k = h
     by-refuse false n p r h k = k refl
 
+    -- where only some cases refuse
+    by-case : (b : Bool) (n p : ℕ) (r : Answer A) → (b ≡ true → P n p) → (b ≡ false → Holds Q r) → Holds Q (refuse b n p r)
+    by-case true n p r h k = h refl
+    by-case false n p r h k = k refl
+
   by-then : {A B : Type 0} (Q : Item A → Type 0) (R : B → Type 0) (r : Read A) (f : A → ℕ → Answer B) → Holds Q r → ((i : Item A) → Q i → Holds R (f (i .item) (i .next))) → Holds R (r then f)
   by-then Q R (good i) f h k = k i h
   by-then Q R (refused n p) f h k = h
+
+  -- the same, knowing what was read
+  by-stage : {A B : Type 0} (Q : Item A → Type 0) (R : B → Type 0) (r : Read A) (f : A → ℕ → Answer B) → Holds Q r → ((i : Item A) → r ≡ good i → Q i → Holds R (f (i .item) (i .next))) → Holds R (r then f)
+  by-stage Q R (good i) f h k = k i refl h
+  by-stage Q R (refused n p) f h k = h
 
   -- no fault, or one that may refuse with this place
   abbrev Fault : ℕ → ℕ → Type 0
@@ -57,6 +68,13 @@ module _ (P : ℕ → ℕ → Type 0) where
       go zero g ih = ih
       go (suc m) (inl e) ih = absurd (omega arith)
       go (suc m) (inr g) ih = g
+
+  -- one fault, of the p-th
+  by-one : {A : Type 0} (Q : A → Type 0) (p n : ℕ) (r : Answer A) → Fault n p → Holds Q r → Holds Q (refuseFirst p (n ∷ []) r)
+  unfolding refuseFirst
+  by-one Q p zero r h k = k
+  by-one Q p (suc n) r (inl e) k = absurd (omega arith)
+  by-one Q p (suc n) r (inr h) k = h
 
   -- ---- the checks' faults
 
@@ -106,80 +124,75 @@ module _ (P : ℕ → ℕ → Type 0) where
   abbrev Any : {A : Type 0} → A → Type 0
   Any a = Unit {0}
 
-  module _ (t : List ℕ) (b : ℕ) (h₈ : P 8 b) (h₉ : P 9 b) where
-    by-slots : (ns due : List ℕ) (xs : List Op) (at : ℕ) → Holds Any (slots t b ns due xs at)
-    unfolding slots
-    by-slots [] [] xs at = tt
-    by-slots [] (v ∷ due) xs at = h₈
-    by-slots (zero ∷ ns) [] xs at = by-then Any Any (slots t b ns [] xs at) _ (by-slots ns [] xs at) (λ i q. tt)
-    by-slots (zero ∷ ns) (v ∷ due) xs at = by-then Any Any (slots t b ns due xs at) _ (by-slots ns due xs at) (λ i q. tt)
-    by-slots (suc n ∷ ns) [] xs at = by-then Any Any (slots t b ns (immediates t (part (suc n) xs at)) xs (at + suc n)) _ (by-slots ns (immediates t (part (suc n) xs at)) xs (at + suc n)) (λ i q. tt)
-    by-slots (suc n ∷ ns) (v ∷ due) xs at = h₉
+  by-placings : (t : List ℕ) (gs : List (List Op)) (p : ℕ) → P 8 p → P 9 p → Fault (placingsFault t gs) p
+  unfolding placingsFault
+  by-placings t [] p h₈ h₉ = inl refl
+  by-placings t (g ∷ gs) p h₈ h₉ = by-orElse _ _ p (by-placing (length (immediates t g)) gs p h₈ h₉) (by-placings t gs p h₈ h₉)
 
-  module _ (s : List ℕ) (two : (p : ℕ) → p ≤ length s → P 2 p) (three : P 3 0) (four : (p : ℕ) → p < 65535 → P 4 p) (five : P 5 0) (thirteen : P 13 0) where
+  module _ (s : List ℕ) (two : (p : ℕ) → p ≤ length s → P 2 p) where
     -- the place after an item is in the buffer, or its end
     abbrev Inside : {A : Type 0} → Item A → Type 0
     Inside i = i .next ≤ length s
 
-    abbrev Counted : ℕ → Item ℕ → Type 0
-    Counted m i = (i .item ≤ m) × Inside i
-
-    by-count : (at : ℕ) → at ≤ length s → Holds (Counted 65535) (countAt s at)
+    by-count : (at : ℕ) → P 3 0 → at ≤ length s → Holds Inside (countAt s at)
     unfolding countAt countBy
-    by-count at l = by-refuse (Counted 65535) (leb (length s) at) 2 at _ (two at l) (λ e. go (trailingZeros 8 (getD s at 0)))
+    by-count at three l = by-refuse Inside (leb (length s) at) 2 at _ (two at l) (λ e. go (trailingZeros 8 (getD s at 0)))
       where
-        go : (z : ℕ) → Holds (Counted 65535) (countBy z s at)
+        go : (z : ℕ) → Holds Inside (countBy z s at)
         go z =
             let v = leAt (z + 1) s at / 2 ^ (z + 1) in
-            by-refuse (Counted 65535) (ltb 2 z) 3 0 _ three λ e₁.
-            by-refuse (Counted 65535) (ltb (length s) (at + z + 1)) 2 at _ (two at l) λ e₂.
-            by-refuse (Counted 65535) (ltb v (least z)) 3 0 _ three λ e₃.
-            by-refuse (Counted 65535) (ltb 65535 v) 3 0 _ three λ e₄.
-            (ltb-false 65535 v e₄, ltb-false (length s) (at + z + 1) e₂)
+            by-refuse Inside (ltb 2 z) 3 0 _ three λ e₁.
+            by-refuse Inside (ltb (length s) (at + z + 1)) 2 at _ (two at l) λ e₂.
+            by-refuse Inside (ltb v (least z)) 3 0 _ three λ e₃.
+            by-refuse Inside (ltb 65535 v) 3 0 _ three λ e₄. ltb-false (length s) (at + z + 1) e₂
 
-    by-op : (t : List ℕ) (at i : ℕ) → at ≤ length s → i < 65535 → Holds Inside (opAt t s at i)
+    by-op : (t : List ℕ) (at i : ℕ) → at ≤ length s → P 4 i → Holds Inside (opAt t s at i)
     unfolding opAt valueAt
-    by-op t at i l k =
+    by-op t at i l four =
         by-refuse Inside (leb (length s) at) 2 at _ (two at l) λ e.
-        by-refuse Inside (not (assigned t (getD s at 0))) 4 i _ (four i k) λ e₁. go (valued t (getD s at 0)) (leb-false (length s) at e)
+        by-refuse Inside (not (assigned t (getD s at 0))) 4 i _ four λ e₁. go (valued t (getD s at 0)) (leb-false (length s) at e)
       where
         go : (v : Bool) → at < length s → Holds Inside (cond v (valueAt s at i (getD s at 0)) (found (record { code = getD s at 0; value = 0 }) (at + 1)))
         go true m =
             by-refuse Inside (ltb (length s) (at + 9)) 2 at _ (two at l) λ e.
-            by-refuse Inside (not (ltb (leAt 8 s (at + 1)) field)) 4 i _ (four i k) λ e₁. ltb-false (length s) (at + 9) e
+            by-refuse Inside (not (ltb (leAt 8 s (at + 1)) field)) 4 i _ four λ e₁. ltb-false (length s) (at + 9) e
         go false m = omega arith
 
-    by-opsAt : (t : List ℕ) (n at i : ℕ) → at ≤ length s → i + n ≤ 65535 → Holds Inside (opsAt t s n at i)
+    by-opsAt : (t : List ℕ) (n at i m : ℕ) → ((p : ℕ) → p < m → P 4 p) → at ≤ length s → i + n ≤ m → Holds Inside (opsAt t s n at i)
     unfolding opsAt
-    by-opsAt t zero at i l k = l
-    by-opsAt t (suc n) at i l k =
-        by-then Inside Inside (opAt t s at i) _ (by-op t at i l (omega arith)) λ x m.
-        by-then Inside Inside (opsAt t s n (x .next) (i + 1)) _ (by-opsAt t n (x .next) (i + 1) m (omega arith)) λ xs m₁. m₁
+    by-opsAt t zero at i m four l k = l
+    by-opsAt t (suc n) at i m four l k =
+        by-then Inside Inside (opAt t s at i) _ (by-op t at i l (four i (omega arith))) λ x q.
+        by-then Inside Inside (opsAt t s n (x .next) (i + 1)) _ (by-opsAt t n (x .next) (i + 1) m four q (omega arith)) λ xs q₁. q₁
 
-    by-batchCount : (at : ℕ) → at ≤ length s → Holds (Counted 16384) (batchCountAt s at)
+    by-batchCount : (at : ℕ) → P 5 0 → P 3 0 → at ≤ length s → Holds Inside (batchCountAt s at)
     unfolding batchCountAt
-    by-batchCount at l =
-        by-refuse (Counted 16384) (ltb (length s) (at + 4)) 2 at _ (two at l) λ e.
-        by-refuse (Counted 16384) (ltb ((length s - (at + 4)) / 5) (leAt 4 s at)) 5 0 _ five λ e₁.
-        by-refuse (Counted 16384) (ltb 16384 (leAt 4 s at)) 3 0 _ three λ e₂. (ltb-false 16384 (leAt 4 s at) e₂, ltb-false (length s) (at + 4) e)
+    by-batchCount at five three l =
+        by-refuse Inside (ltb (length s) (at + 4)) 2 at _ (two at l) λ e.
+        by-refuse Inside (ltb ((length s - (at + 4)) / 5) (leAt 4 s at)) 5 0 _ five λ e₁.
+        by-refuse Inside (ltb 16384 (leAt 4 s at)) 3 0 _ three λ e₂. ltb-false (length s) (at + 4) e
 
-    abbrev Batches : Item Head → Type 0
-    Batches h = h .item .batches ≤ 16384
+    -- no room for operations, and none for batches
+    Narrow : Room → ℕ → Type 0
+    Narrow room at = (n : Item ℕ) → countAt s at ≡ good n → not (leb (n .item) (room .codes) && leb (n .item) (room .values)) ≡ true → P 13 0
 
-    by-head : (t : List ℕ) (at : ℕ) (room : Room) → at ≤ length s → Holds Batches (headAt t s at room)
-    unfolding headAt
-    by-head t at room l =
-        by-then (Counted 65535) Batches (countAt s at) _ (by-count at l) λ n q₁.
-        by-refuse Batches (not (leb (n .item) (room .codes) && leb (n .item) (room .values))) 13 0 _ thirteen λ e₁.
-        by-then Inside Batches (opsAt t s (n .item) (n .next) 0) _ (by-opsAt t (n .item) (n .next) 0 (q₁ .1) (omega (arith, q₁ .0))) λ xs q₂.
-        by-then (Counted 16384) Batches (batchCountAt s (xs .next)) _ (by-batchCount (xs .next) q₂) λ k q₃.
-        by-refuse Batches (ltb (room .records) (k .item)) 13 0 _ thirteen λ e₂. q₃ .0
+    Scarce : Room → Type 0
+    Scarce room = (k : Item ℕ) (at : ℕ) → batchCountAt s at ≡ good k → ltb (room .records) (k .item) ≡ true → P 13 0
 
-  module _ (s : List ℕ) (batch : (p : ℕ) → p < 16384 → P 6 p × P 7 p × P 8 p × P 9 p × P 10 p) (eleven : P 11 0) where
+    by-head : (t : List ℕ) (at : ℕ) (room : Room) → P 3 0 → ((p : ℕ) → p < told (countAt s at) → P 4 p) → P 5 0 → Narrow room at → Scarce room → at ≤ length s → Holds Any (headAt t s at room)
+    unfolding headAt Narrow Scarce
+    by-head t at room three four five narrow scarce l =
+        by-stage Inside Any (countAt s at) _ (by-count at three l) λ n e q₁.
+        by-case Any (not (leb (n .item) (room .codes) && leb (n .item) (room .values))) 13 0 _ (narrow n e) λ e₁.
+        by-then Inside Any (opsAt t s (n .item) (n .next) 0) _ (by-opsAt t (n .item) (n .next) 0 (told (countAt s at)) four q₁ (omega (arith, ap told e))) λ xs q₂.
+        by-stage Inside Any (batchCountAt s (xs .next)) _ (by-batchCount (xs .next) five three q₂) λ k e₂ q₃.
+        by-case Any (ltb (room .records) (k .item)) 13 0 _ (scarce k (xs .next) e₂) λ e₃. tt
+
+  module _ (s : List ℕ) (most : ℕ) (batch : (p : ℕ) → p < most → P 6 p × P 7 p × P 8 p × P 9 p × P 10 p) (eleven : P 11 0) where
     abbrev Length : ℕ → Item (List (List ℕ)) → Type 0
     Length k i = length (i .item) ≡ k
 
-    by-nibbles : (w k at b : ℕ) → b + k ≤ 16384 → Holds (Length k) (nibblesAt w s k at b)
+    by-nibbles : (w k at b : ℕ) → b + k ≤ most → Holds (Length k) (nibblesAt w s k at b)
     unfolding nibblesAt sizesAt
     by-nibbles w zero at b l = refl
     by-nibbles w (suc k) at b l =
@@ -188,7 +201,7 @@ module _ (P : ℕ → ℕ → Type 0) where
         (by-refuse Any (not (upTo 9 ns)) 6 b _ (batch b (omega arith) .0) λ e₁. by-refuse Any (not (upTo 0 (drop w ns))) 6 b _ (batch b (omega arith) .0) λ e₂. tt) λ i q.
         by-then (Length k) (Length (suc k)) (nibblesAt w s k (i .next) (b + 1)) _ (by-nibbles w k (i .next) (b + 1) (omega arith)) λ j r. ap suc r
 
-    by-flags : (w k at b : ℕ) → b + k ≤ 16384 → Holds Any (flagsAt w s k at b)
+    by-flags : (w k at b : ℕ) → b + k ≤ most → Holds Any (flagsAt w s k at b)
     unfolding flagsAt bitsAt
     by-flags w zero at b l = tt
     by-flags w (suc k) at b l =
@@ -196,24 +209,25 @@ module _ (P : ℕ → ℕ → Type 0) where
         by-then Any Any (flagsAt w s k (i .next) (b + 1)) _ (by-flags w k (i .next) (b + 1) (omega arith)) λ j r. tt
 
     abbrev Few : Item Layout → Type 0
-    Few l = length (l .item .sizes) ≤ 16384
+    Few l = length (l .item .sizes) ≤ most
 
-    by-layout : (w k at : ℕ) → k ≤ 16384 → Holds Few (layoutAt w s k at)
+    by-layout : (w k at : ℕ) → k ≤ most → Holds Few (layoutAt w s k at)
     unfolding layoutAt
     by-layout w k at l =
         by-then (Length k) Few (nibblesAt w s k at 0) _ (by-nibbles w k at 0 (omega arith)) λ i q.
         by-then Any Few (flagsAt w s k (i .next) 0) _ (by-flags w k (i .next) 0 (omega arith)) λ j r. omega (arith, q)
 
     module _ (w : ℕ) (t : List ℕ) (xs : List Op) where
-      by-batch : (at b : ℕ) (ns fs : List ℕ) → b < 16384 → Holds Any (batchAt w t xs at b ns fs)
+      by-batch : (at b : ℕ) (ns fs : List ℕ) → b < most → Holds Any (batchAt w t xs at b ns fs)
       unfolding batchAt
       by-batch at b ns fs l =
           let h = batch b l in
+          let gs = cut (take w ns) xs at in
           by-refuse Any (ltb (length xs) (at + total ns)) 7 b _ (h .1) λ e₁.
-          by-then Any Any (slots t b (take w ns) [] xs at) _ (by-slots t b (h .2) (h .3) (take w ns) [] xs at) λ i q.
-          by-refuse Any (not (paddingRight (take (length (i .item)) (cut ns xs at)) fs)) 10 b _ (h .4) λ e₂. tt
+          by-one Any b (placingsFault t gs) _ (by-placings t gs b (h .2) (h .3))
+          (by-refuse Any (not (paddingRight (take (countFrom t 0 0 gs) gs) fs)) 10 b _ (h .4) λ e₂. tt)
 
-      by-batches : (nss fss : List (List ℕ)) (at b : ℕ) → b + length nss ≤ 16384 → Holds Any (batchesAt w t xs at b nss fss)
+      by-batches : (nss fss : List (List ℕ)) (at b : ℕ) → b + length nss ≤ most → Holds Any (batchesAt w t xs at b nss fss)
       unfolding batchesAt
       by-batches [] fss at b l = tt
       by-batches (ns ∷ nss) [] at b l = tt
@@ -221,7 +235,7 @@ module _ (P : ℕ → ℕ → Type 0) where
           by-then Any Any (batchAt w t xs at b ns fs) _ (by-batch at b ns fs (omega arith)) λ i q.
           by-then Any Any (batchesAt w t xs (i .next) (b + 1) nss fss) _ (by-batches nss fss (i .next) (b + 1) (omega arith)) λ j r. tt
 
-      by-records : (l : Layout) → length (l .sizes) ≤ 16384 → Holds Any (batchesBy w t xs l)
+      by-records : (l : Layout) → length (l .sizes) ≤ most → Holds Any (batchesBy w t xs l)
       unfolding batchesBy
       by-records l k =
           by-then Any Any (batchesAt w t xs 0 0 (l .sizes) (l .flags)) _ (by-batches (l .sizes) (l .flags) 0 0 (omega arith)) λ i q.
@@ -244,17 +258,22 @@ lists-same [] vs = omega arith
 lists-same (c ∷ cs) [] = omega arith
 lists-same (c ∷ cs) (v ∷ vs) = omega (arith, lists-same cs vs)
 
--- the k-th of some refusals; past them one that has no place
-pick : ℕ → List Refusal → Refusal
-pick k [] = 0 of 0
-pick zero (r ∷ rs) = r
-pick (suc k) (r ∷ rs) = pick k rs
+true-false : true ≡ false → ⊥
+true-false h = let z : _≡_ {A = ℕ} 1 0 = ap (λ (b : Bool). cond b 1 0) h in omega arith
 
-listed : (k : ℕ) (rs : List Refusal) (p : ℕ) → p < pick k rs .places → OneOf rs (pick k rs .number) p
-unfolding pick
-listed k [] p l = absurd (omega arith)
-listed zero (r ∷ rs) p l = inl (refl, l)
-listed (suc k) (r ∷ rs) p l = inr (listed k rs p l)
+-- how many places a number has among some refusals
+placesFor : ℕ → List Refusal → ℕ
+placesFor n [] = 0
+placesFor n (r ∷ rs) = cond (eqb n (r .number)) (r .places) (placesFor n rs)
+
+listed : (n : ℕ) (rs : List Refusal) (p : ℕ) → p < placesFor n rs → OneOf rs n p
+unfolding placesFor
+listed n [] p l = absurd (omega arith)
+listed n (r ∷ rs) p l = go (eqb n (r .number)) refl l (listed n rs p)
+  where
+    go : (b : Bool) → eqb n (r .number) ≡ b → p < cond b (r .places) (placesFor n rs) → (p < placesFor n rs → OneOf rs n p) → OneOf (r ∷ rs) n p
+    go true e l f = inl (eqb-true n (r .number) e, l)
+    go false e l f = inr (f l)
 
 as-many : (rs : List Record) (xs : List Op) (at : ℕ) → length (heldFrom rs xs at) ≡ length rs
 unfolding heldFrom
@@ -263,7 +282,7 @@ as-many (r ∷ rs) xs at = ap suc (as-many rs xs (at + ninth r))
 
 module _ (w : ℕ) where
   build : (t cs vs : List ℕ) (room : Room) → Replies (buildRefusals (length cs)) (built w t cs vs room)
-  unfolding built pick
+  unfolding built placesFor
   build t cs vs room =
       let rs = buildRefusals (length cs) in
       let P = OneOf rs in
@@ -271,53 +290,94 @@ module _ (w : ℕ) where
       let b = blockOf (batchesOf w t (operations cs vs)) in
       let l = lists-same cs vs in
       replies rs Q (built w t cs vs room)
-      (by-refuse P Q (not (eqb (length cs) (length vs)) || ltb 16384 (length cs)) 3 0 _ (listed 0 rs 0 (omega arith)) λ e₁.
-      by-refuse P Q (not (goodTable t)) 14 0 _ (listed 1 rs 0 (omega arith)) λ e₂.
-      by-refuse P Q (eqb (length cs) 0) 12 0 _ (listed 2 rs 0 (omega arith)) λ e₃.
-      by-ops P Q t (operations cs vs) _ (λ p k. listed 3 rs p (omega arith))
-      (by-refuse P Q (not (roomFor b room)) 13 0 _ (listed 4 rs 0 (omega arith)) λ e₄. tt))
+      (by-refuse P Q (not (eqb (length cs) (length vs)) || ltb 16384 (length cs)) 3 0 _ (listed 3 rs 0 (omega arith)) λ e₁.
+      by-refuse P Q (not (goodTable t)) 14 0 _ (listed 14 rs 0 (omega arith)) λ e₂.
+      by-refuse P Q (eqb (length cs) 0) 12 0 _ (listed 12 rs 0 (omega arith)) λ e₃.
+      by-ops P Q t (operations cs vs) _ (λ p k. listed 4 rs p (omega arith))
+      (by-refuse P Q (not (roomFor b room)) 13 0 _ (listed 13 rs 0 (omega arith)) λ e₄. tt))
 
   encode : (t : List ℕ) (a : Arena) (size at : ℕ) → Replies (encodeRefusals (ops a) (batches a)) (encoded w t a size at)
-  unfolding encoded pick
+  unfolding encoded placesFor
   encode t a size at =
       let rs = encodeRefusals (ops a) (batches a) in
       let P = OneOf rs in
       let Q : List ℕ → Type 0 = Any P in
       let b = blockIn a in
       replies rs Q (encoded w t a size at)
-      (by-refuse P Q (not (within a) || ltb 1048576 size) 3 0 _ (listed 0 rs 0 (omega arith)) λ e₁.
-      by-refuse P Q (not (goodTable t)) 14 0 _ (listed 1 rs 0 (omega arith)) λ e₂.
-      by-refuse P Q (ltb size at) 1 0 _ (listed 2 rs 0 (omega arith)) λ e₃.
-      by-structure P Q w b _ (λ p k. listed 3 rs p k)
+      (by-refuse P Q (not (within a) || ltb 1048576 size) 3 0 _ (listed 3 rs 0 (omega arith)) λ e₁.
+      by-refuse P Q (not (goodTable t)) 14 0 _ (listed 14 rs 0 (omega arith)) λ e₂.
+      by-refuse P Q (ltb size at) 1 0 _ (listed 1 rs 0 (omega arith)) λ e₃.
+      by-structure P Q w b _ (λ p k. listed 15 rs p k)
       (by-ops P Q t (b .ops) _ (λ p k. listed 4 rs p k)
-      (by-refuse P Q (ltb size (at + length (blockBytes t b))) 13 0 _ (listed 5 rs 0 (omega arith)) λ e₄. tt)))
+      (by-refuse P Q (ltb size (at + length (blockBytes t b))) 13 0 _ (listed 13 rs 0 (omega arith)) λ e₄. tt)))
 
-  decode : (t s : List ℕ) (at : ℕ) (room : Room) → Replies (decodeRefusals (length s)) (decoded w t s at room)
-  unfolding decoded blockAt pick
+  decode : (t s : List ℕ) (at : ℕ) (room : Room) → Replies (decodeRefusals (length s) (told (countAt s at)) (toldBatches (headAt t s at room))) (decoded w t s at room)
+  unfolding decoded blockAt placesFor Narrow Scarce
   decode t s at room =
-      let rs = decodeRefusals (length s) in
+      let k = toldBatches (headAt t s at room) in
+      let rs = decodeRefusals (length s) (told (countAt s at)) k in
       let P = OneOf rs in
       let Q : Item Block → Type 0 = Any P in
-      let two : (p : ℕ) → p ≤ length s → P 2 p = λ p l. listed 3 rs p (omega arith) in
-      let three : P 3 0 = listed 0 rs 0 (omega arith) in
-      let four : (p : ℕ) → p < 65535 → P 4 p = λ p l. listed 5 rs p l in
-      let batch : (p : ℕ) → p < 16384 → P 6 p × P 7 p × P 8 p × P 9 p × P 10 p = λ p l. (listed 7 rs p l, listed 8 rs p l, listed 9 rs p l, listed 10 rs p l, listed 11 rs p l) in
-      let eleven : P 11 0 = listed 12 rs 0 (omega arith) in
+      let two : (p : ℕ) → p ≤ length s → P 2 p = λ p l. listed 2 rs p (omega arith) in
+      let three : P 3 0 = listed 3 rs 0 (omega arith) in
+      let four : (p : ℕ) → p < told (countAt s at) → P 4 p = λ p l. listed 4 rs p l in
+      let five : P 5 0 = listed 5 rs 0 (omega arith) in
+      let batch : (p : ℕ) → p < k → P 6 p × P 7 p × P 8 p × P 9 p × P 10 p = λ p l. (listed 6 rs p l, listed 7 rs p l, listed 8 rs p l, listed 9 rs p l, listed 10 rs p l) in
+      let eleven : P 11 0 = listed 11 rs 0 (omega arith) in
+      let thirteen : P 13 0 = listed 13 rs 0 (omega arith) in
       replies rs Q (decoded w t s at room)
       (by-refuse P Q (ltb 1048576 (length s)) 3 0 _ three λ e₁.
-      by-refuse P Q (not (goodTable t)) 14 0 _ (listed 1 rs 0 (omega arith)) λ e₂.
-      by-refuse P Q (ltb (length s) at) 1 0 _ (listed 2 rs 0 (omega arith)) λ e₃.
-      by-then P _ Q (headAt t s at room) _ (by-head P s two three four (listed 6 rs 0 (omega arith)) (listed 4 rs 0 (omega arith)) t at room (ltb-false (length s) at e₃)) λ h q₁.
-      by-then P _ Q (layoutAt w s (h .item .batches) (h .next)) _ (by-layout P s batch eleven w (h .item .batches) (h .next) q₁) λ l q₂.
-      by-then P _ Q (batchesBy w t (h .item .ops) (l .item)) _ (by-records P s batch eleven w t (h .item .ops) (l .item) q₂) λ r q₃. tt)
+      by-refuse P Q (not (goodTable t)) 14 0 _ (listed 14 rs 0 (omega arith)) λ e₂.
+      by-refuse P Q (ltb (length s) at) 1 0 _ (listed 1 rs 0 (omega arith)) λ e₃.
+      by-stage P (Any P) Q (headAt t s at room) _ (by-head P s two t at room three four five (λ n e f. thirteen) (λ n i e f. thirteen) (ltb-false (length s) at e₃)) λ h e q₁.
+      by-then P _ Q (layoutAt w s (h .item .batches) (h .next)) _ (by-layout P s k batch eleven w (h .item .batches) (h .next) (omega (arith, ap toldBatches e))) λ l q₂.
+      by-then P _ Q (batchesBy w t (h .item .ops) (l .item)) _ (by-records P s k batch eleven w t (h .item .ops) (l .item) q₂) λ r q₃. tt)
+
+  head : (t s : List ℕ) (at : ℕ) → Replies (headRefusals (length s) (told (countAt s at))) (headed t s at)
+  unfolding headed placesFor Narrow Scarce
+  head t s at =
+      let rs = headRefusals (length s) (told (countAt s at)) in
+      let P = OneOf rs in
+      let Q : Item Head → Type 0 = Any P in
+      let two : (p : ℕ) → p ≤ length s → P 2 p = λ p l. listed 2 rs p (omega arith) in
+      let three : P 3 0 = listed 3 rs 0 (omega arith) in
+      replies rs Q (headed t s at)
+      (by-refuse P Q (ltb 1048576 (length s)) 3 0 _ three λ e₁.
+      by-refuse P Q (not (goodTable t)) 14 0 _ (listed 14 rs 0 (omega arith)) λ e₂.
+      by-refuse P Q (ltb (length s) at) 1 0 _ (listed 1 rs 0 (omega arith)) λ e₃.
+      by-head P s two t at most three (λ p l. listed 4 rs p l) (listed 5 rs 0 (omega arith))
+      (λ n e f. let l = count-limit s w (n .item) at (n .next) e in absurd (true-false (sym f ∙ rw (le-leb (n .item) 65535 l))))
+      (λ k i e f. let l = batchCount-limit s w (k .item) i (k .next) e in absurd (true-false (sym f ∙ le-ltb 16384 (k .item) l))) (ltb-false (length s) at e₃))
+
+  reader-count : (s : List ℕ) (at : ℕ) → Replies (countRefusals (length s)) (countHere s at)
+  unfolding countHere placesFor
+  reader-count s at =
+      let rs = countRefusals (length s) in
+      let P = OneOf rs in
+      let two : (p : ℕ) → p ≤ length s → P 2 p = λ p l. listed 2 rs p (omega arith) in
+      let three : P 3 0 = listed 3 rs 0 (omega arith) in
+      replies rs (Inside P s two) (countHere s at)
+      (by-refuse P (Inside P s two) (ltb 1048576 (length s)) 3 0 _ three λ e₁.
+      by-refuse P (Inside P s two) (ltb (length s) at) 1 0 _ (listed 1 rs 0 (omega arith)) λ e₂. by-count P s two at three (ltb-false (length s) at e₂))
+
+  reader-op : (t s : List ℕ) (at i : ℕ) → Replies (opRefusals (length s) i) (opHere t s at i)
+  unfolding opHere placesFor
+  reader-op t s at i =
+      let rs = opRefusals (length s) i in
+      let P = OneOf rs in
+      let two : (p : ℕ) → p ≤ length s → P 2 p = λ p l. listed 2 rs p (omega arith) in
+      replies rs (Inside P s two) (opHere t s at i)
+      (by-refuse P (Inside P s two) (ltb 1048576 (length s)) 3 0 _ (listed 3 rs 0 (omega arith)) λ e₁.
+      by-refuse P (Inside P s two) (not (goodTable t)) 14 0 _ (listed 14 rs 0 (omega arith)) λ e₂.
+      by-refuse P (Inside P s two) (ltb (length s) at) 1 0 _ (listed 1 rs 0 (omega arith)) λ e₃. by-op P s two t at i (ltb-false (length s) at e₃) (listed 4 rs i (omega arith)))
 
   structure : (a : Arena) → Replies (structureRefusals (batches a)) (structureChecked w a)
-  unfolding structureChecked pick
+  unfolding structureChecked placesFor
   structure a =
       let rs = structureRefusals (batches a) in
       let P = OneOf rs in
       let Q : Unit {0} → Type 0 = Any P in
-      replies rs Q (structureChecked w a) (by-refuse P Q (not (within a)) 3 0 _ (listed 0 rs 0 (omega arith)) λ e. by-structure P Q w (blockIn a) _ (λ p k. listed 1 rs p k) tt)
+      replies rs Q (structureChecked w a) (by-refuse P Q (not (within a)) 3 0 _ (listed 3 rs 0 (omega arith)) λ e. by-structure P Q w (blockIn a) _ (λ p k. listed 15 rs p k) tt)
 
   -- the padding check's faults, for the padding check and the tables
   by-padding : (P : ℕ → ℕ → Type 0) {A : Type 0} (Q : A → Type 0) (b : Block) (r : Answer A) → ((p : ℕ) → p < length (b .records) → P 10 p) → Holds P Q r → Holds P Q (refuseFirst 0 (paddingFaults b) r)
@@ -326,40 +386,40 @@ module _ (w : ℕ) where
       by-first P Q paddingFault (length (b .records)) (λ x p l. by-cond P (paddingRight (underCount x) (x .batch .flags)) 10 p (h p l)) 0 (held b) r (omega (arith, as-many (b .records) (b .ops) 0)) k
 
   padding : (a : Arena) → Replies (paddingRefusals (batches a)) (paddingChecked w a)
-  unfolding paddingChecked pick
+  unfolding paddingChecked placesFor
   padding a =
       let rs = paddingRefusals (batches a) in
       let P = OneOf rs in
       let Q : Unit {0} → Type 0 = Any P in
       replies rs Q (paddingChecked w a)
-      (by-refuse P Q (not (within a)) 3 0 _ (listed 0 rs 0 (omega arith)) λ e.
-      by-structure P Q w (blockIn a) _ (λ p k. listed 1 rs p k) (by-padding P Q (blockIn a) _ (λ p k. listed 2 rs p k) tt))
+      (by-refuse P Q (not (within a)) 3 0 _ (listed 3 rs 0 (omega arith)) λ e.
+      by-structure P Q w (blockIn a) _ (λ p k. listed 15 rs p k) (by-padding P Q (blockIn a) _ (λ p k. listed 10 rs p k) tt))
 
   commitment : (t : List ℕ) (a : Arena) → Replies (commitmentRefusals (ops a) (batches a)) (commitmentChecked w t a)
-  unfolding commitmentChecked commitmentFaults held pick
+  unfolding commitmentChecked commitmentFaults held placesFor
   commitment t a =
       let rs = commitmentRefusals (ops a) (batches a) in
       let P = OneOf rs in
       let Q : Unit {0} → Type 0 = Any P in
       let b = blockIn a in
       replies rs Q (commitmentChecked w t a)
-      (by-refuse P Q (not (within a)) 3 0 _ (listed 0 rs 0 (omega arith)) λ e₁.
-      by-refuse P Q (not (goodTable t)) 14 0 _ (listed 1 rs 0 (omega arith)) λ e₂.
-      by-structure P Q w b _ (λ p k. listed 2 rs p k)
-      (by-ops P Q t (b .ops) _ (λ p k. listed 3 rs p k)
-      (by-first P Q (commitmentFault t) (batches a) (λ x p k. by-commitment P t x p (listed 5 rs p k) (listed 6 rs p k) (listed 4 rs p k)) 0 (held b) _ (omega (arith, as-many (b .records) (b .ops) 0)) tt)))
+      (by-refuse P Q (not (within a)) 3 0 _ (listed 3 rs 0 (omega arith)) λ e₁.
+      by-refuse P Q (not (goodTable t)) 14 0 _ (listed 14 rs 0 (omega arith)) λ e₂.
+      by-structure P Q w b _ (λ p k. listed 15 rs p k)
+      (by-ops P Q t (b .ops) _ (λ p k. listed 4 rs p k)
+      (by-first P Q (commitmentFault t) (batches a) (λ x p k. by-commitment P t x p (listed 8 rs p k) (listed 9 rs p k) (listed 16 rs p k)) 0 (held b) _ (omega (arith, as-many (b .records) (b .ops) 0)) tt)))
 
   table : (entries : Block → List ℕ) (a : Arena) (room : ℕ) → Replies (tableRefusals (batches a)) (tableOf entries w a room)
-  unfolding tableOf pick
+  unfolding tableOf placesFor
   table entries a room =
       let rs = tableRefusals (batches a) in
       let P = OneOf rs in
       let Q : List ℕ → Type 0 = Any P in
       replies rs Q (tableOf entries w a room)
-      (by-refuse P Q (not (within a)) 3 0 _ (listed 0 rs 0 (omega arith)) λ e₁.
-      by-structure P Q w (blockIn a) _ (λ p k. listed 1 rs p k)
-      (by-padding P Q (blockIn a) _ (λ p k. listed 2 rs p k)
-      (by-refuse P Q (ltb room (length (entries (blockIn a)))) 13 0 _ (listed 3 rs 0 (omega arith)) λ e₂. tt)))
+      (by-refuse P Q (not (within a)) 3 0 _ (listed 3 rs 0 (omega arith)) λ e₁.
+      by-structure P Q w (blockIn a) _ (λ p k. listed 15 rs p k)
+      (by-padding P Q (blockIn a) _ (λ p k. listed 10 rs p k)
+      (by-refuse P Q (ltb room (length (entries (blockIn a)))) 13 0 _ (listed 13 rs 0 (omega arith)) λ e₂. tt)))
 
   module _ {A : Type 0} where
     lookup : (b : Bool) (a : A) → Replies lookupRefusals (refuse b 15 0 (good a))
@@ -388,6 +448,9 @@ module _ (w : ℕ) where
         build = build;
         encode = encode;
         decode = decode;
+        head = head;
+        reader-count = reader-count;
+        reader-op = reader-op;
         structure = structure;
         padding = padding;
         commitment = commitment;

@@ -23,11 +23,15 @@ use Rattle.rules.specs.Open.{document}
 use Rattle.rules.proofs.Answer.{first-turn, first-append, first-done}
 use Rattle.rules.proofs.Operations.{Admissible, to-admissible, fault-none, noop-kind, noop-plain, codes-back, true-left, true-right}
 use Rattle.rules.proofs.Digits.{length-digits}
-use Rattle.claims.specs.Shape.{All, rawIn, raw, raws, EndsInNoop, RightGroup, PowerOfTwo, is1, is2, is4, is8, RightBatch, RightBatches}
+use Rattle.claims.specs.Shape.{All, EndsInNoop, PowerOfTwo, is1, is2, is4, is8}
+use Rattle.claims.proofs.Shape.{rawIn, raw, raws, RightGroup, RightBatch, RightBatches}
+use Rattle.claims.specs.Finished.{Bytes}
 use Rattle.claims.specs.Demand3.{lent, Premises, Demand3}
 use Rattle.claims.proofs.Lists.{all-append, all-left, all-map}
 use Rattle.claims.proofs.Batching.{list-back, raws-append}
 use Rattle.claims.proofs.Right.{Width, Whole, whole-batches, right-batches}
+use Rattle.claims.proofs.Sizes.{block-size}
+use Rattle.claims.proofs.Left.{left}
 use Rattle.claims.proofs.Stands.{Taken}
 use Rattle.claims.proofs.Once.{block-taken}
 use Rattle.claims.proofs.Arena.{block-in, lent-within, roomed, front-lent}
@@ -46,7 +50,7 @@ module _ (t : List ℕ) (P : Op → Type 0) (z : P noop) where
   all-right [] ys h = h
   all-right (x ∷ xs) ys h = all-right xs ys (h .1)
 
-  with-last : (xs : List Op) → EndsInNoop true xs → All P (butLast xs) → All P xs
+  with-last : (xs : List Op) → EndsInNoop xs → All P (butLast xs) → All P xs
   with-last [] e h = elim e [ ]
   with-last (x ∷ []) e h = (rw e z, tt)
   with-last (x ∷ y ∷ xs) e h = (h .0, with-last (y ∷ xs) e (h .1))
@@ -143,42 +147,6 @@ module _ (t : List ℕ) where
             let m = many (d .batches) h in
             rw e (simp length-append (omega (arith, m .0)), rw (padded-append (d .batches) (gs ∷ []), length-append) (omega (arith, m .1, one-padded gs, grown-batch gs, last-most w (d .batches) gs (rw e at r), width .eight)))
 
--- ---- the longest block
-
-module _ (t : List ℕ) where
-  op-size : (x : Op) → length (opBytes t x) ≤ 9
-  unfolding opBytes
-  op-size x = go (valued t (x .code))
-    where
-      go : (b : Bool) → suc (length (cond b (leBytes 8 (x .value)) [])) ≤ 9
-      go true = omega (arith, length-digits 256 8 (x .value))
-      go false = omega arith
-
-  ops-size : (xs : List Op) → length (opsBytes t xs) ≤ 9 * length xs
-  unfolding opsBytes
-  ops-size [] = omega arith
-  ops-size (x ∷ xs) = simp length-append (omega (arith, op-size x, ops-size xs))
-
-  more-size : (v : ℕ) → more v ≤ 2
-  unfolding more
-  more-size v = go (ltb v 128) (ltb v 16384)
-    where
-      go : (a b : Bool) → cond a 0 (cond b 1 2) ≤ 2
-      go true b = omega arith
-      go false true = omega arith
-      go false false = omega arith
-
-  pub block-size : (blk : Block) → length (blk .ops) ≤ 65535 → length (blk .records) ≤ 16384 → length (blockBytes t blk) ≤ 671742
-  unfolding blockBytes
-  block-size blk h k =
-      let a = length-count (length (blk .ops)) in
-      let b = more-size (length (blk .ops)) in
-      let c = ops-size (blk .ops) in
-      let d = length-digits 256 4 (length (blk .records)) in
-      let e = length-nibbles (blk .records) in
-      let f = length-flags (blk .records) in
-      simp length-append (omega arith)
-
 -- ---- where nothing is at fault, nothing is refused
 
 module _ {A B : Type 0} (f : B → ℕ) where
@@ -270,7 +238,8 @@ module _ (w : ℕ) (width : Width w) (t : List ℕ) (xs : List Op) (h : Premises
   short : length bytes ≤ 671742
   short = block-size t block (few-block .0) (few-block .1)
 
-  takes : Encodable w t block
+  -- what is built passes every check of encoding
+  pub takes : Encodable w t block
   takes =
       let room : Room = record { codes = length (paddedOf batches); values = length (paddedOf batches); records = length batches } in
       let small : length (bytes ++ []) ≤ 1048576 = rw (append-nil bytes) (omega (arith, short)) in
@@ -293,13 +262,12 @@ module _ (w : ℕ) (width : Width w) (t : List ℕ) (xs : List Op) (h : Premises
         e,
       )
 
-  pub demand3 : Demand3 w t xs (batchesOf w t xs)
+  pub demand3 : Demand3 w t xs (blockOf (batchesOf w t xs))
   demand3 =
       record {
         builds = builds;
         leaves = λ out e. front-lent out block (takes .sized) e;
-        back = list-back t w xs;
-        right = right;
+        left = left w width t (h .table) xs;
         writes = λ size at l k. written w t block size at takes l k;
         reads = λ p q room l e. let r = room-parts room e in read-within p q room l (r .0) (r .1) (r .2);
         few = few-block;
@@ -313,12 +281,6 @@ met = record { table = refl; some = omega arith; most = omega arith; admitted = 
 
 -- ---- and the other way: no two byte strings for one block
 
--- whatever decoding takes, encoding writes byte for byte what stands there
-pub again : (w : ℕ) (t s : List ℕ) (at : ℕ) (room : Room) (blk : Block) (next size to : ℕ) → ((i : ℕ) → getD s i 0 < 256) → decoded w t s at room ≡ found blk next
-    → size ≤ 1048576 → to + length (blockBytes t blk) ≤ size
-    → (encoded w t (lent blk) size to ≡ good (blockBytes t blk)) × Taken (blockBytes t blk) s at next
-again w t s at room blk next size to bs h l k = (written w t blk size to (encodable w t s at room blk next h) l k, block-taken s bs w t at room blk next h)
-
 taken-part : (b s : List ℕ) (at next : ℕ) → Taken b s at next → take (next - at) (drop at s) ≡ b
 taken-part b s at next h =
     let st = h .stands in
@@ -326,8 +288,16 @@ taken-part b s at next h =
     let d : drop at s ≡ b ++ st .after = rw (st .place, st .whole) (drop-append-seam (st .before) (b ++ st .after)) in
     rw (e, d) (take-append-seam b (st .after))
 
--- two byte strings that are taken for one block are the same
-pub once : (w : ℕ) (t s s′ : List ℕ) (at at′ : ℕ) (room room′ : Room) (blk : Block) (next next′ : ℕ) → ((i : ℕ) → getD s i 0 < 256) → ((i : ℕ) → getD s′ i 0 < 256)
-    → decoded w t s at room ≡ found blk next → decoded w t s′ at′ room′ ≡ found blk next′ → take (next - at) (drop at s) ≡ take (next′ - at′) (drop at′ s′)
-once w t s s′ at at′ room room′ blk next next′ bs bs′ h h′ =
-    taken-part (blockBytes t blk) s at next (block-taken s bs w t at room blk next h) ∙ sym (taken-part (blockBytes t blk) s′ at′ next′ (block-taken s′ bs′ w t at′ room′ blk next′ h′))
+module _ (w : ℕ) (t : List ℕ) where
+  stood : (s : List ℕ) → Bytes s → (at : ℕ) (room : Room) (b : Block) (next : ℕ) → decoded w t s at room ≡ found b next → take (next - at) (drop at s) ≡ blockBytes t b
+  stood s bytes at room b next h = taken-part (blockBytes t b) s at next (block-taken s bytes w t at room b next h)
+
+  -- whatever decoding takes, encoding writes byte for byte what stands there
+  pub again : (s : List ℕ) → Bytes s → (at : ℕ) (room : Room) (b : Block) (next : ℕ) → decoded w t s at room ≡ found b next → (size to : ℕ) → size ≤ 1048576 → to + length (blockBytes t b) ≤ size
+      → (encoded w t (lent b) size to ≡ good (blockBytes t b)) × (take (next - at) (drop at s) ≡ blockBytes t b)
+  again s bytes at room b next h size to l k = (written w t b size to (encodable w t s at room b next h) l k, stood s bytes at room b next h)
+
+  -- two byte strings that are taken for one block are the same
+  pub once : (s s′ : List ℕ) → Bytes s → Bytes s′ → (at at′ : ℕ) (room room′ : Room) (b : Block) (next next′ : ℕ)
+      → decoded w t s at room ≡ found b next → decoded w t s′ at′ room′ ≡ found b next′ → take (next - at) (drop at s) ≡ take (next′ - at′) (drop at′ s′)
+  once s s′ bytes bytes′ at at′ room room′ b next next′ h h′ = stood s bytes at room b next h ∙ sym (stood s′ bytes′ at′ room′ b next′ h′)

@@ -11,7 +11,7 @@ use lib.Dec.{ltb}
 use Rattle.rules.specs.Answer.{found}
 use Rattle.rules.specs.Record.{Block}
 use Rattle.rules.specs.Block.{Room, blockBytes}
-use Rattle.rules.specs.Functions.{roomFor, decoded}
+use Rattle.rules.specs.Functions.{roomFor, decoded, most}
 use Rattle.rules.proofs.Answer.{item, next}
 use Rattle.claims.specs.Settled.{settledBlock, Returns}
 use Rattle.claims.specs.Demand3.{lent}
@@ -24,10 +24,6 @@ use Rattle.claims.proofs.Once.{block-taken}
 use Rattle.claims.proofs.Again.{Encodable, encodable, had-room}
 use Rattle.claims.proofs.Passes.{decode-passes}
 use Rattle.claims.proofs.Settled.{returns}
-
--- room for every block within document 01's limits
-abbrev most : Room
-most = record { codes = 65535; values = 65535; records = 16384 }
 
 most-fits : (b : Block) → length (b .ops) ≤ 65535 → length (b .records) ≤ 16384 → roomFor b most ≡ true
 unfolding roomFor

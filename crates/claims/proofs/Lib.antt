@@ -1,14 +1,17 @@
+pub mod Shape
 pub mod Lists
 pub mod Stands
 pub mod Bytes
 pub mod Batching
+pub mod Ended
+pub mod Sizes
 pub mod Right
 pub mod Found
-pub mod Count
 pub mod Back
 pub mod Once
 pub mod Arena
 pub mod Again
+pub mod Left
 pub mod Demand3
 pub mod Passes
 pub mod Demand1
@@ -16,3 +19,4 @@ pub mod Checked
 pub mod Settled
 pub mod Finished
 pub mod OneList
+pub mod Claims

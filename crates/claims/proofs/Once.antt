@@ -13,15 +13,16 @@ use Rattle.rules.specs.Lists.{total}
 use Rattle.rules.specs.Digits.{digits, number, leAt, leBytes}
 use Rattle.rules.specs.Answer.{found}
 use Rattle.rules.specs.Operations.{Op, field, assigned, valued}
-use Rattle.rules.specs.Record.{Record, recordBy, Block}
+use Rattle.rules.specs.Record.{Record, Block, cut}
 use Rattle.rules.specs.Bytes.{least, countBy, countAt, more, countBytes, valueAt, opAt, opsAt, opBytes, opsBytes, batchCountAt, nibbleBytes, flagBytes, upTo, sizesAt, bitsAt, nibblesAt, flagsAt}
-use Rattle.rules.specs.Block.{Room, blockBytes, slots, cut, paddingRight, batchAt, batchesAt}
+use Rattle.rules.specs.Block.{Room, blockBytes, placingsFault, countFrom, batchAt, batchesAt}
+use Rattle.rules.specs.Checks.{paddingRight}
 use Rattle.rules.specs.Functions.{decoded}
 use Rattle.claims.proofs.Stands.{Stands, Taken, join, none, single, and-then, stands-fits, taken-fits}
 use Rattle.rules.proofs.Sizes.{more-0, more-1, more-2}
 use Rattle.claims.proofs.Bytes.{number-digits}
 use Rattle.rules.proofs.Digits.{length-digits}
-use Rattle.rules.proofs.Answer.{item, settle}
+use Rattle.rules.proofs.Answer.{item, settle, no-fault}
 use Rattle.rules.proofs.Answer as L
 use Rattle.claims.proofs.Found.{passed, came, Found, stages}
 use Rattle.claims.proofs.Back.{sizesOf, differences-starts}
@@ -226,18 +227,14 @@ record Kept (r : Record) (ns fs : List ℕ) : Type 0 where
   sizes : sizesOf r ≡ ns
   flags : r .flags ≡ fs
 
-by-kept : (ns fs vs : List ℕ) → Kept (recordBy ns fs vs) ns fs
-unfolding recordBy
-by-kept ns fs vs = record { sizes = differences-starts 0 ns; flags = refl }
-
 batch-kept : (w : ℕ) (t : List ℕ) (xs : List Op) (at b : ℕ) (ns fs : List ℕ) (r : Record) (next : ℕ) → batchAt w t xs at b ns fs ≡ found r next → Kept r ns fs
 unfolding batchAt
 batch-kept w t xs at b ns fs r next h =
+    let gs = cut (take w ns) xs at in
     let a = passed (ltb (length xs) (at + total ns)) 7 b _ r next h in
-    let d = came (slots t b (take w ns) [] xs at) _ r next (a .1) in
-    let e = passed (not (paddingRight (take (length (d .got)) (cut ns xs at)) fs)) 10 b _ r next (d .rest) in
-    let ex : recordBy ns fs (d .got) ≡ r = item (recordBy ns fs (d .got)) r (d .to) next (e .1) in
-    rw (sym ex) (by-kept ns fs (d .got))
+    let d = no-fault b (placingsFault t gs ∷ []) _ (record { item = r; next = next }) (a .1) in
+    let e = passed (not (paddingRight (take (countFrom t 0 0 gs) gs) fs)) 10 b _ r next (d .1) in
+    rw (sym (item _ r (at + total ns) next (e .1))) (record { sizes = differences-starts 0 ns; flags = refl })
 
 module _ (s : List ℕ) (bytes : (i : ℕ) → getD s i 0 < 256) where
   pub record Keeps (nss fss : List (List ℕ)) (rs : List Record) : Type 0 where

@@ -11,17 +11,17 @@ use lib.Dec.{eqb}
 use Rattle.rules.specs.Lists.{total}
 use Rattle.rules.specs.Digits.{digits}
 use Rattle.rules.specs.Operations.{Op, codes, kindOf, hasImmediate, admissible}
-use Rattle.rules.specs.Record.{Record, differences, codesNumber, recordsIn}
-use Rattle.rules.specs.Block.{part, cut, immediates}
+use Rattle.rules.specs.Record.{Record, differences, codesNumber, recordsIn, part, cut, immediates}
 use Rattle.rules.specs.Checks.{ninth, recordRight, heldFrom, held, begins, groupsFault, commitmentFault}
 use Rattle.rules.specs.Functions.{Arena, blockIn}
 use Rattle.rules.proofs.Operations.{Admissible, to-admissible, true-left, true-right}
 use Rattle.rules.proofs.Sizes.{length-codes}
 use Rattle.claims.specs.Shape.{All}
+use Rattle.claims.specs.Sizes.{NineAndEight}
 use Rattle.claims.specs.OneList.{SameOp, SameOps, OneList}
 use Rattle.claims.proofs.Bytes.{digits-number}
 use Rattle.claims.proofs.Again.{codes-below, part-allowed}
-use Rattle.claims.proofs.Checked.{or-first, group-right, Shaped, made, facts, shaped-in}
+use Rattle.claims.proofs.Checked.{or-first, group-right, made, facts, shaped-in}
 use Rattle.claims.proofs.Passes.{part-some}
 
 false-true : _≡_ {A = Bool} false true → ⊥
@@ -125,7 +125,7 @@ module _ (t : List ℕ) where
         let same = same-group g g′ nums (part-length (suc n) xs at (omega arith) ∙ sym (part-length (suc n) ys at (omega arith))) (part-allowed t (suc n) xs at ax) (part-allowed t (suc n) ys at ay) (sym (p .0) ∙ q .0) (p .2, q .2) in
         same-more at (suc n) (total ns) same (groups-same ns (at + suc n) c nums z (omega arith) (omega arith) (omega arith) (p .3) (q .3))
 
-    batches-same : (w : ℕ) (w8 : w ≤ 8) (rs : List Record) (at : ℕ) → All Shaped rs → All (λ r. recordRight w r ≡ true) rs
+    batches-same : (w : ℕ) (w8 : w ≤ 8) (rs : List Record) (at : ℕ) → All NineAndEight rs → All (λ r. recordRight w r ≡ true) rs
         → All (λ h. commitmentFault t h ≡ 0) (heldFrom rs xs at) → All (λ h. commitmentFault t h ≡ 0) (heldFrom rs ys at)
         → at + total (map ninth rs) ≤ length xs → at + total (map ninth rs) ≤ length ys → Same at (total (map ninth rs))
     unfolding total heldFrom commitmentFault

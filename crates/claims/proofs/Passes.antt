@@ -12,9 +12,10 @@ use Rattle.rules.specs.Lists.{fitted, total}
 use Rattle.rules.specs.Answer.{Answer, good, found, refuseFirst}
 use Rattle.rules.specs.Operations.{Op, opFault, admissible}
 use Rattle.rules.specs.Batching.{batchesOf}
-use Rattle.rules.specs.Record.{Record, Block, differences, codesNumber, recordBy, blockOf}
-use Rattle.rules.specs.Block.{Room, blockBytes, part, cut, immediates, emptyBefore, slots, paddingRight, batchAt, batchesAt}
-use Rattle.rules.specs.Checks.{Held, heldFrom, held, paddingFault, paddingFaults, placingFault, begins, groupsFault, emptyZero, commitmentFault, commitmentFaults}
+use Rattle.rules.specs.Record.{Record, Block, differences, codesNumber, recordBy, blockOf, part, cut, immediates}
+use Rattle.rules.specs.Block.{Room, blockBytes, batchAt, batchesAt}
+use Rattle.rules.proofs.Slots.{emptyBefore, slots, batchBy, batch-is, total-split, cut-front}
+use Rattle.rules.specs.Checks.{Held, heldFrom, held, paddingFault, paddingFaults, placingFault, begins, groupsFault, emptyZero, commitmentFault, commitmentFaults, paddingRight}
 use Rattle.rules.specs.Functions.{roomFor, decoded, structureChecked, paddingChecked, commitmentChecked}
 use Rattle.rules.proofs.Answer.{settle}
 use Rattle.claims.specs.Shape.{All}
@@ -24,7 +25,7 @@ use Rattle.claims.proofs.Right.{Width}
 use Rattle.claims.proofs.Found.{clash, passed, came, Found, stages}
 use Rattle.claims.proofs.Arena.{block-in, lent-within}
 use Rattle.claims.proofs.Back.{differences-starts, fitted-is}
-use Rattle.claims.proofs.Again.{Encodable, encodable, Sizes, Bits, nibbles-made, flags-made, ops-allowed, batch-made, total-split, laid}
+use Rattle.claims.proofs.Again.{Encodable, encodable, Sizes, Bits, nibbles-made, flags-made, ops-allowed, batch-made, laid}
 use Rattle.claims.proofs.Demand3.{none-first, ops-pass, structure-passes, demand3}
 use Rattle.claims.proofs.Lists.{all-map}
 
@@ -96,13 +97,6 @@ module _ (t : List ℕ) (b : ℕ) where
 
 -- ---- a batch
 
-cut-front : (j w : ℕ) (ns : List ℕ) (xs : List Op) (at : ℕ) → j ≤ w → take j (cut (take w ns) xs at) ≡ take j (cut ns xs at)
-unfolding cut
-cut-front zero w ns xs at h = refl
-cut-front (suc j) zero ns xs at h = absurd (omega arith)
-cut-front (suc j) (suc w) [] xs at h = refl
-cut-front (suc j) (suc w) (n ∷ ns) xs at h = ap (λ (l : List (List Op)). part n xs at ∷ l) (cut-front j w ns xs (at + n) (omega arith))
-
 -- a batch with its groups
 abbrev pub here : Record → List Op → ℕ → Held
 here r xs at = record { batch = r; groups = cut (differences (r .starts)) xs at }
@@ -119,9 +113,9 @@ module _ (w : ℕ) (t : List ℕ) (xs : List Op) where
       record { padding = rw (differences-starts 0 ns, p); commitment = rw (differences-starts 0 ns, e, r .groups, r .zeros) }
 
   batch-fine : (at b : ℕ) (ns fs : List ℕ) (r : Record) (next : ℕ) → Sizes w ns → batchAt w t xs at b ns fs ≡ found r next → Fine (here r xs at)
-  unfolding batchAt
+  unfolding batchBy
   batch-fine at b ns fs r next z h =
-      let a = passed (ltb (length xs) (at + total ns)) 7 b _ r next h in
+      let a = passed (ltb (length xs) (at + total ns)) 7 b _ r next (sym (batch-is w t xs at b ns fs (z .high)) ∙ h) in
       let d = came (slots t b (take w ns) [] xs at) _ r next (a .1) in
       let vs = d .got in
       let e = passed (not (paddingRight (take (length vs) (cut ns xs at)) fs)) 10 b _ r next (d .rest) in

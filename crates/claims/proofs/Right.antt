@@ -9,32 +9,12 @@ use lib.ListN.{length, length-append, length-map}
 use lib.Dec.{leb, ltb}
 use Rattle.rules.specs.Operations.{Op, hasImmediate, noop}
 use Rattle.rules.specs.Batching.{Group, ops, imm, Batch, empty, nextFree, fits, wantsNoop, closeGroup, groups, turned, full, ready, joined, added, target, turnedTimes, ended, Work, start, endBatch, room, step, steps, batchesOf}
-use Rattle.rules.specs.Block.{immediates}
-use Rattle.claims.specs.Shape.{All, raw, EndsInNoop, RightGroup, Follow, PowerOfTwo, is1, is2, is4, is8, RightBatch, RightBatches}
+use Rattle.rules.specs.Record.{immediates}
+use Rattle.claims.specs.Shape.{All, EndsInNoop, PowerOfTwo, is1, is2, is4, is8}
+use Rattle.claims.proofs.Shape.{raw, RightGroup, Follow, RightBatch, RightBatches}
 use Rattle.claims.proofs.Lists.{all-append, split}
 use Rattle.claims.proofs.Batching.{raw-groups, raw-ended}
-
--- ---- the target
-
-target-power : (n : ℕ) → PowerOfTwo (target n)
-unfolding target
-target-power n = go (leb n 1) (leb n 2) (leb n 4)
-  where
-    go : (a b c : Bool) → PowerOfTwo (cond a 1 (cond b 2 (cond c 4 8)))
-    go true b c = is1
-    go false true c = is2
-    go false false true = is4
-    go false false false = is8
-
-target-up : (n : ℕ) → n ≤ 8 → n ≤ target n
-unfolding target
-target-up n h = go (leb n 1) refl (leb n 2) refl (leb n 4) refl
-  where
-    go : (a : Bool) → leb n 1 ≡ a → (b : Bool) → leb n 2 ≡ b → (c : Bool) → leb n 4 ≡ c → n ≤ cond a 1 (cond b 2 (cond c 4 8))
-    go true p b q c r = leb-true n 1 p
-    go false p true q c r = leb-true n 2 q
-    go false p false q true r = leb-true n 4 r
-    go false p false q false r = h
+use Rattle.claims.proofs.Ended.{target-power, target-up, length-groups, next-turned, length-ended}
 
 -- what is asked of a width
 pub record Width (w : ℕ) : Type 0 where
@@ -72,7 +52,7 @@ module _ (w : ℕ) (width : Width w) (t : List ℕ) (plain : hasImmediate t noop
   wants-snoc (y ∷ []) x = refl
   wants-snoc (y ∷ z ∷ xs) x = wants-snoc (z ∷ xs) x
 
-  ends-snoc : (xs : List Op) → EndsInNoop true (xs ++ (noop ∷ []))
+  ends-snoc : (xs : List Op) → EndsInNoop (xs ++ (noop ∷ []))
   ends-snoc [] = refl
   ends-snoc (y ∷ []) = refl
   ends-snoc (y ∷ z ∷ xs) = ends-snoc (z ∷ xs)
@@ -143,10 +123,6 @@ module _ (w : ℕ) (width : Width w) (t : List ℕ) (plain : hasImmediate t noop
     nine : length (b .current) ≤ 9
     eight : wantsNoop t (b .current) ≡ true → length (b .current) ≤ 8
 
-  length-groups : (b : Batch) → length (groups t b) ≡ nextFree b
-  unfolding groups nextFree
-  length-groups b = simp (length-append, length-map) (omega arith)
-
   groups-right : (b : Batch) → Sound b → All (RightGroup t) (groups t b)
   unfolding groups
   groups-right b s = all-append (RightGroup t) (b .closed) (closeGroup t (b .current) ∷ map imm (b .placed)) (s .right) (right-close (b .current) (s .nine) (s .eight), right-imms (b .placed))
@@ -159,13 +135,9 @@ module _ (w : ℕ) (width : Width w) (t : List ℕ) (plain : hasImmediate t noop
   unfolding empty nextFree immediates
   sound-empty = let h = width .four in record { right = tt; follow = tt; placed = refl; room = omega arith; nine = omega arith; eight = λ e. omega arith }
 
-  next-turned : (b : Batch) → nextFree (turned t b) ≡ nextFree b + 1
-  unfolding turned nextFree
-  next-turned b = simp (length-groups b) (omega arith)
-
   sound-turned : (b : Batch) → Sound b → nextFree b + 1 ≤ w → Sound (turned t b)
   unfolding turned immediates
-  sound-turned b s h = record { right = groups-right b s; follow = groups-follow b s; placed = refl; room = omega (arith, next-turned b); nine = omega arith; eight = λ e. omega arith }
+  sound-turned b s h = record { right = groups-right b s; follow = groups-follow b s; placed = refl; room = omega (arith, next-turned t b); nine = omega arith; eight = λ e. omega arith }
 
   sound-plain : (x : Op) (b : Batch) → Sound b → hasImmediate t x ≡ false → length (b .current) ≤ 8 → Sound (joined t x b)
   unfolding joined nextFree
@@ -208,7 +180,7 @@ module _ (w : ℕ) (width : Width w) (t : List ℕ) (plain : hasImmediate t noop
           split (length (b .current)) 8
           (λ l. rw (e, lt-leb 8 (length (b .current)) l) (sound-valued x b s e (omega arith) (omega (arith, ltb-true (nextFree b) w (rw (e, lt-ltb (length (b .current)) 8 l) at f)))))
           (λ l. let r = ltb-true (nextFree b + 1) w (rw (e, le-ltb (length (b .current)) 8 l) at f) in
-          rw (e, le-leb 8 (length (b .current)) l) (sound-valued x (turned t b) (sound-turned b s (omega arith)) e (turned-none b) (omega (arith, next-turned b))))
+          rw (e, le-leb 8 (length (b .current)) l) (sound-valued x (turned t b) (sound-turned b s (omega arith)) e (turned-none b) (omega (arith, next-turned t b))))
       go false e =
           split (length (b .current)) 9
           (λ l. rw (e, lt-leb 9 (length (b .current)) l) (sound-plain x b s e (omega arith)))
@@ -217,24 +189,14 @@ module _ (w : ℕ) (width : Width w) (t : List ℕ) (plain : hasImmediate t noop
 
   -- ---- ending a batch
 
-  next-times : (k : ℕ) (b : Batch) → nextFree (turnedTimes k t b) ≡ nextFree b + k
-  unfolding turnedTimes
-  next-times zero b = omega arith
-  next-times (suc k) b = next-times k (turned t b) ∙ omega (arith, next-turned b)
-
   sound-times : (k : ℕ) (b : Batch) → Sound b → nextFree b + k ≤ w → Sound (turnedTimes k t b)
   unfolding turnedTimes
   sound-times zero b s h = s
-  sound-times (suc k) b s h = sound-times k (turned t b) (sound-turned b s (omega arith)) (omega (arith, next-turned b))
-
-  length-ended : (b : Batch) → Sound b → length (ended t b) ≡ target (nextFree b)
-  unfolding ended
-  length-ended b s =
-      length-groups _ ∙ (next-times (target (nextFree b) - nextFree b) b ∙ omega (arith, target-up (nextFree b) (omega (arith, s .room, width .eight))))
+  sound-times (suc k) b s h = sound-times k (turned t b) (sound-turned b s (omega arith)) (omega (arith, next-turned t b))
 
   right-ended : (b : Batch) → Sound b → RightBatch w t (ended t b)
   unfolding ended
-  right-ended b s = record { most = rw (length-ended b s) (width .within (nextFree b) (s .room)); power = rw (length-ended b s) (target-power (nextFree b)); groups = groups-right _ last; follow = groups-follow _ last }
+  right-ended b s = record { most = rw (length-ended t b (omega (arith, s .room, width .eight))) (width .within (nextFree b) (s .room)); power = rw (length-ended t b (omega (arith, s .room, width .eight))) (target-power (nextFree b)); groups = groups-right _ last; follow = groups-follow _ last }
     where
       last : Sound (turnedTimes (target (nextFree b) - nextFree b) t b)
       last = sound-times (target (nextFree b) - nextFree b) b s (omega (arith, target-up (nextFree b) (omega (arith, s .room, width .eight)), width .within (nextFree b) (s .room)))
@@ -251,7 +213,7 @@ module _ (w : ℕ) (width : Width w) (t : List ℕ) (plain : hasImmediate t noop
 
   -- an operation that does not fit leaves a batch of w groups
   full-ended : (x : Op) (b : Batch) → Sound b → fits w t x b ≡ false → length (ended t b) ≡ w
-  full-ended x b s f = length-ended b s ∙ enough (nextFree b) (s .room) (almost x b f)
+  full-ended x b s f = length-ended t b (omega (arith, s .room, width .eight)) ∙ enough (nextFree b) (s .room) (almost x b f)
     where
       enough : (n : ℕ) → n ≤ w → w ≤ n + 1 → target n ≡ w
       enough n a c = split n w (λ h. let e : n ≡ w - 1 = omega arith in rw e (width .low)) (λ h. let e : n ≡ w = omega arith in rw e (width .top))
@@ -278,7 +240,7 @@ module _ (w : ℕ) (width : Width w) (t : List ℕ) (plain : hasImmediate t noop
   unfolding turned nextFree
   dense-turned b s d h =
       let r : length (raw (groups t b)) ≡ length (raw (b .closed)) + length (b .current) = rw (raw-groups t b) (length-append (raw (b .closed)) (b .current)) in
-      omega (arith, length-groups b, r, s .room, width .eight)
+      omega (arith, length-groups t b, r, s .room, width .eight)
 
   dense-added : (x : Op) (b : Batch) → Sound b → Dense b → Dense (added t x b)
   unfolding added ready full joined

@@ -7,24 +7,27 @@ use native.Mathlib.Nat.{add-zero, zero-add}
 use native.Mathlib.Omega.{arith}
 use borrow.Author.Tests.{le-ltb, leb-true, eqb-true}
 use lib.ListN.{length, getD, take, drop, length-take, length-append}
+use lib.Seq.{take-all}
 use lib.Dec.{leb, eqb}
 use Rattle.rules.specs.Lists.{fitted, total, every}
 use Rattle.rules.specs.Answer.{good, found}
 use Rattle.rules.specs.Operations.{Op}
-use Rattle.rules.specs.Record.{Record, Block, differences, codesNumber, recordBy}
+use Rattle.rules.specs.Record.{Record, Block, differences, codesNumber, recordBy, part, cut, immediates}
 use Rattle.rules.specs.Bytes.{upTo}
-use Rattle.rules.specs.Block.{blockBytes, part, cut, immediates, emptyBefore, slots, endsInNoop, paddingRight, batchAt, batchesAt}
-use Rattle.rules.specs.Checks.{ninth, recordRight, heldFrom, held, paddingFault, placingFault, begins, groupsFault, emptyZero, commitmentFault}
+use Rattle.rules.specs.Block.{countFrom, blockBytes, batchAt, batchesAt}
+use Rattle.rules.proofs.Slots.{emptyBefore, slots, before, counted, counted-most, found-counts, batchBy, batch-is, total-split, length-cut}
+use Rattle.rules.specs.Checks.{ninth, recordRight, heldFrom, held, paddingFault, placingFault, begins, groupsFault, emptyZero, commitmentFault, endsInNoop, paddingRight}
 use Rattle.rules.specs.Functions.{Arena, blockIn, paddingChecked, commitmentChecked}
 use Rattle.rules.specs.Open.{document}
 use Rattle.rules.proofs.Operations.{true-left, true-right, true-both, to-admissible}
 use Rattle.claims.specs.Shape.{All}
-use Rattle.claims.specs.Settled.{before, counted, settled, settledBlock, Settled, Returns, Needed}
+use Rattle.claims.specs.Sizes.{NineAndEight}
+use Rattle.claims.specs.Settled.{foundCount, settled, settledBlock, Settled, Returns, Needed}
 use Rattle.claims.proofs.Back.{sizesOf, Wire, read-back}
 use Rattle.claims.proofs.Arena.{roomed}
 use Rattle.claims.proofs.Demand3.{written-in}
-use Rattle.claims.proofs.Again.{total-split, laid, laid-front}
-use Rattle.claims.proofs.Checked.{or-first, no-cond, group-right, Shaped, Made, made, Facts, facts, no-padding-fault, limits, shaped-in}
+use Rattle.claims.proofs.Again.{laid, laid-front}
+use Rattle.claims.proofs.Checked.{or-first, no-cond, group-right, Made, made, Facts, facts, no-padding-fault, limits, shaped-in}
 use Rattle.claims.proofs.Passes.{part-some, Right, here}
 use Rattle.claims.proofs.Lists.{all-map}
 
@@ -49,23 +52,6 @@ module _ (t : List ℕ) (b : ℕ) where
   before-is zero vs h = refl
   before-is (suc k) [] h = absurd (omega arith)
   before-is (suc k) (v ∷ vs) h = refl
-
-  counted-most : (k : ℕ) (gs : List (List Op)) → counted t k gs ≤ length gs
-  unfolding counted
-  counted-most k [] = omega arith
-  counted-most zero ([] ∷ gs) = go (counted t 0 gs) (counted-most 0 gs)
-    where
-      go : (n : ℕ) → n ≤ length gs → before n ≤ suc (length gs)
-      go zero h = omega arith
-      go (suc n) h = omega arith
-  counted-most (suc k) ([] ∷ gs) = omega (arith, counted-most k gs)
-  counted-most zero ((x ∷ xs) ∷ gs) = omega (arith, counted-most (length (immediates t (x ∷ xs))) gs)
-  counted-most (suc k) ((x ∷ xs) ∷ gs) = omega (arith, counted-most (length (immediates t (x ∷ xs))) gs)
-
-  length-cut : (ns : List ℕ) (xs : List Op) (at : ℕ) → length (cut ns xs at) ≡ length ns
-  unfolding cut
-  length-cut [] xs at = refl
-  length-cut (n ∷ ns) xs at = ap suc (length-cut ns xs (at + n))
 
   -- a check that passed, taken apart one group further on
 
@@ -116,7 +102,7 @@ module _ (t : List ℕ) (b : ℕ) where
       let gs = cut ns xs at in
       let a = after-gap (take c gs) m nums (rw (add-zero at) at r) in
       let ih = slots-read w ns [] xs at c nums (omega arith) (a .1) z (omega arith) (omega arith) in
-      let j : counted t 0 gs ≤ length nums = omega (arith, counted-most 0 gs, length-cut ns xs at) in
+      let j : counted t 0 gs ≤ length nums = omega (arith, counted-most t 0 gs, length-cut ns xs at) in
       rw (add-zero at, zero-add (total ns), ih, before-is (counted t 0 gs) nums j, a .0)
   slots-read (suc w) (zero ∷ ns) (v ∷ due) xs at zero (m ∷ nums) k r z l i = absurd (no-room v due (m ∷ nums) r)
   slots-read (suc w) (zero ∷ ns) (v ∷ due) xs at (suc c) (m ∷ nums) k r z l i =
@@ -177,21 +163,40 @@ module _ (w : ℕ) (w8 : w ≤ 8) (t : List ℕ) (xs : List Op) where
     padding : paddingFault (here r xs at) ≡ 0
     commitment : commitmentFault t (here r xs at) ≡ 0
 
-  batch-read : (at b : ℕ) (r : Record) → Checked at r → batchAt w t xs at b (differences (r .starts)) (r .flags) ≡ found (settled t (here r xs at)) (at + ninth r)
-  unfolding batchAt settled paddingFault commitmentFault begins placingFault
-  batch-read at b r h =
-      let m = h .made in
-      let few = m .few in
-      let ns = differences (r .starts) in
-      let gs = cut ns xs at in
-      let vs = take (counted t 0 gs) (r .numbers) in
-      let inside : at + total ns ≤ length xs = omega (arith, m .sum, h .inside) in
-      let q = or-first _ _ (h .commitment) in
-      let right : Right t b [] (take (r .count) gs) (r .numbers) = record { groups = q .0; zeros = no-cond _ 15 (q .1); values = refl; placed = refl } in
-      let e = slots-read t b w ns [] xs at (r .count) (r .numbers) few right (m .rest) (omega (arith, m .many, m .shaped .numbers)) inside in
-      let l = laid-front w ns at vs (at + total ns) (rest-zero (r .count) w ns few (m .rest)) (laid t b (take w ns) [] xs at vs (at + total ns) e) in
-      let p = other-groups ns xs at (length vs) (r .count) (r .flags) (l .rest) (no-cond _ 9 (h .padding)) in
-      rw (le-ltb (length xs) (at + total ns) inside, e, p, m .sum)
+  module _ (at b : ℕ) (r : Record) (h : Checked at r) where
+    abbrev ns : List ℕ
+    ns = differences (r .starts)
+
+    abbrev vs : List ℕ
+    vs = take (counted t 0 (cut ns xs at)) (r .numbers)
+
+    inside : at + total ns ≤ length xs
+    inside = omega (arith, h .made .sum, h .inside)
+
+    walk : (v : ℕ) → r .count ≤ v → slots t b (take v ns) [] xs at ≡ found vs (at + total ns)
+    unfolding commitmentFault begins placingFault
+    walk v l =
+        let m = h .made in
+        let q = or-first _ _ (h .commitment) in
+        let right : Right t b [] (take (r .count) (cut ns xs at)) (r .numbers) = record { groups = q .0; zeros = no-cond _ 15 (q .1); values = refl; placed = refl } in
+        slots-read t b v ns [] xs at (r .count) (r .numbers) l right (m .rest) (omega (arith, m .many, m .shaped .numbers)) inside
+
+    counts : countFrom t 0 0 (cut ns xs at) ≡ counted t 0 (cut ns xs at)
+    counts =
+        let m = h .made in
+        let all : take 8 ns ≡ ns = take-all 8 ns (omega (arith, m .many)) in
+        found-counts t b ns xs at vs (at + total ns) inside (rw all at (walk 8 (omega (arith, m .few))))
+
+    batch-read : batchAt w t xs at b ns (r .flags) ≡ found (settled t (here r xs at)) (at + ninth r)
+    unfolding batchBy settled paddingFault
+    batch-read =
+        let m = h .made in
+        let few = m .few in
+        let none = rest-zero (r .count) w ns few (m .rest) in
+        let e = walk w few in
+        let l = laid-front w ns at vs (at + total ns) none (laid t b (take w ns) [] xs at vs (at + total ns) e) in
+        let p = other-groups ns xs at (length vs) (r .count) (r .flags) (l .rest) (no-cond _ 9 (h .padding)) in
+        batch-is w t xs at b ns (r .flags) none ∙ rw (le-ltb (length xs) (at + total ns) inside, e, p, m .sum, counts)
 
   abbrev Batches : ℕ → List Record → Type 0
   Batches at [] = Unit {0}
@@ -244,7 +249,7 @@ module _ (w : ℕ) (w8 : w ≤ 8) (t : List ℕ) (xs : List Op) where
   on-wires (r ∷ rs) at h = (on-wire at r (h .0), on-wires rs (at + ninth r) (h .1))
 
 module _ (w : ℕ) (w8 : w ≤ 8) (t : List ℕ) (xs : List Op) where
-  gather : (rs : List Record) (at : ℕ) → All Shaped rs → All (λ r. recordRight w r ≡ true) rs → All (λ h. paddingFault h ≡ 0) (heldFrom rs xs at) → All (λ h. commitmentFault t h ≡ 0) (heldFrom rs xs at)
+  gather : (rs : List Record) (at : ℕ) → All NineAndEight rs → All (λ r. recordRight w r ≡ true) rs → All (λ h. paddingFault h ≡ 0) (heldFrom rs xs at) → All (λ h. commitmentFault t h ≡ 0) (heldFrom rs xs at)
       → at + total (map ninth rs) ≤ length xs → Batches w w8 t xs at rs
   unfolding heldFrom total
   gather [] at z r p c l = tt
@@ -270,36 +275,40 @@ zeros-after (suc n) zero (x ∷ xs) l h = (sym (ap (λ (ys : List ℕ). getD ys 
 zeros-after (suc n) (suc c) (x ∷ xs) l h = zeros-after n c xs (omega arith) (ap (λ (ys : List ℕ). drop 1 ys) h)
 
 module _ (w : ℕ) (w8 : w ≤ 8) (t : List ℕ) (xs : List Op) where
-  -- decoding finds a count under nine
-  count-fits : (at : ℕ) (r : Record) → Made w r → length (take (counted t 0 (cut (differences (r .starts)) xs at)) (r .numbers)) ≡ counted t 0 (cut (differences (r .starts)) xs at)
-  count-fits at r m =
-      let gs = cut (differences (r .starts)) xs at in
-      omega (arith, length-take (counted t 0 gs) (r .numbers), counted-most t 0 0 gs, length-cut t 0 (differences (r .starts)) xs at, m .many, m .shaped .numbers)
+  module _ (at : ℕ) (r : Record) (b : Checked w w8 t xs at r) where
+    abbrev c : ℕ
+    c = foundCount t (here r xs at)
 
-  one-same : (at : ℕ) (r : Record) → Made w r → Settled t (here r xs at) → settled t (here r xs at) ≡ r
-  unfolding settled recordBy
-  one-same at r m h =
-      let c = counted t 0 (cut (differences (r .starts)) xs at) in
-      let zeros : All (λ n. n ≡ 0) (drop c (r .numbers)) = rw (h .count) at (h .zeros) in
-      λ j. record { starts = m .starts j; flags = r .flags; numbers = fitted-back 8 c (r .numbers) (m .shaped .numbers) zeros j; count = (count-fits at r m ∙ sym (h .count)) j }
+    -- decoding finds a count under nine
+    count-fits : length (take c (r .numbers)) ≡ c
+    count-fits =
+        let gs = cut (differences (r .starts)) xs at in
+        let m = b .made in
+        omega (arith, counts w w8 t xs at 0 r b, length-take c (r .numbers), counted-most t 0 gs, length-cut (differences (r .starts)) xs at, m .many, m .shaped .numbers)
 
-  one-only : (at : ℕ) (r : Record) → Made w r → settled t (here r xs at) ≡ r → Settled t (here r xs at)
-  unfolding settled recordBy
-  one-only at r m e =
-      let c = counted t 0 (cut (differences (r .starts)) xs at) in
-      let k : r .count ≡ c = sym (ap (λ (x : Record). x .count) e) ∙ count-fits at r m in
-      record { count = k; zeros = rw k (zeros-after 8 c (r .numbers) (m .shaped .numbers) (ap (λ (x : Record). x .numbers) e)) }
+    one-same : Settled t (here r xs at) → settled t (here r xs at) ≡ r
+    unfolding settled recordBy
+    one-same h =
+        let m = b .made in
+        let zeros : All (λ n. n ≡ 0) (drop c (r .numbers)) = rw (h .count) at (h .zeros) in
+        λ j. record { starts = m .starts j; flags = r .flags; numbers = fitted-back 8 c (r .numbers) (m .shaped .numbers) zeros j; count = (count-fits ∙ sym (h .count)) j }
+
+    one-only : settled t (here r xs at) ≡ r → Settled t (here r xs at)
+    unfolding settled recordBy
+    one-only e =
+        let k : r .count ≡ c = sym (ap (λ (x : Record). x .count) e) ∙ count-fits in
+        record { count = k; zeros = rw k (zeros-after 8 c (r .numbers) (b .made .shaped .numbers) (ap (λ (x : Record). x .numbers) e)) }
 
   all-same : (rs : List Record) (at : ℕ) → Batches w w8 t xs at rs → All (Settled t) (heldFrom rs xs at) → map (settled t) (heldFrom rs xs at) ≡ rs
   unfolding heldFrom
   all-same [] at b h = refl
-  all-same (r ∷ rs) at b h = ap₂ (λ (y : Record) (ys : List Record). y ∷ ys) (one-same at r (b .0 .made) (h .0)) (all-same rs (at + ninth r) (b .1) (h .1))
+  all-same (r ∷ rs) at b h = ap₂ (λ (y : Record) (ys : List Record). y ∷ ys) (one-same at r (b .0) (h .0)) (all-same rs (at + ninth r) (b .1) (h .1))
 
   all-only : (rs : List Record) (at : ℕ) → Batches w w8 t xs at rs → map (settled t) (heldFrom rs xs at) ≡ rs → All (Settled t) (heldFrom rs xs at)
   unfolding heldFrom
   all-only [] at b e = tt
   all-only (r ∷ rs) at b e =
-      (one-only at r (b .0 .made) (ap (λ (ys : List Record). getD ys 0 r) e), all-only rs (at + ninth r) (b .1) (ap (λ (ys : List Record). drop 1 ys) e))
+      (one-only at r (b .0) (ap (λ (ys : List Record). getD ys 0 r) e), all-only rs (at + ninth r) (b .1) (ap (λ (ys : List Record). drop 1 ys) e))
 
 -- ---- the theorem
 
@@ -335,5 +344,5 @@ pub returns : (w : ℕ) (w8 : w ≤ 8) (t : List ℕ) (a : Arena) → paddingChe
 returns w w8 t a p c = returned w w8 t a (facts w t a c) (no-padding-fault w a p)
 
 pub needed : Needed
-unfolding document counted settled settledBlock
+unfolding document settled settledBlock
 needed = record { checked = (refl, refl); changed = refl }

@@ -7,10 +7,11 @@ use mathlib.Core.Logic.{_⊎_}
 use mathlib.Core.List.{List, [], _∷_}
 use Prim.Native.Nat.{ℕ, _+_, _<_}
 use lib.ListN.{length, replicate}
-use Rattle.rules.specs.Answer.{Answer, good, refused}
+use Rattle.rules.specs.Answer.{Answer, good, refused, Read}
 use Rattle.rules.specs.Record.{Record, Block}
-use Rattle.rules.specs.Block.{Room}
-use Rattle.rules.specs.Functions.{Arena, arena, blockIn, filled, built, blockLeft, encoded, written, decoded, readLeft, structureChecked, paddingChecked, commitmentChecked, tableOf, tableLeft, groupLookup, nextLookup}
+use Rattle.rules.specs.Bytes.{countAt}
+use Rattle.rules.specs.Block.{Room, Head, headAt}
+use Rattle.rules.specs.Functions.{Arena, arena, blockIn, filled, built, blockLeft, encoded, written, decoded, readLeft, headed, countHere, opHere, structureChecked, paddingChecked, commitmentChecked, tableOf, tableLeft, groupLookup, nextLookup}
 
 -- a number of refusal, and how many places it can have: its place is under that, so it is 0 where there is one
 pub record Refusal : Type 0 where
@@ -44,9 +45,28 @@ abbrev pub encodeRefusals : ℕ → ℕ → List Refusal
 encodeRefusals n k = 3 of 1 ∷ 14 of 1 ∷ 1 of 1 ∷ 15 of (k + 1) ∷ 4 of n ∷ 13 of 1 ∷ []
 
 -- of a buffer of this size: 2 has the byte where an item starts, which may be the buffer's end; 4 an operation; 6 to 10 a batch
-abbrev pub decodeRefusals : ℕ → List Refusal
-decodeRefusals size =
-    3 of 1 ∷ 14 of 1 ∷ 1 of 1 ∷ 2 of (size + 1) ∷ 13 of 1 ∷ 4 of 65535 ∷ 5 of 1 ∷ 6 of 16384 ∷ 7 of 16384 ∷ 8 of 16384 ∷ 9 of 16384 ∷ 10 of 16384 ∷ 11 of 1 ∷ []
+abbrev pub decodeRefusals : ℕ → ℕ → ℕ → List Refusal
+decodeRefusals size n k = 3 of 1 ∷ 14 of 1 ∷ 1 of 1 ∷ 2 of (size + 1) ∷ 13 of 1 ∷ 4 of n ∷ 5 of 1 ∷ 6 of k ∷ 7 of k ∷ 8 of k ∷ 9 of k ∷ 10 of k ∷ 11 of 1 ∷ []
+
+-- how many operations and batches the block at a place says that it has; 0 where its bytes do not come to say it
+abbrev pub told : Read ℕ → ℕ
+told (good i) = i .item
+told (refused n p) = 0
+
+abbrev pub toldBatches : Read Head → ℕ
+toldBatches (good h) = h .item .batches
+toldBatches (refused n p) = 0
+
+-- of its head alone, which wants no room
+abbrev pub headRefusals : ℕ → ℕ → List Refusal
+headRefusals size n = 3 of 1 ∷ 14 of 1 ∷ 1 of 1 ∷ 2 of (size + 1) ∷ 4 of n ∷ 5 of 1 ∷ []
+
+-- the reader's steps; the operation is the i-th
+abbrev pub countRefusals : ℕ → List Refusal
+countRefusals size = 3 of 1 ∷ 1 of 1 ∷ 2 of (size + 1) ∷ []
+
+abbrev pub opRefusals : ℕ → ℕ → List Refusal
+opRefusals size i = 3 of 1 ∷ 14 of 1 ∷ 1 of 1 ∷ 2 of (size + 1) ∷ 4 of (i + 1) ∷ []
 
 abbrev pub structureRefusals : ℕ → List Refusal
 structureRefusals k = 3 of 1 ∷ 15 of (k + 1) ∷ []
@@ -71,7 +91,10 @@ zeros a = arena (replicate (length (a .codes)) 0) (replicate (length (a .values)
 pub record Demand1 (w : ℕ) : Type 0 where
   pub build : (t cs vs : List ℕ) (room : Room) → Replies (buildRefusals (length cs)) (built w t cs vs room)
   pub encode : (t : List ℕ) (a : Arena) (size at : ℕ) → Replies (encodeRefusals (ops a) (batches a)) (encoded w t a size at)
-  pub decode : (t s : List ℕ) (at : ℕ) (room : Room) → Replies (decodeRefusals (length s)) (decoded w t s at room)
+  pub decode : (t s : List ℕ) (at : ℕ) (room : Room) → Replies (decodeRefusals (length s) (told (countAt s at)) (toldBatches (headAt t s at room))) (decoded w t s at room)
+  pub head : (t s : List ℕ) (at : ℕ) → Replies (headRefusals (length s) (told (countAt s at))) (headed t s at)
+  pub reader-count : (s : List ℕ) (at : ℕ) → Replies (countRefusals (length s)) (countHere s at)
+  pub reader-op : (t s : List ℕ) (at i : ℕ) → Replies (opRefusals (length s) i) (opHere t s at i)
   pub structure : (a : Arena) → Replies (structureRefusals (batches a)) (structureChecked w a)
   pub padding : (a : Arena) → Replies (paddingRefusals (batches a)) (paddingChecked w a)
   pub commitment : (t : List ℕ) (a : Arena) → Replies (commitmentRefusals (ops a) (batches a)) (commitmentChecked w t a)

@@ -7,11 +7,10 @@ use lib.ListN.{length, take}
 use Rattle.rules.specs.Lists.{every}
 use Rattle.rules.specs.Answer.{good, found}
 use Rattle.rules.specs.Operations.{Op, codes, values, goodTable, admissible}
-use Rattle.rules.specs.Batching.{Group}
-use Rattle.rules.specs.Record.{Block, blockOf, recordSize, recordsBytes}
+use Rattle.rules.specs.Record.{Block, recordSize, recordsBytes}
 use Rattle.rules.specs.Block.{Room, blockBytes}
 use Rattle.rules.specs.Functions.{Arena, arena, roomFor, filled, roomIn, built, encoded, decoded}
-use Rattle.claims.specs.Shape.{raws, RightBatches}
+use Rattle.claims.specs.Left.{Left}
 
 -- a block lent in runs that it fills
 abbrev pub lent : Block → Arena
@@ -28,21 +27,20 @@ pub record Premises (t : List ℕ) (xs : List Op) : Type 0 where
   pub most : length xs ≤ 16384
   pub admitted : every (admissible t) xs ≡ true
 
--- the conclusion, for the width w; `batches` are those of demand 2
-pub record Demand3 (w : ℕ) (t : List ℕ) (xs : List Op) (batches : List (List Group)) : Type 0 where
-  -- with enough room lent, build gives these batches, and they are left in the front of what was lent
-  pub builds : (room : Room) → roomFor (blockOf batches) room ≡ true → built w t (codes xs) (values xs) room ≡ good (blockOf batches)
-  pub leaves : (out : Arena) → roomFor (blockOf batches) (roomIn out) ≡ true → front (blockOf batches) (filled out (blockOf batches)) ≡ lent (blockOf batches)
-  -- "dropping the flagged padding from the batches .. gives the list back"
-  pub back : raws batches ≡ xs
-  -- "no group holds over nine operations or ends in one with an immediate; every batch has 1, 2, 4 or 8 groups, each but the last has 8"
-  pub right : RightBatches w t batches
+-- the conclusion, for the width w; b is the block of demand 2's batches
+pub record Demand3 (w : ℕ) (t : List ℕ) (xs : List Op) (b : Block) : Type 0 where
+  -- with enough room lent, build gives this block, and it is left in the front of what was lent
+  pub builds : (room : Room) → roomFor b room ≡ true → built w t (codes xs) (values xs) room ≡ good b
+  pub leaves : (out : Arena) → roomFor b (roomIn out) ≡ true → front b (filled out b) ≡ lent b
+  -- "dropping the flagged padding from the batches .. gives the list back; no group holds over nine operations or ends in one with an immediate; every
+  -- batch has 1, 2, 4 or 8 groups, each but the last has 8"
+  pub left : Left w t xs b
   -- encode takes what build left, and writes the block's bytes
-  pub writes : (size at : ℕ) → size ≤ 1048576 → at + length (blockBytes t (blockOf batches)) ≤ size
-      → encoded w t (lent (blockOf batches)) size at ≡ good (blockBytes t (blockOf batches))
+  pub writes : (size at : ℕ) → size ≤ 1048576 → at + length (blockBytes t b) ≤ size
+      → encoded w t (lent b) size at ≡ good (blockBytes t b)
   -- "decoding the written block gives those batches again, every start, flag, group number and count", at any place and whatever surrounds it
-  pub reads : (before after : List ℕ) (room : Room) → length (before ++ (blockBytes t (blockOf batches) ++ after)) ≤ 1048576 → roomFor (blockOf batches) room ≡ true
-      → decoded w t (before ++ (blockBytes t (blockOf batches) ++ after)) (length before) room ≡ found (blockOf batches) (length before + length (blockBytes t (blockOf batches)))
+  pub reads : (before after : List ℕ) (room : Room) → length (before ++ (blockBytes t b ++ after)) ≤ 1048576 → roomFor b room ≡ true
+      → decoded w t (before ++ (blockBytes t b ++ after)) (length before) room ≡ found b (length before + length (blockBytes t b))
   -- the limits of document 01 leave room for all of it
-  pub few : (length ((blockOf batches) .ops) ≤ 65535) × (length ((blockOf batches) .records) ≤ 16384)
-  pub short : length (blockBytes t (blockOf batches)) ≤ 671742
+  pub few : (length (b .ops) ≤ 65535) × (length (b .records) ≤ 16384)
+  pub short : length (blockBytes t b) ≤ 671742

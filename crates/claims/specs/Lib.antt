@@ -1,7 +1,11 @@
 pub mod Shape
+pub mod One
+pub mod Left
 pub mod Demand3
 pub mod Passes
 pub mod Demand1
 pub mod Settled
 pub mod Finished
 pub mod OneList
+pub mod Sizes
+pub mod Claims

@@ -1,4 +1,4 @@
--- "what `build` makes passes all three checks", and so does what `decode` takes.
+-- What passes all three checks: what `build` makes, and what `decode` takes.
 use mathlib.Core.Path.{_≡_}
 use mathlib.Core.List.{List}
 use Prim.Native.Nat.{ℕ}

@@ -8,37 +8,28 @@ use Prim.Native.Nat.{ℕ, zero, suc, _+_, _≤_}
 use lib.ListN.{length, take, drop, replicate}
 use Rattle.rules.specs.Answer.{good, found}
 use Rattle.rules.specs.Operations.{Op}
-use Rattle.rules.specs.Record.{Record, Block, differences, recordBy}
-use Rattle.rules.specs.Block.{Room, immediates, blockBytes}
+use Rattle.rules.specs.Record.{Record, Block, differences, recordBy, immediates}
+use Rattle.rules.specs.Block.{Room, countFrom, blockBytes}
 use Rattle.rules.specs.Checks.{Held, held}
 use Rattle.rules.specs.Functions.{Arena, blockIn, roomFor, encoded, decoded, paddingChecked, commitmentChecked}
 use Rattle.rules.specs.Examples.{tableT, op, is, block, single}
 use Rattle.claims.specs.Shape.{All}
 use Rattle.claims.specs.Demand3.{lent}
 
--- one more than a count, unless nothing counts
-abbrev pub before : ℕ → ℕ
-before zero = zero
-before (suc n) = suc (suc n)
-
--- "The count is the last non-empty group's index (0 to 7), plus 1, plus how many immediates it placed; if all nibbles are 0 the count is 0": of groups
--- whose first k hold immediates
-unfoldable pub counted : List ℕ → ℕ → List (List Op) → ℕ
-counted t k [] = 0
-counted t zero ([] ∷ gs) = before (counted t zero gs)
-counted t (suc k) ([] ∷ gs) = suc (counted t k gs)
-counted t k ((x ∷ xs) ∷ gs) = suc (counted t (length (immediates t (x ∷ xs))) gs)
+-- the count that decoding finds in a batch
+abbrev pub foundCount : List ℕ → Held → ℕ
+foundCount t h = countFrom t 0 0 (h .groups)
 
 -- a batch with the count that decoding finds, and only the numbers under it
 unfoldable pub settled : List ℕ → Held → Record
-settled t h = recordBy (differences (h .batch .starts)) (h .batch .flags) (take (counted t 0 (h .groups)) (h .batch .numbers))
+settled t h = recordBy (differences (h .batch .starts)) (h .batch .flags) (take (foundCount t h) (h .batch .numbers))
 
 unfoldable pub settledBlock : List ℕ → Block → Block
 settledBlock t b = record { ops = b .ops; records = map (settled t) (held b) }
 
 -- a batch that has that count already, and no numbers from it on
 pub record Settled (t : List ℕ) (h : Held) : Type 0 where
-  pub count : h .batch .count ≡ counted t 0 (h .groups)
+  pub count : h .batch .count ≡ foundCount t h
   pub zeros : All (λ n. n ≡ 0) (drop (h .batch .count) (h .batch .numbers))
 
 -- for any arena

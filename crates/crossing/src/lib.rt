@@ -1,6 +1,6 @@
 // Runs of 64-bit numbers that cross the language boundary as little-endian bytes.
 ghost use mathlib.Core.Path.{_≡_};
-ghost use Prim.Native.Nat.{_*_, _/_, _≤_, min};
+ghost use Prim.Native.Nat.{_*_, _/_, _≤_, min, max};
 ghost use lib.ListN.{length, take};
 ghost use lib.Seq.{sets};
 ghost use Rattle.rules.specs.Lists.{fitted};
@@ -10,11 +10,37 @@ ghost use Rattle.crossing.specs.Words.{wordsIn, fewWords, hasWord};
 // The longest index table of a block has so many entries, one more than the values of the largest block.
 const MOST: usize = 65536;
 
-// The work space. The `ensures` gives the length, which lending an array asks for.
+// The work space: what a call costs must follow what it is lent, so few numbers get little of it. The `ensures` give the length, which lending an array
+// asks for.
+pub const SMALL: usize = 64;
+
+pub const MIDDLE: usize = 2048;
+
+pub fn small_room() -> [u64; 64]
+    ensures { λ r. ⌜ 64 ≡ length r ⌝ }
+{
+    [0; 64]
+}
+
+pub fn middle_room() -> [u64; 2048]
+    ensures { λ r. ⌜ 2048 ≡ length r ⌝ }
+{
+    [0; 2048]
+}
+
 pub fn room() -> [u64; 65536]
     ensures { λ r. ⌜ 65536 ≡ length r ⌝ }
 {
     [0; 65536]
+}
+
+pub fn larger(n: usize, m: usize) -> usize
+    ensures { λ r. ⌜ r ≡ max n m ⌝ }
+{
+    if n < m {
+        return m;
+    }
+    n
 }
 
 pub fn few_words(s: &[u8]) -> bool

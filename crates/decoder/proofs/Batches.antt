@@ -6,14 +6,16 @@ use Prim.Native.Nat.{ℕ, suc, _+_, _-_, _*_, _≤_, _<_}
 use native.Mathlib.Nat.{add-zero, sub-zero}
 use native.Mathlib.Omega.{arith}
 use borrow.Author.Tests.{lt-ltb, le-ltb}
-use lib.ListN.{length, getD, take, drop, length-append}
+use lib.ListN.{length, getD, take, drop, length-append, drop-of-length-le}
 use lib.Seq.{sets, sets-eq, take-all, take-at, length-take-le}
 use Rattle.rules.specs.Lists.{fitted, total}
 use Rattle.rules.specs.Digits.{digits, leAt}
 use Rattle.rules.specs.Answer.{refused, Read, found, _then_}
 use Rattle.rules.specs.Operations.{Op}
-use Rattle.rules.specs.Record.{Record, startsFrom, recordBy, wordBytes, recordBytes, recordsBytes}
-use Rattle.rules.specs.Block.{cut, slots, paddingRight, batchAt, batchesAt}
+use Rattle.rules.specs.Record.{Record, startsFrom, recordBy, wordBytes, recordBytes, recordsBytes, cut}
+use Rattle.rules.specs.Block.{batchAt, batchesAt}
+use Rattle.rules.proofs.Slots.{slots, batchBy, batch-is}
+use Rattle.rules.specs.Checks.{paddingRight}
 use Rattle.rules.proofs.Runs.{fitted-length}
 use Rattle.decoder.specs.Stages.{sizesFrom, flagsFrom}
 use Rattle.decoder.proofs.Stages.{onto, onto-nil, onto-then, onto-found}
@@ -34,18 +36,22 @@ module _ (t : List ℕ) (xs : List Op) (at b v f : ℕ) where
     all : take 8 (digits 16 8 v) ≡ digits 16 8 v
     all = take-all 8 (digits 16 8 v) (omega (arith, length-digits 16 8 v))
 
+    none : total (drop 8 (digits 16 8 v)) ≡ 0
+    unfolding total
+    none = rw (drop-of-length-le (digits 16 8 v) {i = 8} (omega (arith, length-digits 16 8 v)))
+
     pub way-slots : (n p : ℕ) → slots t b (digits 16 8 v) [] xs at ≡ refused n p → batch ≡ refused n p
-    unfolding batchAt
-    way-slots n p e = rw (le-ltb (length xs) (at + total (digits 16 8 v)) h, all, e)
+    unfolding batchBy
+    way-slots n p e = batch-is 8 t xs at b (digits 16 8 v) (digits 2 8 f) none ∙ rw (le-ltb (length xs) (at + total (digits 16 8 v)) h, all, e)
 
     module _ (vs : List ℕ) (end : ℕ) (e : slots t b (digits 16 8 v) [] xs at ≡ found vs end) where
       pub way-10 : paddingRight (take (length vs) (cut (digits 16 8 v) xs at)) (digits 2 8 f) ≡ false → batch ≡ refused 10 b
-      unfolding batchAt
-      way-10 g = rw (le-ltb (length xs) (at + total (digits 16 8 v)) h, all, e, g)
+      unfolding batchBy
+      way-10 g = batch-is 8 t xs at b (digits 16 8 v) (digits 2 8 f) none ∙ rw (le-ltb (length xs) (at + total (digits 16 8 v)) h, all, e, g)
 
       pub way-good : paddingRight (take (length vs) (cut (digits 16 8 v) xs at)) (digits 2 8 f) ≡ true → batch ≡ found (recordBy (digits 16 8 v) (digits 2 8 f) vs) end
-      unfolding batchAt
-      way-good g = rw (le-ltb (length xs) (at + total (digits 16 8 v)) h, all, e, g)
+      unfolding batchBy
+      way-good g = batch-is 8 t xs at b (digits 16 8 v) (digits 2 8 f) none ∙ rw (le-ltb (length xs) (at + total (digits 16 8 v)) h, all, e, g)
 
 -- its record
 module _ (v f : ℕ) (vs : List ℕ) where

@@ -14,9 +14,9 @@ use Rattle.rules.specs.Lists.{fitted, total, every}
 use Rattle.rules.specs.Digits.{digits, number}
 use Rattle.rules.specs.Answer.{good, refused, Read, found, _then_}
 use Rattle.rules.specs.Operations.{Op, operations, hasImmediate}
-use Rattle.rules.specs.Record.{codesNumber}
+use Rattle.rules.specs.Record.{codesNumber, part, immediates}
 use Rattle.rules.specs.Bytes.{upTo}
-use Rattle.rules.specs.Block.{part, immediates, emptyBefore, slots}
+use Rattle.rules.proofs.Slots.{emptyBefore, slots}
 use Rattle.rules.proofs.Operations.{kind-at, operations-turn, operations-end, true-left, true-right}
 use Rattle.rules.proofs.Runs.{fitted-set, fitted-length}
 use Rattle.wire.proofs.Laws.{digits-turn, digits-end}

@@ -15,7 +15,8 @@ use Rattle.rules.specs.Digits.{leAt}
 use Rattle.rules.specs.Answer.{refused, Read, found}
 use Rattle.rules.specs.Operations.{Op, operations, codes, values, kindOf, assigned, valued, field}
 use Rattle.rules.specs.Bytes.{least, countBy, countAt, opAt, valueAt, opsAt, batchCountAt}
-use Rattle.rules.specs.Block.{Head, part}
+use Rattle.rules.specs.Block.{Head}
+use Rattle.rules.specs.Record.{part}
 use Rattle.rules.proofs.Operations.{op, true-left, codes-back}
 use Rattle.wire.specs.declared.CountRead.{CountRead}
 use Rattle.wire.specs.declared.CountRead.the-variants as count

@@ -10,7 +10,8 @@ use lib.Seq.{getD-drop}
 use lib.Dec.{eqb}
 use Rattle.rules.specs.Digits.{digits}
 use Rattle.rules.specs.Operations.{Op, codes}
-use Rattle.rules.specs.Block.{part, cut, endsInNoop, paddingRight}
+use Rattle.rules.specs.Record.{part, cut}
+use Rattle.rules.specs.Checks.{endsInNoop, paddingRight}
 use Rattle.wire.proofs.Laws.{digits-turn, digits-end}
 use Rattle.rules.proofs.Sizes.{length-codes}
 

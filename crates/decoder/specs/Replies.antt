@@ -9,7 +9,7 @@ use Rattle.rules.specs.Functions.{Arena, roomIn, filled, decoded, readLeft}
 use Rattle.decoder.specs.declared.Decoded.{Decoded}
 use Rattle.decoder.specs.declared.Decoded.the-variants as whole
 
--- "the reply says batches, padded operations and bytes used"
+-- batches, padded operations, and "how many were used"
 abbrev pub decodedOf : ℕ → Read Block → Decoded
 decodedOf at (good i) = whole.Made (length (i .item .records)) (length (i .item .ops)) (i .next - at)
 decodedOf at (refused n p) = whole.Refused n p

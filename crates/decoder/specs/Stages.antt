@@ -9,9 +9,11 @@ use Rattle.rules.specs.Lists.{fitted, total}
 use Rattle.rules.specs.Digits.{digits, leAt}
 use Rattle.rules.specs.Answer.{good, refused, Read, found, refuse, _then_}
 use Rattle.rules.specs.Operations.{Op, codes, values}
-use Rattle.rules.specs.Record.{Record, Block, recordsBytes}
+use Rattle.rules.specs.Record.{Record, Block, recordsBytes, cut}
 use Rattle.rules.specs.Bytes.{opsAt, batchCountAt, upTo}
-use Rattle.rules.specs.Block.{Head, slots, cut, paddingRight, layoutAt, batchesBy}
+use Rattle.rules.specs.Block.{Head, layoutAt, batchesBy}
+use Rattle.rules.proofs.Slots.{slots}
+use Rattle.rules.specs.Checks.{paddingRight}
 use Rattle.rules.specs.Functions.{Arena, arena}
 use Rattle.wire.specs.declared.CountRead.{CountRead}
 use Rattle.wire.specs.declared.CountRead.the-variants as count

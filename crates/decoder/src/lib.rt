@@ -8,9 +8,10 @@ ghost use lib.Seq.{sets};
 ghost use Rattle.rules.specs.Lists.{fitted, total};
 ghost use Rattle.rules.specs.Digits.{digits, number, leAt};
 ghost use Rattle.rules.specs.Operations.{Op, operations};
-ghost use Rattle.rules.specs.Record.{Record, startsFrom, wordBytes, recordBytes};
+ghost use Rattle.rules.specs.Record.{Record, startsFrom, wordBytes, recordBytes, immediates};
 ghost use Rattle.rules.specs.Bytes.{opsAt, nibblesAt, upTo};
-ghost use Rattle.rules.specs.Block.{Head, immediates, slots, batchAt, batchesAt, blockAt};
+ghost use Rattle.rules.specs.Block.{Head, batchAt, batchesAt, blockAt};
+ghost use Rattle.rules.proofs.Slots.{slots};
 ghost use Rattle.rules.specs.Functions.{arena, roomIn, decoded};
 ghost use Rattle.decoder.specs.Replies.{Decodes};
 ghost use Rattle.decoder.specs.Stages.{counted, Staged, Reading, handOp, handCount, tailless};
@@ -32,7 +33,7 @@ pub enum Decoded {
 }
 
 // A refused operation and a refused count, handed on.
-fn not_read(r: OpRead) -> CountRead
+pub fn not_read(r: OpRead) -> CountRead
     ensures { λ a. ⌜ a ≡ handOp r ⌝ }
 {
     match r {

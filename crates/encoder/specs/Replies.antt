@@ -8,7 +8,7 @@ use Rattle.rules.specs.Functions.{Arena, encoded, written}
 use Rattle.encoder.specs.declared.Encoded.{Encoded}
 use Rattle.encoder.specs.declared.Encoded.the-variants as whole
 
--- "on success only the block's bytes change and the reply says how many"
+-- how many bytes were written
 abbrev pub encodedOf : Answer (List ℕ) → Encoded
 encodedOf (good bytes) = whole.Written (length bytes)
 encodedOf (refused n p) = whole.Refused n p

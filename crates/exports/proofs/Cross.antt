@@ -5,15 +5,17 @@ use mathlib.Core.Option.{Option, none, some}
 use Prim.Native.Nat.{ℕ}
 use Rattle.rules.specs.Answer.{Answer, good, refused, Read}
 use Rattle.rules.specs.Record.{Block}
-use Rattle.rules.specs.Lookups.{Place}
+use Rattle.rules.specs.Block.{Head}
+use Rattle.rules.specs.Lookups.{Place, Raw, rawAt, Padded, paddedAt}
 use Rattle.operation.specs.Verdict.{verdictOf}
 use Rattle.build.specs.Outcome.{builtOf}
 use Rattle.encoder.specs.Replies.{encodedOf}
 use Rattle.decoder.specs.Replies.{decodedOf}
+use Rattle.head.specs.Replies.{headOf}
 use Rattle.prefix.specs.Tables.{tabledOf, paddedFound, rawFound}
 use Rattle.op_batch.specs.OpBatch.{lookupOf, nextOf}
-use Rattle.exports.specs.Replies.{buildReply, encodeReply, decodeReply, checkReply, tableReply, indexReply, groupReply, nextReply}
-use Rattle.exports.specs.Flat.{flatBuilt, flatEncoded, flatDecoded, flatVerdict, flatTabled, flatPadded, flatRaw, flatGroup, flatNext}
+use Rattle.exports.specs.Replies.{buildReply, encodeReply, decodeReply, headReply, checkReply, tableReply, paddedReply, rawReply, groupReply, nextReply}
+use Rattle.exports.specs.Flat.{flatBuilt, flatEncoded, flatDecoded, flatHeaded, flatVerdict, flatTabled, flatPadded, flatRaw, flatGroup, flatNext}
 
 pub cross-built : (d : Answer Block) → flatBuilt (builtOf d) ≡ buildReply d
 cross-built (good b) = refl
@@ -27,6 +29,10 @@ pub cross-decoded : (at : ℕ) (d : Read Block) → flatDecoded (decodedOf at d)
 cross-decoded at (good i) = refl
 cross-decoded at (refused n p) = refl
 
+pub cross-headed : (d : Read Head) → flatHeaded (headOf d) ≡ headReply d
+cross-headed (good i) = refl
+cross-headed (refused n p) = refl
+
 pub cross-verdict : (d : Answer Unit) → flatVerdict (verdictOf d) ≡ checkReply d
 cross-verdict (good u) = refl
 cross-verdict (refused n p) = refl
@@ -35,13 +41,13 @@ pub cross-tabled : (d : Answer (List ℕ)) → flatTabled (tabledOf d) ≡ table
 cross-tabled (good es) = refl
 cross-tabled (refused n p) = refl
 
-pub cross-padded : (d : Option ℕ) → flatPadded (paddedFound d) ≡ indexReply d
+pub cross-padded : (d : Option Padded) → flatPadded (paddedFound d) ≡ paddedReply d
 cross-padded none = refl
-cross-padded (some i) = refl
+cross-padded (some (paddedAt i)) = refl
 
-pub cross-raw : (d : Option ℕ) → flatRaw (rawFound d) ≡ indexReply d
+pub cross-raw : (d : Option Raw) → flatRaw (rawFound d) ≡ rawReply d
 cross-raw none = refl
-cross-raw (some i) = refl
+cross-raw (some (rawAt i)) = refl
 
 pub cross-group : (d : Answer (Option Place)) → flatGroup (lookupOf d) ≡ groupReply d
 cross-group (good none) = refl

@@ -6,3 +6,4 @@ pub mod Guards
 pub mod Tables
 pub mod Builds
 pub mod OneAnswer
+pub mod ShutOut

@@ -1,19 +1,35 @@
 -- One answer for each input. Assumes nothing.
 use mathlib.Core.Path.{_≡_, sym, _∙_}
+use Rattle.claims.specs.One.{Only}
 use Rattle.exports.specs.OneAnswer.{OneAnswer}
 
-same : {A : Type 0} (answer r q : A) → r ≡ answer → q ≡ answer → r ≡ q
-same answer r q x y = x ∙ sym y
+-- a contract that says what the reply equals
+equal : {A : Type 0} (answer : A) → Only (λ r. r ≡ answer)
+equal answer r q h k = h ∙ sym k
 
 pub one-answer : OneAnswer
 one-answer =
     record {
-      build = λ answer before r q x y h k. (h .reply ∙ sym (k .reply), h .runs ∙ sym (k .runs));
-      encode = λ answer at before r q x y h k. (h .reply ∙ sym (k .reply), h .bytes ∙ sym (k .bytes));
-      decode = λ answer at before r q x y h k. (h .reply ∙ sym (k .reply), h .runs ∙ sym (k .runs));
-      table = λ answer before r q x y h k. (h .reply ∙ sym (k .reply), h .left ∙ sym (k .left));
-      build-le = λ answer before r q x y h k. (h .reply ∙ sym (k .reply), h .runs ∙ sym (k .runs));
-      decode-le = λ answer at before r q x y h k. (h .reply ∙ sym (k .reply), h .runs ∙ sym (k .runs));
-      table-le = λ answer before r q x y h k. (h .reply ∙ sym (k .reply), h .left ∙ sym (k .left));
-      others = same;
+      oli-build = λ answer before r q x y h k. (h .reply ∙ sym (k .reply), h .runs ∙ sym (k .runs));
+      oli-encode = λ answer at before r q x y h k. (h .reply ∙ sym (k .reply), h .bytes ∙ sym (k .bytes));
+      oli-decode = λ answer at before r q x y h k. (h .reply ∙ sym (k .reply), h .runs ∙ sym (k .runs));
+      oli-raw-table = λ answer before r q x y h k. (h .reply ∙ sym (k .reply), h .left ∙ sym (k .left));
+      oli-padded-table = λ answer before r q x y h k. (h .reply ∙ sym (k .reply), h .left ∙ sym (k .left));
+      oli-build-le = λ answer before r q x y h k. (h .reply ∙ sym (k .reply), h .runs ∙ sym (k .runs));
+      oli-decode-le = λ answer at before r q x y h k. (h .reply ∙ sym (k .reply), h .runs ∙ sym (k .runs));
+      oli-raw-table-le = λ answer before r q x y h k. (h .reply ∙ sym (k .reply), h .left ∙ sym (k .left));
+      oli-padded-table-le = λ answer before r q x y h k. (h .reply ∙ sym (k .reply), h .left ∙ sym (k .left));
+      oli-head = λ t s at. equal _;
+      oli-structure = λ a. equal _;
+      oli-padding = λ a. equal _;
+      oli-commitment = λ t a. equal _;
+      oli-structure-le = λ values a. equal _;
+      oli-padding-le = λ values a. equal _;
+      oli-commitment-le = λ t values a. equal _;
+      oli-padded-index = λ table i. equal _;
+      oli-raw-index = λ table i. equal _;
+      oli-padded-index-le = λ table i. equal _;
+      oli-raw-index-le = λ table i. equal _;
+      oli-group = λ s i. equal _;
+      oli-next-group = λ s g. equal _;
     }

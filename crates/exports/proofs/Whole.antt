@@ -7,7 +7,7 @@ use native.Mathlib.Omega.{arith}
 use borrow.Author.Tests.{lt-leb, eqb-true, leb-true, leb-false}
 use lib.ListN.{length, take}
 use lib.Dec.{leb, ltb, eqb}
-use lib.Seq.{length-take-le}
+use lib.Seq.{length-take-le, take-all}
 use Rattle.rules.specs.Answer.{Answer, refused, refuse}
 use Rattle.rules.specs.Functions.{arena, within, encoded}
 use Rattle.rules.proofs.Operations.{true-left, true-right}
@@ -51,6 +51,10 @@ module _ (s : List ℕ) where
     pub checked-broken : {A : Type 0} (r : Answer A) → wholeWords s (refuse (not (within (arena cs (wordsIn s) rs))) 3 0 r) ≡ refused 3 0
     checked-broken r = broken (not (within (arena cs (wordsIn s) rs))) r (λ l. rw (outside cs (wordsIn s) rs (omega arith))) h
 
--- the copied numbers stand for the bytes
-pub front : (w : List ℕ) (n : ℕ) → 65536 ≡ length w → n ≤ 65536 → n ≡ length (take n w)
-front w n e h = sym (length-take-le n w (omega arith))
+-- ---- the work space: as many numbers at its front as are wanted, and the copied ones stand for the bytes
+
+pub front : (w : List ℕ) (n k : ℕ) → k ≡ length w → n ≤ k → n ≡ length (take n w)
+front w n k e h = sym (length-take-le n w (omega arith))
+
+pub all-in : (w s : List ℕ) → length w ≡ length s / 8 → take (length s / 8) w ≡ wordsIn s → w ≡ wordsIn s
+all-in w s e h = sym (take-all (length s / 8) w (omega arith)) ∙ h

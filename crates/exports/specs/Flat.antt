@@ -8,6 +8,8 @@ use Rattle.encoder.specs.declared.Encoded.{Encoded}
 use Rattle.encoder.specs.declared.Encoded.the-variants as encoded
 use Rattle.decoder.specs.declared.Decoded.{Decoded}
 use Rattle.decoder.specs.declared.Decoded.the-variants as decoded
+use Rattle.head.specs.declared.Headed.{Headed}
+use Rattle.head.specs.declared.Headed.the-variants as headed
 use Rattle.prefix.specs.declared.Tabled.{Tabled}
 use Rattle.prefix.specs.declared.Tabled.the-variants as tabled
 use Rattle.prefix.specs.declared.PaddedFound.{PaddedFound}
@@ -21,6 +23,7 @@ use Rattle.op_batch.specs.declared.NextGroup.the-variants as next
 use Rattle.exports.specs.declared.BuildReply.{BuildReply}
 use Rattle.exports.specs.declared.EncodeReply.{EncodeReply}
 use Rattle.exports.specs.declared.DecodeReply.{DecodeReply}
+use Rattle.exports.specs.declared.HeadReply.{HeadReply}
 use Rattle.exports.specs.declared.CheckReply.{CheckReply}
 use Rattle.exports.specs.declared.TableReply.{TableReply}
 use Rattle.exports.specs.declared.IndexReply.{IndexReply}
@@ -38,6 +41,10 @@ flatEncoded (encoded.Refused n p) = record { number = n; place = p; length = 0 }
 abbrev pub flatDecoded : Decoded → DecodeReply
 flatDecoded (decoded.Made b o u) = record { number = 0; place = 0; batches = b; operations = o; used = u }
 flatDecoded (decoded.Refused n p) = record { number = n; place = p; batches = 0; operations = 0; used = 0 }
+
+abbrev pub flatHeaded : Headed → HeadReply
+flatHeaded (headed.Found o b next) = record { number = 0; place = 0; batches = b; operations = o }
+flatHeaded (headed.Refused n p) = record { number = n; place = p; batches = 0; operations = 0 }
 
 abbrev pub flatVerdict : Verdict → CheckReply
 flatVerdict verdict.Passed = record { number = 0; place = 0 }

@@ -1,3 +1,4 @@
 pub mod Replies
 pub mod Flat
 pub mod OneAnswer
+pub mod ShutOut

@@ -1,27 +1,38 @@
--- "that statement with the output buffers admits one answer for each input": two answers that satisfy the contract of an exported function coincide,
--- the reply and every lent output.
+-- One answer for each exported function, by its contract: the reply and every lent output.
 use mathlib.Core.Path.{_≡_}
 use mathlib.Core.List.{List}
 use Prim.Native.Nat.{ℕ}
 use Rattle.rules.specs.Answer.{Answer, Read}
-use Rattle.rules.specs.Record.{Block}
+use Rattle.rules.specs.Record.{Block, recordAt}
 use Rattle.rules.specs.Block.{Room}
-use Rattle.rules.specs.Functions.{Arena}
-use Rattle.exports.specs.Replies.{Builds, Writes, Reads, Tables, BuildsBytes, ReadsBytes, TablesBytes}
+use Rattle.rules.specs.Lookups.{rawAt, paddedAt, paddedIndex, rawIndex}
+use Rattle.rules.specs.Functions.{Arena, headed, structureChecked, paddingChecked, commitmentChecked, groupLookup, nextLookup}
+use Rattle.claims.specs.One.{One, Only}
+use Rattle.crossing.specs.Words.{wordsIn}
+use Rattle.exports.specs.Replies.{Builds, Writes, Reads, Tables, BuildsBytes, ReadsBytes, TablesBytes, headReply, checkReply, paddedReply, rawReply, oneRecord, wholeWords, inWhole, groupReply, nextReply}
 
--- what a contract says of a reply and of what is left in the lent outputs is said of one reply and one content only
-abbrev pub One : {R O : Type 0} → (R → O → Type 0) → Type 0
-One {R} {O} contract = (r q : R) (x y : O) → contract r x → contract q y → (r ≡ q) × (x ≡ y)
-
-pub record OneAnswer : Type 1 where
-  pub build : (answer : Room → Answer Block) (before : Arena) → One (λ r x. Builds answer r before x)
-  -- encode, over numbers and over bytes
-  pub encode : (answer : Answer (List ℕ)) (at : ℕ) (before : List ℕ) → One (λ r x. Writes answer at r before x)
-  pub decode : (answer : Room → Read Block) (at : ℕ) (before : Arena) → One (λ r x. Reads answer at r before x)
-  pub table : (answer : Answer (List ℕ)) (before : List ℕ) → One (λ r x. Tables answer r before x)
-  -- over bytes
-  pub build-le : (answer : Room → Answer Block) (before : Arena) → One (λ r x. BuildsBytes answer r before x)
-  pub decode-le : (answer : Room → Read Block) (at : ℕ) (before : Arena) → One (λ r x. ReadsBytes answer at r before x)
-  pub table-le : (answer : Answer (List ℕ)) (before : List ℕ) → One (λ r x. TablesBytes answer r before x)
-  -- the checks and all lookups, over numbers and over bytes: the reply equals an expression of the inputs, and there is no output
-  pub others : {A : Type 0} (answer r q : A) → r ≡ answer → q ≡ answer → r ≡ q
+-- `answer` is what the definitions answer: `built 8 ..`, `encoded 8 ..`, `decoded 8 ..`, `rawTabled 8 ..`, `paddedTabled 8 ..`
+pub record OneAnswer : Type 0 where
+  pub oli-build : (answer : Room → Answer Block) (before : Arena) → One (λ r after. Builds answer r before after)
+  -- over numbers and over bytes
+  pub oli-encode : (answer : Answer (List ℕ)) (at : ℕ) (before : List ℕ) → One (λ r after. Writes answer at r before after)
+  pub oli-decode : (answer : Room → Read Block) (at : ℕ) (before : Arena) → One (λ r after. Reads answer at r before after)
+  pub oli-raw-table : (answer : Answer (List ℕ)) (before : List ℕ) → One (λ r after. Tables answer r before after)
+  pub oli-padded-table : (answer : Answer (List ℕ)) (before : List ℕ) → One (λ r after. Tables answer r before after)
+  pub oli-build-le : (answer : Room → Answer Block) (before : Arena) → One (λ r after. BuildsBytes answer r before after)
+  pub oli-decode-le : (answer : Room → Read Block) (at : ℕ) (before : Arena) → One (λ r after. ReadsBytes answer at r before after)
+  pub oli-raw-table-le : (answer : Answer (List ℕ)) (before : List ℕ) → One (λ r after. TablesBytes answer r before after)
+  pub oli-padded-table-le : (answer : Answer (List ℕ)) (before : List ℕ) → One (λ r after. TablesBytes answer r before after)
+  pub oli-head : (t s : List ℕ) (at : ℕ) → Only (λ r. r ≡ headReply (headed t s at))
+  pub oli-structure : (a : Arena) → Only (λ r. r ≡ checkReply (structureChecked 8 a))
+  pub oli-padding : (a : Arena) → Only (λ r. r ≡ checkReply (paddingChecked 8 a))
+  pub oli-commitment : (t : List ℕ) (a : Arena) → Only (λ r. r ≡ checkReply (commitmentChecked 8 t a))
+  pub oli-structure-le : (values : List ℕ) (a : Arena) → Only (λ r. r ≡ checkReply (wholeWords values (structureChecked 8 a)))
+  pub oli-padding-le : (values : List ℕ) (a : Arena) → Only (λ r. r ≡ checkReply (wholeWords values (paddingChecked 8 a)))
+  pub oli-commitment-le : (t values : List ℕ) (a : Arena) → Only (λ r. r ≡ checkReply (wholeWords values (commitmentChecked 8 t a)))
+  pub oli-padded-index : (table : List ℕ) (i : ℕ) → Only (λ r. r ≡ paddedReply (paddedIndex table (rawAt i)))
+  pub oli-raw-index : (table : List ℕ) (i : ℕ) → Only (λ r. r ≡ rawReply (rawIndex table (paddedAt i)))
+  pub oli-padded-index-le : (table : List ℕ) (i : ℕ) → Only (λ r. r ≡ paddedReply (inWhole table (paddedIndex (wordsIn table) (rawAt i))))
+  pub oli-raw-index-le : (table : List ℕ) (i : ℕ) → Only (λ r. r ≡ rawReply (inWhole table (rawIndex (wordsIn table) (paddedAt i))))
+  pub oli-group : (s : List ℕ) (i : ℕ) → Only (λ r. r ≡ groupReply (oneRecord s (groupLookup 8 (recordAt s 0) i)))
+  pub oli-next-group : (s : List ℕ) (g : ℕ) → Only (λ r. r ≡ nextReply (oneRecord s (nextLookup 8 (recordAt s 0) g)))

@@ -10,22 +10,31 @@ use Rattle.rules.specs.Answer.{Answer, good, refused, refuse, Read}
 use Rattle.rules.specs.Lists.{fitted}
 use Rattle.rules.specs.Operations.{codes, values}
 use Rattle.rules.specs.Record.{Block, recordSize, wordBytes, recordsBytes}
-use Rattle.rules.specs.Block.{Room}
-use Rattle.rules.specs.Lookups.{Place}
-use Rattle.rules.specs.Functions.{Arena, arena, roomIn, filled, blockLeft, written, readLeft, bytesLeft, tableLeft}
+use Rattle.rules.specs.Block.{Room, Head}
+use Rattle.rules.specs.Lookups.{Place, Raw, rawAt, Padded, paddedAt}
+use Rattle.rules.specs.Functions.{Arena, arena, roomIn, filled, blockLeft, written, readLeft, bytesLeft, tableLeft, totals, lengthTold, used}
 use Rattle.crossing.specs.Words.{whole}
 use Rattle.exports.specs.declared.BuildReply.{BuildReply}
 use Rattle.exports.specs.declared.EncodeReply.{EncodeReply}
 use Rattle.exports.specs.declared.DecodeReply.{DecodeReply}
+use Rattle.exports.specs.declared.HeadReply.{HeadReply}
 use Rattle.exports.specs.declared.CheckReply.{CheckReply}
 use Rattle.exports.specs.declared.TableReply.{TableReply}
 use Rattle.exports.specs.declared.IndexReply.{IndexReply}
 use Rattle.exports.specs.declared.GroupReply.{GroupReply}
 use Rattle.exports.specs.declared.NextReply.{NextReply}
 
+-- a refusal's number and place; 0 and 0 where nothing is refused
+abbrev pub numberIn : {A : Type 0} → Answer A → ℕ
+numberIn (good a) = 0
+numberIn (refused n p) = n
+
+abbrev pub placeIn : {A : Type 0} → Answer A → ℕ
+placeIn (good a) = 0
+placeIn (refused n p) = p
+
 abbrev pub buildReply : Answer Block → BuildReply
-buildReply (good b) = record { number = 0; place = 0; batches = length (b .records); operations = length (b .ops) }
-buildReply (refused n p) = record { number = n; place = p; batches = 0; operations = 0 }
+buildReply d = let t = totals (blockLeft d) in record { number = numberIn d; place = placeIn d; batches = t .batches; operations = t .operations }
 
 -- build's reply and what it leaves in the lent runs; `answer` is what the rules answer for a room
 pub record Builds (answer : Room → Answer Block) (r : BuildReply) (before after : Arena) : Type 0 where
@@ -33,8 +42,7 @@ pub record Builds (answer : Room → Answer Block) (r : BuildReply) (before afte
   pub runs : after ≡ filled before (blockLeft (answer (roomIn before)))
 
 abbrev pub encodeReply : Answer (List ℕ) → EncodeReply
-encodeReply (good bytes) = record { number = 0; place = 0; length = length bytes }
-encodeReply (refused n p) = record { number = n; place = p; length = 0 }
+encodeReply d = record { number = numberIn d; place = placeIn d; length = lengthTold d }
 
 -- encode's reply and what it leaves in the lent buffer
 pub record Writes (answer : Answer (List ℕ)) (at : ℕ) (r : EncodeReply) (before after : List ℕ) : Type 0 where
@@ -42,29 +50,35 @@ pub record Writes (answer : Answer (List ℕ)) (at : ℕ) (r : EncodeReply) (bef
   pub bytes : after ≡ written before at answer
 
 abbrev pub decodeReply : ℕ → Read Block → DecodeReply
-decodeReply at (good i) = record { number = 0; place = 0; batches = length (i .item .records); operations = length (i .item .ops); used = i .next - at }
-decodeReply at (refused n p) = record { number = n; place = p; batches = 0; operations = 0; used = 0 }
+decodeReply at d = let t = totals (readLeft d) in record { number = numberIn d; place = placeIn d; batches = t .batches; operations = t .operations; used = used at d }
 
 -- decode's reply and what it leaves in the lent runs; `answer` is what the rules answer for a room
 pub record Reads (answer : Room → Read Block) (at : ℕ) (r : DecodeReply) (before after : Arena) : Type 0 where
   pub reply : r ≡ decodeReply at (answer (roomIn before))
   pub runs : after ≡ filled before (readLeft (answer (roomIn before)))
 
+-- how many operations and batches the block needs room for
+abbrev pub headReply : Read Head → HeadReply
+headReply (good h) = record { number = 0; place = 0; batches = h .item .batches; operations = length (h .item .ops) }
+headReply (refused n p) = record { number = n; place = p; batches = 0; operations = 0 }
+
 abbrev pub checkReply : Answer Unit → CheckReply
-checkReply (good u) = record { number = 0; place = 0 }
-checkReply (refused n p) = record { number = n; place = p }
+checkReply d = record { number = numberIn d; place = placeIn d }
 
 abbrev pub tableReply : Answer (List ℕ) → TableReply
-tableReply (good es) = record { number = 0; place = 0; entries = length es }
-tableReply (refused n p) = record { number = n; place = p; entries = 0 }
+tableReply d = record { number = numberIn d; place = placeIn d; entries = lengthTold d }
 
 pub record Tables (answer : Answer (List ℕ)) (r : TableReply) (out out′ : List ℕ) : Type 0 where
   pub reply : r ≡ tableReply answer
   pub left : out′ ≡ tableLeft out answer
 
-abbrev pub indexReply : Option ℕ → IndexReply
-indexReply none = record { found = 0; index = 0 }
-indexReply (some i) = record { found = 1; index = i }
+abbrev pub paddedReply : Option Padded → IndexReply
+paddedReply none = record { found = 0; index = 0 }
+paddedReply (some (paddedAt i)) = record { found = 1; index = i }
+
+abbrev pub rawReply : Option Raw → IndexReply
+rawReply none = record { found = 0; index = 0 }
+rawReply (some (rawAt i)) = record { found = 1; index = i }
 
 -- ---- lookups in one batch: a run of bytes that is not one record is refused with 3
 
@@ -88,7 +102,7 @@ unfoldable pub wholeWords : {A : Type 0} → List ℕ → Answer A → Answer A
 wholeWords s r = refuse (not (whole s)) 3 0 r
 
 -- and an index lookup in one finds nothing
-unfoldable pub inWhole : List ℕ → Option ℕ → Option ℕ
+unfoldable pub inWhole : {A : Type 0} → List ℕ → Option A → Option A
 inWhole s r = cond (whole s) r none
 
 -- the room of an arena whose values are bytes: whole numbers

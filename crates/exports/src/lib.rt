@@ -1,19 +1,21 @@
 // What a Rust or C program calls: the public functions over numbers and slices, with replies as plain structs. In each reply number 0 means that
 // nothing was refused; a refusal has every length and total 0.
 ghost use mathlib.Core.Path.{_≡_};
+ghost use mathlib.Core.Bool.{true};
 ghost use Prim.Native.Nat.{_/_, min};
 ghost use lib.ListN.{length};
 ghost use Rattle.rules.specs.Record.{recordAt, noBlock};
 ghost use Rattle.rules.specs.Block.{Room};
-ghost use Rattle.rules.specs.Lookups.{paddedIndex, rawIndex};
-ghost use Rattle.rules.specs.Functions.{arena, built, encoded, decoded, structureChecked, paddingChecked, commitmentChecked, rawTabled, paddedTabled, tableOf, groupLookup, nextLookup};
+ghost use Rattle.rules.specs.Lookups.{rawAt, paddedAt, paddedIndex, rawIndex};
+ghost use Rattle.rules.specs.Functions.{arena, built, encoded, decoded, headed, structureChecked, paddingChecked, commitmentChecked, rawTabled, paddedTabled, tableOf, groupLookup, nextLookup};
 ghost use Rattle.prefix.specs.Tables.{tableBy};
-ghost use Rattle.crossing.specs.Words.{wordsIn};
-ghost use Rattle.exports.specs.Replies.{Builds, Writes, Reads, checkReply, Tables, indexReply, oneRecord, wholeWords, inWhole, filledBytes, BuildsBytes, ReadsBytes, TablesBytes, groupReply, nextReply};
-ghost use Rattle.exports.specs.Flat.{flatBuilt, flatEncoded, flatDecoded, flatVerdict, flatTabled, flatPadded, flatRaw, flatGroup, flatNext};
+ghost use Rattle.crossing.specs.Words.{wordsIn, fewWords};
+ghost use Rattle.exports.specs.Replies.{Builds, Writes, Reads, headReply, checkReply, Tables, paddedReply, rawReply, oneRecord, wholeWords, inWhole, filledBytes, BuildsBytes, ReadsBytes, TablesBytes, groupReply, nextReply};
+ghost use Rattle.exports.specs.Flat.{flatBuilt, flatEncoded, flatDecoded, flatHeaded, flatVerdict, flatTabled, flatPadded, flatRaw, flatGroup, flatNext};
 use build::Built;
 use decoder::Decoded;
 use encoder::Encoded;
+use head::Headed;
 use op_batch::Lookup;
 use op_batch::NextGroup;
 use operation::Verdict;
@@ -45,6 +47,14 @@ pub struct DecodeReply {
     pub batches: usize,
     pub operations: usize,
     pub used: usize,
+}
+
+#[repr(C)]
+pub struct HeadReply {
+    pub number: u8,
+    pub place: usize,
+    pub batches: usize,
+    pub operations: usize,
 }
 
 #[repr(C)]
@@ -196,6 +206,38 @@ pub extern "C" fn oli_decode(
     flat_decoded(r)
 }
 
+fn flat_headed(r: Headed) -> HeadReply
+    ensures { λ a. ⌜ a ≡ flatHeaded r ⌝ }
+{
+    match r {
+        Headed::Found {
+            operations,
+            batches,
+            next: _,
+        } => HeadReply {
+            number: 0,
+            place: 0,
+            batches,
+            operations,
+        },
+        Headed::Refused { number, place } => HeadReply {
+            number,
+            place,
+            batches: 0,
+            operations: 0,
+        },
+    }
+}
+
+// How much room decode needs for the block from `at` on.
+#[no_mangle]
+pub extern "C" fn oli_head(table: &[u8], bytes: &[u8], at: usize) -> HeadReply
+    ensures { λ r. ⌜ r ≡ headReply (headed (now (table .entry)) (now (bytes .entry)) at) ⌝ }
+{
+    let r = head::head(table, bytes, at);
+    flat_headed(r)
+}
+
 // ---- checks
 
 fn flat_verdict(r: Verdict) -> CheckReply
@@ -298,7 +340,7 @@ fn flat_padded(r: PaddedFound) -> IndexReply
 
 #[no_mangle]
 pub extern "C" fn oli_padded_index(table: &[u64], raw: usize) -> IndexReply
-    ensures { λ r. ⌜ r ≡ indexReply (paddedIndex (now (table .entry)) raw) ⌝ }
+    ensures { λ r. ⌜ r ≡ paddedReply (paddedIndex (now (table .entry)) (rawAt raw)) ⌝ }
 {
     let r = prefix::raw_to_padded_index(table, RawIndex(raw));
     flat_padded(r)
@@ -318,7 +360,7 @@ fn flat_raw(r: RawFound) -> IndexReply
 
 #[no_mangle]
 pub extern "C" fn oli_raw_index(table: &[u64], padded: usize) -> IndexReply
-    ensures { λ r. ⌜ r ≡ indexReply (rawIndex (now (table .entry)) padded) ⌝ }
+    ensures { λ r. ⌜ r ≡ rawReply (rawIndex (now (table .entry)) (paddedAt padded)) ⌝ }
 {
     let r = prefix::padded_to_raw_index(table, PaddedIndex(padded));
     flat_raw(r)
@@ -417,7 +459,7 @@ pub extern "C" fn oli_next_group(run: &[u8], group: usize) -> NextReply
 // ---- the same functions with runs of 64-bit numbers as little-endian bytes, eight to a number
 //
 // An input that is not whole numbers is refused with 3, and a lookup in one finds nothing. Of an output only whole numbers are room; the bytes left
-// over are zeroed too. Numbers go through work space on the stack.
+// over are zeroed too. Numbers go through work space on the stack, as much of it as their number asks for.
 
 fn clear(out_codes: &mut [u8], out_values: &mut [u8], records: &mut [u8])
     ensures { λ _. ⌜ arena (now («out_codes» .exit)) (now («out_values» .exit)) (now (records .exit)) ≡ filledBytes (arena (now («out_codes» .entry)) (now («out_values» .entry)) (now (records .entry))) noBlock ⌝ }
@@ -427,32 +469,22 @@ fn clear(out_codes: &mut [u8], out_values: &mut [u8], records: &mut [u8])
     word::zero_bytes(records, 0);
 }
 
-// The values that build fills in go through `work`, as long as what the lent bytes have room for.
+// The values go through `numbers`, and those that build fills in through `work`, as long as what the lent bytes have room for.
 fn build_through(
     table: &[u8],
     codes: &[u8],
     values: &[u8],
+    numbers: &mut [u64],
     out_codes: &mut [u8],
     work: &mut [u64],
     out_values: &mut [u8],
     records: &mut [u8],
 ) -> BuildReply
-    requires { ⌜ length (now work) ≡ min (length (now «out_values») / 8) 65536 ⌝ }
+    requires { ⌜ (fewWords (now values) ≡ true) × (length (now numbers) ≡ length (now values) / 8) × (length (now work) ≡ min (length (now «out_values») / 8) 65536) ⌝ }
     ensures { λ r. ⌜ BuildsBytes (λ (room : Room). wholeWords (now (values .entry)) (built 8 (now (table .entry)) (now (codes .entry)) (wordsIn (now (values .entry))) room)) r (arena (now («out_codes» .entry)) (now («out_values» .entry)) (now (records .entry))) (arena (now («out_codes» .exit)) (now («out_values» .exit)) (now (records .exit))) ⌝ }
 {
-    if !crossing::few_words(values) {
-        clear(out_codes, out_values, records);
-        return BuildReply {
-            number: 3,
-            place: 0,
-            batches: 0,
-            operations: 0,
-        };
-    }
-    let n = values.len() / 8;
-    let mut numbers = crossing::room();
-    crossing::read_words(values, &mut numbers);
-    let r = oli_build(table, codes, &numbers[..n], out_codes, work, records);
+    crossing::read_words(values, numbers);
+    let r = oli_build(table, codes, numbers, out_codes, work, records);
     crossing::bytes_out(work, out_values);
     r
 }
@@ -468,17 +500,75 @@ pub extern "C" fn oli_build_le(
 ) -> BuildReply
     ensures { λ r. ⌜ BuildsBytes (λ (room : Room). wholeWords (now (values .entry)) (built 8 (now (table .entry)) (now (codes .entry)) (wordsIn (now (values .entry))) room)) r (arena (now («out_codes» .entry)) (now («out_values» .entry)) (now (records .entry))) (arena (now («out_codes» .exit)) (now («out_values» .exit)) (now (records .exit))) ⌝ }
 {
-    let n = crossing::lent(out_values.len());
+    if !crossing::few_words(values) {
+        clear(out_codes, out_values, records);
+        return BuildReply {
+            number: 3,
+            place: 0,
+            batches: 0,
+            operations: 0,
+        };
+    }
+    let n = values.len() / 8;
+    let m = crossing::lent(out_values.len());
+    let k = crossing::larger(n, m);
+    if k <= crossing::SMALL {
+        let mut numbers = crossing::small_room();
+        let mut work = crossing::small_room();
+        return build_through(
+            table,
+            codes,
+            values,
+            &mut numbers[..n],
+            out_codes,
+            &mut work[..m],
+            out_values,
+            records,
+        );
+    }
+    if k <= crossing::MIDDLE {
+        let mut numbers = crossing::middle_room();
+        let mut work = crossing::middle_room();
+        return build_through(
+            table,
+            codes,
+            values,
+            &mut numbers[..n],
+            out_codes,
+            &mut work[..m],
+            out_values,
+            records,
+        );
+    }
+    let mut numbers = crossing::room();
     let mut work = crossing::room();
     build_through(
         table,
         codes,
         values,
+        &mut numbers[..n],
         out_codes,
-        &mut work[..n],
+        &mut work[..m],
         out_values,
         records,
     )
+}
+
+// The values go through `work`.
+fn encode_through(
+    table: &[u8],
+    codes: &[u8],
+    values: &[u8],
+    work: &mut [u64],
+    records: &[u8],
+    out: &mut [u8],
+    at: usize,
+) -> EncodeReply
+    requires { ⌜ length (now work) ≡ length (now values) / 8 ⌝ }
+    ensures { λ r. ⌜ Writes (encoded 8 (now (table .entry)) (arena (now (codes .entry)) (wordsIn (now (values .entry))) (now (records .entry))) (length (now (out .entry))) at) at r (now (out .entry)) (now (out .exit)) ⌝ }
+{
+    crossing::read_words(values, work);
+    oli_encode(table, codes, work, records, out, at)
 }
 
 #[no_mangle]
@@ -500,9 +590,16 @@ pub extern "C" fn oli_encode_le(
         };
     }
     let n = values.len() / 8;
+    if n <= crossing::SMALL {
+        let mut work = crossing::small_room();
+        return encode_through(table, codes, values, &mut work[..n], records, out, at);
+    }
+    if n <= crossing::MIDDLE {
+        let mut work = crossing::middle_room();
+        return encode_through(table, codes, values, &mut work[..n], records, out, at);
+    }
     let mut work = crossing::room();
-    crossing::read_words(values, &mut work);
-    oli_encode(table, codes, &work[..n], records, out, at)
+    encode_through(table, codes, values, &mut work[..n], records, out, at)
 }
 
 // The values go through `work`, as long as what the lent bytes have room for.
@@ -535,6 +632,30 @@ pub extern "C" fn oli_decode_le(
     ensures { λ r. ⌜ ReadsBytes (decoded 8 (now (table .entry)) (now (bytes .entry)) at) at r (arena (now («out_codes» .entry)) (now («out_values» .entry)) (now (records .entry))) (arena (now («out_codes» .exit)) (now («out_values» .exit)) (now (records .exit))) ⌝ }
 {
     let n = crossing::lent(out_values.len());
+    if n <= crossing::SMALL {
+        let mut work = crossing::small_room();
+        return decode_through(
+            table,
+            bytes,
+            at,
+            out_codes,
+            &mut work[..n],
+            out_values,
+            records,
+        );
+    }
+    if n <= crossing::MIDDLE {
+        let mut work = crossing::middle_room();
+        return decode_through(
+            table,
+            bytes,
+            at,
+            out_codes,
+            &mut work[..n],
+            out_values,
+            records,
+        );
+    }
     let mut work = crossing::room();
     decode_through(
         table,
@@ -579,6 +700,21 @@ pub extern "C" fn oli_padding_le(codes: &[u8], values: &[u8], records: &[u8]) ->
     oli_padding(codes, &work[..n], records)
 }
 
+// The values go through `work`.
+fn commitment_through(
+    table: &[u8],
+    codes: &[u8],
+    values: &[u8],
+    work: &mut [u64],
+    records: &[u8],
+) -> CheckReply
+    requires { ⌜ length (now work) ≡ length (now values) / 8 ⌝ }
+    ensures { λ r. ⌜ r ≡ checkReply (commitmentChecked 8 (now (table .entry)) (arena (now (codes .entry)) (wordsIn (now (values .entry))) (now (records .entry)))) ⌝ }
+{
+    crossing::read_words(values, work);
+    oli_commitment(table, codes, work, records)
+}
+
 #[no_mangle]
 pub extern "C" fn oli_commitment_le(
     table: &[u8],
@@ -595,21 +731,38 @@ pub extern "C" fn oli_commitment_le(
         };
     }
     let n = values.len() / 8;
+    if n <= crossing::SMALL {
+        let mut work = crossing::small_room();
+        return commitment_through(table, codes, values, &mut work[..n], records);
+    }
+    if n <= crossing::MIDDLE {
+        let mut work = crossing::middle_room();
+        return commitment_through(table, codes, values, &mut work[..n], records);
+    }
     let mut work = crossing::room();
-    crossing::read_words(values, &mut work);
-    oli_commitment(table, codes, &work[..n], records)
+    commitment_through(table, codes, values, &mut work[..n], records)
 }
 
-// The entries go through `work`, as long as what the lent bytes have room for.
+// The values go through `numbers`, and the entries through `work`, as long as what the lent bytes have room for.
 fn table_through(
     codes: &[u8],
     values: &[u8],
+    numbers: &mut [u64],
     records: &[u8],
     padded: bool,
     work: &mut [u64],
     out: &mut [u8],
 ) -> TableReply
-    requires { ⌜ length (now work) ≡ min (length (now out) / 8) 65536 ⌝ }
+    requires { ⌜ (fewWords (now values) ≡ true) × (length (now numbers) ≡ length (now values) / 8) × (length (now work) ≡ min (length (now out) / 8) 65536) ⌝ }
+    ensures { λ r. ⌜ TablesBytes (wholeWords (now (values .entry)) (tableOf (tableBy padded) 8 (arena (now (codes .entry)) (wordsIn (now (values .entry))) (now (records .entry))) (length (now (out .entry)) / 8))) r (now (out .entry)) (now (out .exit)) ⌝ }
+{
+    crossing::read_words(values, numbers);
+    let r = prefix::table(codes, numbers, records, padded, work);
+    crossing::bytes_out(work, out);
+    flat_tabled(r)
+}
+
+fn table_le(codes: &[u8], values: &[u8], records: &[u8], padded: bool, out: &mut [u8]) -> TableReply
     ensures { λ r. ⌜ TablesBytes (wholeWords (now (values .entry)) (tableOf (tableBy padded) 8 (arena (now (codes .entry)) (wordsIn (now (values .entry))) (now (records .entry))) (length (now (out .entry)) / 8))) r (now (out .entry)) (now (out .exit)) ⌝ }
 {
     if !crossing::few_words(values) {
@@ -621,11 +774,45 @@ fn table_through(
         };
     }
     let n = values.len() / 8;
+    let m = crossing::lent(out.len());
+    let k = crossing::larger(n, m);
+    if k <= crossing::SMALL {
+        let mut numbers = crossing::small_room();
+        let mut work = crossing::small_room();
+        return table_through(
+            codes,
+            values,
+            &mut numbers[..n],
+            records,
+            padded,
+            &mut work[..m],
+            out,
+        );
+    }
+    if k <= crossing::MIDDLE {
+        let mut numbers = crossing::middle_room();
+        let mut work = crossing::middle_room();
+        return table_through(
+            codes,
+            values,
+            &mut numbers[..n],
+            records,
+            padded,
+            &mut work[..m],
+            out,
+        );
+    }
     let mut numbers = crossing::room();
-    crossing::read_words(values, &mut numbers);
-    let r = prefix::table(codes, &numbers[..n], records, padded, work);
-    crossing::bytes_out(work, out);
-    flat_tabled(r)
+    let mut work = crossing::room();
+    table_through(
+        codes,
+        values,
+        &mut numbers[..n],
+        records,
+        padded,
+        &mut work[..m],
+        out,
+    )
 }
 
 #[no_mangle]
@@ -637,9 +824,7 @@ pub extern "C" fn oli_raw_table_le(
 ) -> TableReply
     ensures { λ r. ⌜ TablesBytes (wholeWords (now (values .entry)) (rawTabled 8 (arena (now (codes .entry)) (wordsIn (now (values .entry))) (now (records .entry))) (length (now (out .entry)) / 8))) r (now (out .entry)) (now (out .exit)) ⌝ }
 {
-    let n = crossing::lent(out.len());
-    let mut work = crossing::room();
-    table_through(codes, values, records, false, &mut work[..n], out)
+    table_le(codes, values, records, false, out)
 }
 
 #[no_mangle]
@@ -651,14 +836,12 @@ pub extern "C" fn oli_padded_table_le(
 ) -> TableReply
     ensures { λ r. ⌜ TablesBytes (wholeWords (now (values .entry)) (paddedTabled 8 (arena (now (codes .entry)) (wordsIn (now (values .entry))) (now (records .entry))) (length (now (out .entry)) / 8))) r (now (out .entry)) (now (out .exit)) ⌝ }
 {
-    let n = crossing::lent(out.len());
-    let mut work = crossing::room();
-    table_through(codes, values, records, true, &mut work[..n], out)
+    table_le(codes, values, records, true, out)
 }
 
 #[no_mangle]
 pub extern "C" fn oli_padded_index_le(table: &[u8], raw: usize) -> IndexReply
-    ensures { λ r. ⌜ r ≡ indexReply (inWhole (now (table .entry)) (paddedIndex (wordsIn (now (table .entry))) raw)) ⌝ }
+    ensures { λ r. ⌜ r ≡ paddedReply (inWhole (now (table .entry)) (paddedIndex (wordsIn (now (table .entry))) (rawAt raw))) ⌝ }
 {
     if !crossing::has_word(table, raw) {
         return IndexReply { found: 0, index: 0 };
@@ -670,7 +853,7 @@ pub extern "C" fn oli_padded_index_le(table: &[u8], raw: usize) -> IndexReply
 
 #[no_mangle]
 pub extern "C" fn oli_raw_index_le(table: &[u8], padded: usize) -> IndexReply
-    ensures { λ r. ⌜ r ≡ indexReply (inWhole (now (table .entry)) (rawIndex (wordsIn (now (table .entry))) padded)) ⌝ }
+    ensures { λ r. ⌜ r ≡ rawReply (inWhole (now (table .entry)) (rawIndex (wordsIn (now (table .entry))) (paddedAt padded))) ⌝ }
 {
     if !crossing::has_word(table, padded) {
         return IndexReply { found: 0, index: 0 };

@@ -1,47 +1,22 @@
 // A block's batches and a refusal, printed for a person. What would be read past a run's end is 0, so that no run can trip the printing up.
 ghost use Prim.Native.Nat.{_+_, _*_, _≤_, _<_};
 ghost use Rattle.io.specs.Counts.{Counts};
-use libc::STDOUT_FILENO;
+use console::byte;
+use console::counted;
+use console::long;
+use console::number;
+use console::say;
 
 const RECORD_SIZE: usize = 82;
 
 const MOST_BATCHES: usize = 16384;
 
-pub fn say(text: &[u8]) {
-    io::write_all(STDOUT_FILENO, text);
+// Places are only printed: a sum that does not fit wraps.
+pub fn plus(a: usize, b: usize) -> usize {
+    std::num::wrapping_add_usize(a, b)
 }
 
-pub fn number(n: usize) {
-    io::print_decimal(STDOUT_FILENO, n as u64);
-}
-
-// A number with its thing, one or several.
-pub fn counted(n: usize, one: &[u8], several: &[u8]) {
-    number(n);
-    if n == 1 {
-        say(one);
-        return;
-    }
-    say(several);
-}
-
-fn byte(s: &[u8], at: usize) -> usize
-    ensures { λ r. ⌜ r < 256 ⌝ }
-{
-    if at < s.len() {
-        return word::wide(s[at]) as usize;
-    }
-    0
-}
-
-fn long(s: &[u8], at: usize) -> u64 {
-    if at < s.len() {
-        if 8 <= s.len() - at {
-            return word::le8(s, at);
-        }
-    }
-    0
-}
+// ---- operations
 
 // An operation's name, at the start of out; and how many bytes it has.
 fn name(code: u8, out: &mut [u8]) -> usize
@@ -60,121 +35,182 @@ fn name(code: u8, out: &mut [u8]) -> usize
 }
 
 // An operation's name, or its number where it has none.
-fn print_name(code: u8) {
+fn print_name(page: &mut [u8], code: u8) {
     let mut text = [0u8; 16];
     let n = name(code, &mut text);
     if n == 0 {
-        say(b"op ");
-        number(code as usize);
+        say(page, b"op ");
+        number(page, word::wide(code));
         return;
     }
-    say(&text[..n]);
+    say(page, &text[..n]);
 }
 
 // An operation, with its value where its kind has one.
-fn print_op(table: &[u8], code: u8, v: u64) {
-    say(b" ");
-    print_name(code);
-    if byte(table, code as usize) == 0 {
+fn print_op(page: &mut [u8], code: u8, v: u64) {
+    say(page, b" ");
+    print_name(page, code);
+    if vm::kind(code) == 0 {
         return;
     }
-    say(b"(");
-    io::print_decimal(STDOUT_FILENO, v);
-    say(b")");
+    say(page, b"(");
+    number(page, v);
+    say(page, b")");
 }
 
-fn print_op_at(table: &[u8], codes: &[u8], values: &[u64], at: usize) {
+fn print_op_at(page: &mut [u8], codes: &[u8], values: &[u64], at: usize) {
     if at < codes.len() {
         if at < values.len() {
-            print_op(table, codes[at], values[at]);
+            print_op(page, codes[at], values[at]);
         }
     }
 }
 
-// The n operations from `at` on, the last of them marked where it is a padding.
-fn print_ops(table: &[u8], codes: &[u8], values: &[u64], at: usize, n: usize, padded: bool)
-    requires { ⌜ (at < 100000000) × (n < 256) ⌝ }
-{
+// The n operations from `at` on.
+fn print_ops(page: &mut [u8], codes: &[u8], values: &[u64], at: usize, n: usize) {
     let mut i: usize = 0;
     while i < n {
-        print_op_at(table, codes, values, at + i);
+        print_op_at(page, codes, values, plus(at, i));
         i += 1;
     }
-    if padded {
-        say(b" [padding]");
-    }
-    say(b"\n");
 }
 
-// Group g of the batch whose record starts at `r` and whose operations start at `at`.
+// How many bytes of a block an operation takes.
+pub fn op_size(code: u8) -> usize {
+    if vm::kind(code) == 0 {
+        return 1;
+    }
+    9
+}
+
+fn size_at(codes: &[u8], at: usize) -> usize {
+    if at < codes.len() {
+        return op_size(codes[at]);
+    }
+    0
+}
+
+// How many bytes the n operations from `at` on take.
+fn size(codes: &[u8], at: usize, n: usize) -> usize {
+    let mut sum: usize = 0;
+    let mut i: usize = 0;
+    while i < n {
+        sum = plus(sum, size_at(codes, plus(at, i)));
+        i += 1;
+    }
+    sum
+}
+
+// ---- batches
+
+// Where a batch starts: its first operation, and that one's byte.
+struct Place {
+    operation: usize,
+    byte: usize,
+}
+
+fn print_head(page: &mut [u8], codes: &[u8], group: u64, at: Place, from: usize) {
+    say(page, b", number ");
+    number(page, group);
+    say(page, b", operation ");
+    number(page, plus(at.operation, from) as u64);
+    say(page, b", byte ");
+    number(page, plus(at.byte, size(codes, at.operation, from)) as u64);
+    say(page, b":");
+}
+
+fn print_end(page: &mut [u8], flag: usize) {
+    if flag != 0 {
+        say(page, b" [padding]\n");
+        return;
+    }
+    say(page, b"\n");
+}
+
+// Group g of the batch whose record starts at `r`.
 fn print_group(
-    table: &[u8],
+    page: &mut [u8],
     codes: &[u8],
     values: &[u64],
     records: &[u8],
     r: usize,
-    at: usize,
+    at: Place,
     g: usize,
 )
-    requires { ⌜ (r < 10000000) × (at < 10000000) × (g < 8) ⌝ }
+    requires { ⌜ (r < 10000000) × (g < 8) ⌝ }
 {
     let from = byte(records, r + g);
     let to = byte(records, r + g + 1);
-    let flag = byte(records, r + 9 + g);
     let group = long(records, r + 17 + 8 * g);
-    say(b"  group ");
-    number(g);
+    say(page, b"  group ");
+    number(page, g as u64);
     if to <= from {
-        say(b": value ");
-        io::print_decimal(STDOUT_FILENO, group);
-        say(b"\n");
+        say(page, b": value ");
+        number(page, group);
+        say(page, b"\n");
         return;
     }
-    say(b", number ");
-    io::print_decimal(STDOUT_FILENO, group);
-    say(b":");
-    print_ops(table, codes, values, at + from, to - from, flag != 0);
+    print_head(page, codes, group, at, from);
+    print_ops(page, codes, values, plus(at.operation, from), to - from);
+    print_end(page, byte(records, r + 9 + g));
 }
 
-// Batch b, whose record starts at `r`.
-fn print_batch(
-    table: &[u8],
+// The groups of the batch whose record starts at `r`.
+fn print_groups(
+    page: &mut [u8],
     codes: &[u8],
     values: &[u64],
     records: &[u8],
-    b: usize,
     r: usize,
-    at: usize,
+    at: Place,
+    count: usize,
 )
-    requires { ⌜ (r < 10000000) × (at < 10000000) ⌝ }
+    requires { ⌜ r < 10000000 ⌝ }
 {
-    let count = byte(records, r + 81);
-    let total = byte(records, r + 8);
-    say(b"batch ");
-    number(b);
-    say(b": ");
-    counted(count, b" group, ", b" groups, ");
-    counted(total, b" operation\n", b" operations\n");
     let mut g: usize = 0;
     while g < 8 {
         if count <= g {
-            break;
+            return;
         }
-        print_group(table, codes, values, records, r, at, g);
+        print_group(page, codes, values, records, r, at, g);
         g += 1;
     }
 }
 
-// The batches of a block.
-pub fn print_batches(table: &[u8], codes: &[u8], values: &[u64], records: &[u8], batches: usize)
+fn print_batch(page: &mut [u8], b: usize, groups: usize, operations: usize) {
+    say(page, b"batch ");
+    number(page, b as u64);
+    say(page, b": ");
+    counted(page, groups, b" group, ", b" groups, ");
+    counted(page, operations, b" operation\n", b" operations\n");
+}
+
+// The batches of a block whose first operation is at a byte.
+fn print_batches(
+    page: &mut [u8],
+    codes: &[u8],
+    values: &[u64],
+    records: &[u8],
+    batches: usize,
+    first: usize,
+)
     requires { ⌜ batches ≤ 16384 ⌝ }
 {
-    let mut at: usize = 0;
+    let mut operation: usize = 0;
+    let mut at = first;
     let mut b: usize = 0;
     while b < batches {
         let r = RECORD_SIZE * b;
-        print_batch(table, codes, values, records, b, r, at);
-        at += byte(records, r + 8);
+        let n = byte(records, r + 8);
+        let count = byte(records, r + 81);
+        print_batch(page, b, count, n);
+        let place = Place {
+            operation,
+            byte: at,
+        };
+        print_groups(page, codes, values, records, r, place, count);
+        at = plus(at, size(codes, operation, n));
+        operation = plus(operation, n);
         b += 1;
     }
 }
@@ -203,7 +239,7 @@ fn flagged(records: &[u8], r: usize) -> usize
 }
 
 // How many paddings a block has.
-pub fn paddings(records: &[u8], batches: usize) -> usize
+fn paddings(records: &[u8], batches: usize) -> usize
     requires { ⌜ batches ≤ 16384 ⌝ }
 {
     let mut n: usize = 0;
@@ -215,76 +251,141 @@ pub fn paddings(records: &[u8], batches: usize) -> usize
     n
 }
 
-// A block that was found at a byte, or stands there when it is written: its totals and its batches.
-pub fn print_block(
-    table: &[u8],
-    codes: &[u8],
-    values: &[u64],
-    records: &[u8],
-    at: usize,
-    batches: usize,
-    operations: usize,
-    used: usize,
-) {
+// ---- a block
+
+// What stands after a block: nobody asks, so many bytes, or at least so many.
+pub enum After {
+    Unasked,
+    Bytes(usize),
+    AtLeast(usize),
+}
+
+fn print_rest(page: &mut [u8], then: &[u8], n: usize) {
+    say(page, then);
+    counted(page, n, b" more byte\n", b" more bytes\n");
+}
+
+fn print_after(page: &mut [u8], after: After) {
+    match after {
+        After::Unasked => say(page, b"\n"),
+        After::Bytes(n) => print_rest(page, b", then ", n),
+        After::AtLeast(n) => print_rest(page, b", then at least ", n),
+    }
+}
+
+// A block that stands at a byte, and its totals.
+pub struct Block {
+    pub at: usize,
+    pub batches: usize,
+    pub operations: usize,
+    pub used: usize,
+}
+
+fn print_start(page: &mut [u8], at: usize) {
+    say(page, b"block at byte ");
+    number(page, at as u64);
+    say(page, b": ");
+}
+
+fn print_totals(page: &mut [u8], block: Block, paddings: usize) {
+    print_start(page, block.at);
+    counted(page, block.batches, b" batch, ", b" batches, ");
+    counted(page, block.operations, b" operation, ", b" operations, ");
+    counted(page, paddings, b" padding, ", b" paddings, ");
+    counted(page, block.used, b" byte", b" bytes");
+}
+
+// Only the totals, in a line.
+pub fn print_line(records: &[u8], block: Block) {
+    let batches = block.batches;
     if MOST_BATCHES < batches {
         return;
     }
-    say(b"block at byte ");
-    number(at);
-    say(b": ");
-    counted(batches, b" batch, ", b" batches, ");
-    counted(operations, b" operation, ", b" operations, ");
-    counted(paddings(records, batches), b" padding, ", b" paddings, ");
-    counted(used, b" byte\n", b" bytes\n");
-    print_batches(table, codes, values, records, batches);
+    let mut page = console::output();
+    print_totals(&mut page, block, paddings(records, batches));
+    print_after(&mut page, After::Unasked);
+    console::flush(&mut page);
 }
 
-// What a number of refusal means (document 01, "Numbers of refusal").
-fn print_meaning(refusal: u8) {
+// The totals, and the batches; and whether they could be written.
+pub fn print_block(
+    codes: &[u8],
+    values: &[u64],
+    records: &[u8],
+    block: Block,
+    after: After,
+) -> bool {
+    let batches = block.batches;
+    if MOST_BATCHES < batches {
+        return false;
+    }
+    let mut page = console::output();
+    print_totals(&mut page, block, paddings(records, batches));
+    print_after(&mut page, after);
+    let first = plus(block.at, wire::count_size(block.operations as u64));
+    print_batches(&mut page, codes, values, records, batches, first);
+    console::flush(&mut page)
+}
+
+// ---- refusals
+
+// What a number of refusal means (document 01, "Numbers of refusal"), in the words of rust/oliastrofu.
+fn print_meaning(page: &mut [u8], refusal: u8) {
     match refusal {
-        1 => say(b"the offset lies past the end of the bytes"),
-        2 => say(b"the bytes end inside a count, an operation or the batch count"),
-        3 => say(b"over a limit, or lists of unequal length, or a count in a wrong form"),
+        1 => say(
+            page,
+            b"the offset or write position is past the end of the bytes",
+        ),
+        2 => say(
+            page,
+            b"the bytes end inside the count, an operation or the batch count",
+        ),
+        3 => say(
+            page,
+            b"a count has a wrong form or is over a limit, or lists have unequal lengths",
+        ),
         4 => say(
+            page,
             b"an operation is not admissible: its opcode is unassigned or its value out of range",
         ),
-        5 => say(b"more batches are announced than the bytes that are left can hold"),
-        6 => say(b"a batch has a group size over 9"),
-        7 => say(b"a batch runs past the operations"),
-        8 => say(b"an immediate has no slot left in its batch"),
-        9 => say(b"an immediate's slot is taken by operations"),
-        10 => say(b"a padding flag stands where no padding is"),
-        11 => say(b"operations are left over after the last batch"),
-        12 => say(b"the list is empty"),
-        13 => say(b"the room that was lent is too small"),
-        14 => say(b"the table of kinds is not good"),
-        15 => say(b"a batch record contradicts itself, or the batches do not cover the operations"),
-        16 => say(b"a group number, an immediate or an empty group is not what the operations say"),
-        _ => say(b"no such refusal"),
+        5 => say(page, b"more batches than the bytes that are left can hold"),
+        6 => say(page, b"a group's length is over 9"),
+        7 => say(page, b"a batch runs past the operations"),
+        8 => say(page, b"an immediate's slot is past the groups"),
+        9 => say(page, b"an immediate's slot is a group of operations"),
+        10 => say(page, b"a padding flag stands where no padding is"),
+        11 => say(page, b"operations are left over after the last batch"),
+        12 => say(page, b"the list to batch is empty"),
+        13 => say(page, b"a lent output is smaller than the result needs"),
+        14 => say(page, b"the table is not 128 bytes or not good"),
+        15 => say(page, b"the batches' structure does not hold"),
+        16 => say(
+            page,
+            b"a group number, an immediate or an empty group's 0 differs",
+        ),
+        _ => say(page, b"a number without a meaning"),
     }
 }
 
-// What the place of a refusal counts; nothing where it is always 0.
-fn print_place(refusal: u8, place: usize) {
+fn print_at(page: &mut [u8], what: &[u8], place: usize) {
+    say(page, what);
+    number(page, place as u64);
+}
+
+// What the place of a refusal counts; nothing where it is a byte or always 0.
+fn print_place(page: &mut [u8], refusal: u8, place: usize) {
     match refusal {
-        2 => say(b", at byte "),
-        4 => say(b", at operation "),
-        6 | 7 | 8 | 9 | 10 | 15 | 16 => say(b", at batch "),
-        _ => {
-            say(b"\n");
-            return;
-        }
+        4 => print_at(page, b", operation ", place),
+        6 | 7 | 8 | 9 | 10 | 15 | 16 => print_at(page, b", in batch ", place),
+        _ => {}
     }
-    number(place);
-    say(b"\n");
 }
 
-// One line for a refusal: what is wrong, its number and its place.
-pub fn print_refusal(refusal: u8, place: usize) {
-    say(b"refused: ");
-    print_meaning(refusal);
-    say(b" (number ");
-    number(refusal as usize);
-    say(b")");
-    print_place(refusal, place);
+// A refusal's number, what it means, and its place.
+pub fn print_refusal(page: &mut [u8], refusal: u8, place: usize) {
+    say(page, b"refusal ");
+    number(page, word::wide(refusal));
+    say(page, b": ");
+    print_meaning(page, refusal);
+    print_place(page, refusal, place);
 }

@@ -1,26 +1,30 @@
 -- The tables lead each raw operation to its padded place and back, and a padding to the next raw operation. Assumes nothing.
-use mathlib.Core.Path.{_≡_, refl, ap, _∙_}
-use mathlib.Core.Bool.{Bool, true, false}
+use mathlib.Core.Path.{_≡_, refl, sym, ap, _∙_}
+use mathlib.Core.Bool.{Bool, true, false, not}
 use mathlib.Core.List.{List, [], _∷_, map}
-use mathlib.Core.Option.{some}
+use mathlib.Core.Option.{none, some}
 use Prim.Native.Nat.{ℕ, zero, suc, _+_, _-_, _/_, _≤_, _<_}
 use native.Mathlib.Nat.{add-zero, zero-add}
 use native.Mathlib.Omega.{arith}
-use borrow.Author.Tests.{lt-ltb, le-leb}
+use borrow.Author.Tests.{lt-ltb, le-ltb, le-leb, ltb-false, not-false}
 use lib.ListN.{length, getD, take, replicate, length-append, length-replicate}
 use lib.Seq.{take-length}
-use lib.Dec.{eqb}
-use Rattle.rules.specs.Lists.{total}
-use Rattle.rules.specs.Record.{Record, recordAt, recordsFrom, recordsIn}
-use Rattle.rules.specs.Checks.{ninth, recordRight}
-use Rattle.rules.specs.Lookups.{marksIn, marks, rawEntries, paddedEntries, rawTable, paddedTable, largest, paddedIndex, rawIndex}
-use Rattle.rules.specs.Functions.{blockIn}
+use lib.Dec.{ltb, eqb}
+use Rattle.rules.specs.Lists.{fitted, total}
+use Rattle.rules.specs.Answer.{Answer, good, refused}
+use Rattle.rules.specs.Record.{Record, Block, recordAt, recordsFrom, recordsIn}
+use Rattle.rules.specs.Checks.{ninth, recordRight, structureFaults, paddingFaults}
+use Rattle.rules.specs.Lookups.{marksIn, marks, rawEntries, paddedEntries, rawTable, paddedTable, rawAt, paddedAt, largest, paddedIndex, rawIndex}
+use Rattle.rules.specs.Functions.{Arena, blockIn, within, structureChecked, tableOf, tableLeft}
+use Rattle.rules.proofs.Answer.{passed, value, no-fault, all-passed}
 use Rattle.rules.proofs.Operations.{length-operations}
+use Rattle.rules.proofs.Runs.{fitted-front}
 use Rattle.op_batch.proofs.Right.{Sound, sound, rise, starts-length, flags-length}
-use Rattle.checks.proofs.Walk.{equal-lengths}
+use Rattle.checks.proofs.Walk.{equal-lengths, few-codes}
 use Rattle.checks.proofs.Passed.{checked}
-use Rattle.prefix.specs.Tables.{marksAt}
-use Rattle.prefix.specs.Claims.{raws, placeOf, TablesLead, AllMarked}
+use Rattle.prefix.specs.Tables.{marksAt, tabledOf, Answered}
+use Rattle.prefix.specs.declared.Tabled.the-variants.{Made, Refused}
+use Rattle.prefix.specs.Claims.{raws, placeOf, TablesLead, AllMarked, TablesLeft}
 use Rattle.prefix.proofs.Entries.{marks-turn, marks-end}
 
 -- ---- the raw table
@@ -106,16 +110,24 @@ counted (false ∷ ms) (suc p) = omega (arith, counted ms p)
 
 -- ---- the lookups
 
-to-padded : (ms : List Bool) (i p : ℕ) → i ≤ raws ms → p ≤ largest → i + getD (rawEntries 0 ms) i 0 ≡ p → paddedIndex (rawEntries 0 ms) i ≡ some p
+to-padded : (ms : List Bool) (i p : ℕ) → i ≤ raws ms → p ≤ largest → i + getD (rawEntries 0 ms) i 0 ≡ p → paddedIndex (rawEntries 0 ms) (rawAt i) ≡ some (paddedAt p)
 unfolding paddedIndex
 to-padded ms i p h l e = rw (lt-ltb i (length (rawEntries 0 ms)) (omega (arith, raw-length 0 ms)), e, le-leb p largest l)
 
-to-raw : (ms : List Bool) (p : ℕ) → p ≤ length ms → rawIndex (paddedEntries 0 ms) p ≡ some (raws (take p ms))
+to-raw : (ms : List Bool) (p : ℕ) → p ≤ length ms → rawIndex (paddedEntries 0 ms) (paddedAt p) ≡ some (rawAt (raws (take p ms)))
 unfolding rawIndex
 to-raw ms p h =
     let e = padded-entry 0 ms p h in
     let d : p - getD (paddedEntries 0 ms) p 0 ≡ raws (take p ms) = omega arith in
     rw (lt-ltb p (length (paddedEntries 0 ms)) (omega (arith, padded-length 0 ms)), le-leb (getD (paddedEntries 0 ms) p 0) p (omega arith), d)
+
+past-raw : (ms : List Bool) (i : ℕ) → raws ms < i → paddedIndex (rawEntries 0 ms) (rawAt i) ≡ none
+unfolding paddedIndex
+past-raw ms i h = rw (le-ltb i (length (rawEntries 0 ms)) (omega (arith, raw-length 0 ms)))
+
+past-padded : (ms : List Bool) (p : ℕ) → length ms < p → rawIndex (paddedEntries 0 ms) (paddedAt p) ≡ none
+unfolding rawIndex
+past-padded ms p h = rw (le-ltb p (length (paddedEntries 0 ms)) (omega (arith, padded-length 0 ms)))
 
 pub tables-lead : TablesLead
 unfolding rawTable paddedTable
@@ -123,12 +135,13 @@ tables-lead b l =
     let ms = marks (b .records) in
     record {
       there = λ i h. let q = place-inside ms i h in to-padded ms i (placeOf i ms) (omega arith) (omega arith) (omega (arith, raw-entry 0 ms i h));
-      back = λ i h. to-raw ms (placeOf i ms) (omega (arith, place-inside ms i h)) ∙ ap some (place-raws ms i h);
+      back = λ i h. to-raw ms (placeOf i ms) (omega (arith, place-inside ms i h)) ∙ ap (λ (k : ℕ). some (rawAt k)) (place-raws ms i h);
       padding = λ p h e. (raws (take p ms), (to-raw ms p (omega arith), record { before = before ms p; after = λ j. after ms p j e; counted = counted ms p }));
       ends = (
         to-padded ms (raws ms) (length ms) (omega arith) l (omega (arith, raw-last 0 ms)),
-        to-raw ms (length ms) (omega arith) ∙ ap (λ (xs : List Bool). some (raws xs)) (take-length ms),
+        to-raw ms (length ms) (omega arith) ∙ ap (λ (xs : List Bool). some (rawAt (raws xs))) (take-length ms),
       );
+      past = λ i. (past-raw ms i, past-padded ms i);
     }
 
 -- ---- each operation has a mark
@@ -170,3 +183,53 @@ all-marked a h =
     marks-all (length (a .records) / 82) (a .records) 0 (λ j l. rw (zero-add j) (k .1 .right j l))
     ∙ k .1 .sum
     ∙ length-operations (a .codes) (a .values) (equal-lengths (a .codes) (a .values) (a .records) (k .0))
+
+-- ---- what the two functions left
+
+record WasMade (d : Answer (List ℕ)) (n : ℕ) : Type 0 where
+  entries : List ℕ
+  answer : d ≡ good entries
+  many : n ≡ length entries
+
+was-made : (d : Answer (List ℕ)) (n : ℕ) → Made n ≡ tabledOf d → WasMade d n
+was-made (good es) n e = record { entries = es; answer = refl; many = cc }
+was-made (refused k p) n e = absurd (let z : _≡_ {A = ℕ} 0 1 = cc in omega arith)
+
+module _ (table : Block → List ℕ) (a : Arena) (room : ℕ) (es : List ℕ) (h : tableOf table 8 a room ≡ good es) where
+  record Passed : Type 0 where
+    structure : structureChecked 8 a ≡ good tt
+    fits : length (table (blockIn a)) ≤ room
+    entries : table (blockIn a) ≡ es
+
+  has-passed : Passed
+  unfolding tableOf structureChecked
+  has-passed =
+      let b = blockIn a in
+      let i = passed (not (within a)) 3 0 _ es h in
+      let s = no-fault 0 (structureFaults 8 b) _ es (i .1) in
+      let p = no-fault 0 (paddingFaults b) _ es (s .1) in
+      let r = passed (ltb room (length (table b))) 13 0 _ es (p .1) in
+      record {
+        structure = rw (not-false (within a) (i .0)) (all-passed 0 (structureFaults 8 b) (good tt) (s .0));
+        fits = ltb-false room (length (table b)) (r .0);
+        entries = value (table b) es (r .1);
+      }
+
+left-front : (out out′ es : List ℕ) (n : ℕ) → n ≡ length es → length es ≤ length out → out′ ≡ fitted (length out) es → take n out′ ≡ es
+left-front out out′ es n e l h = rw (e, h) (fitted-front (length out) es l)
+
+-- the table, in the front of the run that was lent for it
+was-left : (table : Block → List ℕ) (a : Arena) (out out′ : List ℕ) (n : ℕ) → Answered (tableOf table 8 a (length out)) (Made n) out out′ → (structureChecked 8 a ≡ good tt) × (take n out′ ≡ table (blockIn a))
+unfolding tableLeft
+was-left table a out out′ n h =
+    let m = was-made (tableOf table 8 a (length out)) n (h .reply) in
+    let p = has-passed table a (length out) (m .entries) (m .answer) in
+    let l : length (m .entries) ≤ length out = rw (p .entries) at (p .fits) in
+    (p .structure, left-front out out′ (m .entries) n (m .many) l (h .left ∙ ap (tableLeft out) (m .answer)) ∙ sym (p .entries))
+
+pub tables-left : TablesLeft
+tables-left a rawRun rawRun′ paddedRun paddedRun′ n m h k =
+    let r = was-left rawTable a rawRun rawRun′ n h in
+    let p = was-left paddedTable a paddedRun paddedRun′ m k in
+    let few : length (marks (blockIn a .records)) ≤ largest = omega (arith, all-marked a (r .0), few-codes (a .codes) (a .values) (a .records) (checked (a .codes) (a .values) (a .records) (r .0) .0)) in
+    rw (r .1, p .1) (tables-lead (blockIn a) few)

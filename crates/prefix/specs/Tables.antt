@@ -9,30 +9,30 @@ use lib.Seq.{sets}
 use lib.Dec.{leb, eqb}
 use Rattle.rules.specs.Answer.{Answer, good, refused}
 use Rattle.rules.specs.Record.{Record, Block, differences}
-use Rattle.rules.specs.Lookups.{marksOf, rawEntries, paddedEntries, rawTable, paddedTable, largest}
+use Rattle.rules.specs.Lookups.{marksOf, rawEntries, paddedEntries, rawTable, paddedTable, Raw, rawAt, Padded, paddedAt, largest}
 use Rattle.rules.specs.Functions.{tableLeft}
 use Rattle.prefix.specs.declared.PaddedFound.{PaddedFound}
-use Rattle.prefix.specs.declared.PaddedFound.the-variants as padded
+use Rattle.prefix.specs.declared.PaddedFound.the-variants as at-padded
 use Rattle.prefix.specs.declared.RawFound.{RawFound}
-use Rattle.prefix.specs.declared.RawFound.the-variants as raw
+use Rattle.prefix.specs.declared.RawFound.the-variants as at-raw
 use Rattle.prefix.specs.declared.Tabled.{Tabled}
 use Rattle.prefix.specs.declared.Tabled.the-variants.{Made, Refused}
 use Rattle.prefix.specs.declared.Filled.{Filled}
 
-abbrev pub paddedFound : Option ℕ → PaddedFound
-paddedFound none = padded.Nothing
-paddedFound (some i) = padded.At (record { 0 = i })
+abbrev pub paddedFound : Option Padded → PaddedFound
+paddedFound none = at-padded.Nothing
+paddedFound (some (paddedAt i)) = at-padded.At (record { 0 = i })
 
-abbrev pub rawFound : Option ℕ → RawFound
-rawFound none = raw.Nothing
-rawFound (some i) = raw.At (record { 0 = i })
+abbrev pub rawFound : Option Raw → RawFound
+rawFound none = at-raw.Nothing
+rawFound (some (rawAt i)) = at-raw.At (record { 0 = i })
 
 -- where an index leads, by its entry: the second half of `paddedIndex` and of `rawIndex`
-abbrev pub paddedBy : ℕ → ℕ → Option ℕ
-paddedBy entry i = cond (leb (i + entry) largest) (some (i + entry)) none
+abbrev pub paddedBy : ℕ → Raw → Option Padded
+paddedBy entry (rawAt i) = cond (leb (i + entry) largest) (some (paddedAt (i + entry))) none
 
-abbrev pub rawBy : ℕ → ℕ → Option ℕ
-rawBy entry i = cond (leb entry i) (some (i - entry)) none
+abbrev pub rawBy : ℕ → Padded → Option Raw
+rawBy entry (paddedAt i) = cond (leb entry i) (some (rawAt (i - entry))) none
 
 -- a table's reply: how many entries it has
 abbrev pub tabledOf : Answer (List ℕ) → Tabled

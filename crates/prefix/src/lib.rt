@@ -6,7 +6,7 @@ ghost use lib.ListN.{length, replicate};
 ghost use lib.Seq.{sets};
 ghost use Rattle.rules.specs.Record.{recordAt, recordsIn};
 ghost use Rattle.rules.specs.Checks.{recordRight};
-ghost use Rattle.rules.specs.Lookups.{marks, paddedIndex, rawIndex};
+ghost use Rattle.rules.specs.Lookups.{marks, rawAt, paddedAt, paddedIndex, rawIndex};
 ghost use Rattle.rules.specs.Functions.{arena, rawTabled, paddedTabled, tableOf};
 ghost use Rattle.prefix.specs.Tables.{paddedFound, rawFound, paddedBy, rawBy, tableBy, tableFrom, padsIn, keptIn, marksAt, Goes, Filling, Answered};
 use op_batch::RECORD;
@@ -38,7 +38,7 @@ const LARGEST: usize = 18446744073709551615;
 
 // Where the entry of a raw index leads.
 pub fn padded_by(entry: u64, i: RawIndex) -> PaddedFound
-    ensures { λ r. ⌜ r ≡ paddedFound (paddedBy entry (i .0)) ⌝ }
+    ensures { λ r. ⌜ r ≡ paddedFound (paddedBy entry (rawAt (i .0))) ⌝ }
 {
     let raw = i.0;
     let paddings = entry as usize;
@@ -49,7 +49,7 @@ pub fn padded_by(entry: u64, i: RawIndex) -> PaddedFound
 }
 
 pub fn raw_to_padded_index(table: &[u64], i: RawIndex) -> PaddedFound
-    ensures { λ r. ⌜ r ≡ paddedFound (paddedIndex (now (table .entry)) (i .0)) ⌝ }
+    ensures { λ r. ⌜ r ≡ paddedFound (paddedIndex (now (table .entry)) (rawAt (i .0))) ⌝ }
 {
     let raw = i.0;
     if table.len() <= raw {
@@ -60,7 +60,7 @@ pub fn raw_to_padded_index(table: &[u64], i: RawIndex) -> PaddedFound
 
 // Where the entry of a padded index leads.
 pub fn raw_by(entry: u64, i: PaddedIndex) -> RawFound
-    ensures { λ r. ⌜ r ≡ rawFound (rawBy entry (i .0)) ⌝ }
+    ensures { λ r. ⌜ r ≡ rawFound (rawBy entry (paddedAt (i .0))) ⌝ }
 {
     let padded = i.0;
     let paddings = entry as usize;
@@ -71,7 +71,7 @@ pub fn raw_by(entry: u64, i: PaddedIndex) -> RawFound
 }
 
 pub fn padded_to_raw_index(table: &[u64], i: PaddedIndex) -> RawFound
-    ensures { λ r. ⌜ r ≡ rawFound (rawIndex (now (table .entry)) (i .0)) ⌝ }
+    ensures { λ r. ⌜ r ≡ rawFound (rawIndex (now (table .entry)) (paddedAt (i .0))) ⌝ }
 {
     let padded = i.0;
     if table.len() <= padded {

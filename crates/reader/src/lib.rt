@@ -1,9 +1,11 @@
 // A reader that keeps the lent bytes and its place in them, over the proved functions on a slice and a number.
 ghost use mathlib.Core.Path.{_≡_};
 ghost use Rattle.wire.specs.Replies.{countReadOf, opReadOf};
-ghost use Rattle.reader.specs.Here.{countHere, opHere};
+ghost use Rattle.rules.specs.Functions.{countHere, opHere};
 use wire::CountRead;
 use wire::OpRead;
+
+const MOST_BYTES: usize = 1048576;
 
 pub struct Reader<'a> {
     pub src: &'a [u8],
@@ -14,6 +16,12 @@ pub struct Reader<'a> {
 fn count_at<'a>(src: &'a [u8], at: usize) -> CountRead
     ensures { λ r. ⌜ r ≡ countReadOf (countHere (now (src .entry)) at) ⌝ }
 {
+    if MOST_BYTES < src.len() {
+        return CountRead::Refused {
+            number: 3,
+            place: 0,
+        };
+    }
     if src.len() < at {
         return CountRead::Refused {
             number: 1,
@@ -26,6 +34,12 @@ fn count_at<'a>(src: &'a [u8], at: usize) -> CountRead
 fn op_at<'a>(src: &'a [u8], at: usize, table: &'a [u8], i: usize) -> OpRead
     ensures { λ r. ⌜ r ≡ opReadOf (opHere (now (table .entry)) (now (src .entry)) at i) ⌝ }
 {
+    if MOST_BYTES < src.len() {
+        return OpRead::Refused {
+            number: 3,
+            place: 0,
+        };
+    }
     if !operation::good_table(table) {
         return OpRead::Refused {
             number: 14,

@@ -4,8 +4,8 @@ ghost use mathlib.Core.Path.{_≡_};
 ghost use Prim.Native.Nat.{_≤_, _<_};
 ghost use lib.ListN.{length};
 ghost use Rattle.io.specs.Counts.{Counts};
-use listing::number as print;
-use listing::say;
+use console::print as say;
+use console::print_number as print;
 use text::Number;
 
 // ---- the numbers of a line, which ends in its line feed
@@ -166,6 +166,9 @@ fn room(s: &[u8], from: usize, most: usize) -> Run
     Run { lent, at: n.at }
 }
 
+// No run is longer.
+const MOST: usize = 1343652;
+
 // Room for a block.
 struct Rooms {
     codes: usize,
@@ -174,12 +177,12 @@ struct Rooms {
     at: usize,
 }
 
-fn block_room(s: &[u8], from: usize, codes: usize, values: usize, records: usize) -> Rooms
-    ensures { λ r. ⌜ (r .codes ≤ codes) × (r .values ≤ values) × (r .records ≤ records) ⌝ }
+fn block_room(s: &[u8], from: usize) -> Rooms
+    ensures { λ r. ⌜ (r .codes ≤ 65536) × (r .values ≤ 65536) × (r .records ≤ 1343652) ⌝ }
 {
-    let k = room(s, from, codes);
-    let v = room(s, k.at, values);
-    let r = room(s, v.at, records);
+    let k = room(s, from, 65536);
+    let v = room(s, k.at, 65536);
+    let r = room(s, v.at, MOST);
     Rooms {
         codes: k.lent,
         values: v.lent,
@@ -332,9 +335,6 @@ fn compared(mut c: Case, s: &[u8], h: Head, what: &[u8], ours: usize, at: usize)
     c
 }
 
-// No output is longer.
-const MOST: usize = 1343652;
-
 fn bytes_are(c: Case, s: &[u8], what: &[u8], ours: &[u8]) -> Case {
     let h = run_head(s, c.at, MOST);
     let at = differs8(s, h.at, h.given, ours);
@@ -360,55 +360,77 @@ fn block_is(c: Case, s: &[u8], codes: &[u8], values: &[u64], records: &[u8]) -> 
     bytes_are(e, s, b"records", records)
 }
 
-// ---- the functions, each on runs of the lent lengths
+// ---- the functions, each on what its line lends; an array is made where it is used
 
-fn build(
-    c: Case,
-    s: &[u8],
-    table: &[u8],
-    codes: &[u8],
-    values: &[u64],
-    out_codes: &mut [u8],
-    out_values: &mut [u64],
-    out: &mut [u8],
-) -> Case {
-    soil(out_codes, out_values, out);
-    let r = exports::oli_build(table, codes, values, out_codes, out_values, out);
-    let d = made(c, s, r.number, r.place, r.batches, r.operations);
-    block_is(d, s, out_codes, out_values, out)
+fn build(mut c: Case, s: &[u8], table: &[u8], codes: &[u8], values: &[u64]) -> Case {
+    let r = block_room(s, c.at);
+    c.at = r.at;
+    let x = r.codes;
+    let y = r.values;
+    let z = r.records;
+    let mut out_codes = space::codes();
+    let mut out_values = space::values();
+    let mut out = space::records();
+    soil(&mut out_codes[..x], &mut out_values[..y], &mut out[..z]);
+    let b = exports::oli_build(
+        table,
+        codes,
+        values,
+        &mut out_codes[..x],
+        &mut out_values[..y],
+        &mut out[..z],
+    );
+    let d = made(c, s, b.number, b.place, b.batches, b.operations);
+    block_is(d, s, &out_codes[..x], &out_values[..y], &out[..z])
 }
 
-fn decode(
-    c: Case,
-    s: &[u8],
-    table: &[u8],
-    block: &[u8],
-    from: usize,
-    out_codes: &mut [u8],
-    out_values: &mut [u64],
-    out: &mut [u8],
-) -> Case {
-    soil(out_codes, out_values, out);
-    let r = exports::oli_decode(table, block, from, out_codes, out_values, out);
-    let d = made(c, s, r.number, r.place, r.batches, r.operations);
-    let e = is(d, s, b"bytes used", r.used);
-    block_is(e, s, out_codes, out_values, out)
+fn decode(mut c: Case, s: &[u8], table: &[u8], block: &[u8], from: usize) -> Case {
+    let r = block_room(s, c.at);
+    c.at = r.at;
+    let x = r.codes;
+    let y = r.values;
+    let z = r.records;
+    let mut out_codes = space::codes();
+    let mut out_values = space::values();
+    let mut out = space::records();
+    soil(&mut out_codes[..x], &mut out_values[..y], &mut out[..z]);
+    let b = exports::oli_decode(
+        table,
+        block,
+        from,
+        &mut out_codes[..x],
+        &mut out_values[..y],
+        &mut out[..z],
+    );
+    let d = made(c, s, b.number, b.place, b.batches, b.operations);
+    let e = is(d, s, b"bytes used", b.used);
+    block_is(e, s, &out_codes[..x], &out_values[..y], &out[..z])
 }
 
 fn encode(
-    c: Case,
+    mut c: Case,
     s: &[u8],
     table: &[u8],
     codes: &[u8],
     values: &[u64],
     records: &[u8],
-    out: &mut [u8],
-    from: usize,
 ) -> Case {
-    let r = exports::oli_encode(table, codes, values, records, out, from);
+    let mut out = space::records();
+    let k = bytes(s, c.at, &mut out);
+    let from = number(s, k.at);
+    c.at = from.at;
+    let n = k.lent;
+    let r = exports::oli_encode(
+        table,
+        codes,
+        values,
+        records,
+        &mut out[..n],
+        from.value as usize,
+    );
     let d = refusal(c, s, r.number, r.place);
     let e = is(d, s, b"length", r.length);
-    bytes_are(e, s, b"bytes", out)
+    bytes_are(e, s, b"bytes", &out[..n])
 }
 
 fn check(c: Case, s: &[u8], table: &[u8], codes: &[u8], values: &[u64], records: &[u8]) -> Case {
@@ -447,6 +469,14 @@ fn index_table(
     tabled(c, s, r.number, r.place, r.entries, out)
 }
 
+fn to_table(mut c: Case, s: &[u8], codes: &[u8], values: &[u64], records: &[u8]) -> Case {
+    let a = room(s, c.at, 65536);
+    c.at = a.at;
+    let n = a.lent;
+    let mut out = space::values();
+    index_table(c, s, codes, values, records, &mut out[..n])
+}
+
 fn found(c: Case, s: &[u8], was: u8, at: usize) -> Case {
     let d = is(c, s, b"found", was as usize);
     is(d, s, b"index", at)
@@ -478,103 +508,24 @@ fn next_group(c: Case, s: &[u8], run: &[u8], asked: usize) -> Case {
 
 // ---- a line: what it lends is read, then the function is run on it
 
-fn on_list(
-    mut c: Case,
-    s: &[u8],
-    table: &[u8],
-    codes: &mut [u8],
-    values: &mut [u64],
-    out_codes: &mut [u8],
-    out_values: &mut [u64],
-    out: &mut [u8],
-) -> Case {
-    let k = bytes(s, c.at, codes);
-    let v = words(s, k.at, values);
-    let r = block_room(s, v.at, out_codes.len(), out_values.len(), out.len());
-    c.at = r.at;
+fn on_list(mut c: Case, s: &[u8], table: &[u8]) -> Case {
+    let mut codes = space::codes();
+    let mut values = space::values();
+    let k = bytes(s, c.at, &mut codes);
+    let v = words(s, k.at, &mut values);
+    c.at = v.at;
     let n = k.lent;
     let m = v.lent;
-    let x = r.codes;
-    let y = r.values;
-    let z = r.records;
-    build(
-        c,
-        s,
-        table,
-        &codes[..n],
-        &values[..m],
-        &mut out_codes[..x],
-        &mut out_values[..y],
-        &mut out[..z],
-    )
+    build(c, s, table, &codes[..n], &values[..m])
 }
 
-fn on_bytes(
-    mut c: Case,
-    s: &[u8],
-    table: &[u8],
-    run: &mut [u8],
-    out_codes: &mut [u8],
-    out_values: &mut [u64],
-    out: &mut [u8],
-) -> Case {
-    let k = bytes(s, c.at, run);
-    let from = number(s, k.at);
-    let r = block_room(s, from.at, out_codes.len(), out_values.len(), out.len());
-    c.at = r.at;
-    let n = k.lent;
-    let x = r.codes;
-    let y = r.values;
-    let z = r.records;
-    decode(
-        c,
-        s,
-        table,
-        &run[..n],
-        from.value as usize,
-        &mut out_codes[..x],
-        &mut out_values[..y],
-        &mut out[..z],
-    )
-}
-
-fn to_bytes(
-    mut c: Case,
-    s: &[u8],
-    table: &[u8],
-    codes: &[u8],
-    values: &[u64],
-    records: &[u8],
-    out: &mut [u8],
-) -> Case {
-    let k = bytes(s, c.at, out);
+fn on_bytes(mut c: Case, s: &[u8], table: &[u8]) -> Case {
+    let mut run = space::records();
+    let k = bytes(s, c.at, &mut run);
     let from = number(s, k.at);
     c.at = from.at;
     let n = k.lent;
-    encode(
-        c,
-        s,
-        table,
-        codes,
-        values,
-        records,
-        &mut out[..n],
-        from.value as usize,
-    )
-}
-
-fn to_table(
-    mut c: Case,
-    s: &[u8],
-    codes: &[u8],
-    values: &[u64],
-    records: &[u8],
-    out: &mut [u64],
-) -> Case {
-    let a = room(s, c.at, out.len());
-    c.at = a.at;
-    let n = a.lent;
-    index_table(c, s, codes, values, records, &mut out[..n])
+    decode(c, s, table, &run[..n], from.value as usize)
 }
 
 // The functions on a block: encode, the checks and the tables.
@@ -585,57 +536,42 @@ fn with_block(
     codes: &[u8],
     values: &[u64],
     records: &[u8],
-    out_values: &mut [u64],
-    out: &mut [u8],
 ) -> Case {
     if c.what == 2 {
-        return to_bytes(c, s, table, codes, values, records, out);
+        return encode(c, s, table, codes, values, records);
     }
     if c.what <= 6 {
         return check(c, s, table, codes, values, records);
     }
-    to_table(c, s, codes, values, records, out_values)
+    to_table(c, s, codes, values, records)
 }
 
-fn on_block(
-    mut c: Case,
-    s: &[u8],
-    table: &[u8],
-    codes: &mut [u8],
-    values: &mut [u64],
-    records: &mut [u8],
-    out_values: &mut [u64],
-    out: &mut [u8],
-) -> Case {
-    let k = bytes(s, c.at, codes);
-    let v = words(s, k.at, values);
-    let r = bytes(s, v.at, records);
+fn on_block(mut c: Case, s: &[u8], table: &[u8]) -> Case {
+    let mut codes = space::codes();
+    let mut values = space::values();
+    let mut records = space::records();
+    let k = bytes(s, c.at, &mut codes);
+    let v = words(s, k.at, &mut values);
+    let r = bytes(s, v.at, &mut records);
     c.at = r.at;
     let x = k.lent;
     let y = v.lent;
     let z = r.lent;
-    with_block(
-        c,
-        s,
-        table,
-        &codes[..x],
-        &values[..y],
-        &records[..z],
-        out_values,
-        out,
-    )
+    with_block(c, s, table, &codes[..x], &values[..y], &records[..z])
 }
 
-fn on_entries(mut c: Case, s: &[u8], entries: &mut [u64]) -> Case {
-    let k = words(s, c.at, entries);
+fn on_entries(mut c: Case, s: &[u8]) -> Case {
+    let mut entries = space::values();
+    let k = words(s, c.at, &mut entries);
     let asked = number(s, k.at);
     c.at = asked.at;
     let n = k.lent;
     index(c, s, &entries[..n], asked.value as usize)
 }
 
-fn on_record(mut c: Case, s: &[u8], run: &mut [u8]) -> Case {
-    let k = bytes(s, c.at, run);
+fn on_record(mut c: Case, s: &[u8]) -> Case {
+    let mut run = space::records();
+    let k = bytes(s, c.at, &mut run);
     let asked = number(s, k.at);
     c.at = asked.at;
     let n = k.lent;
@@ -645,24 +581,14 @@ fn on_record(mut c: Case, s: &[u8], run: &mut [u8]) -> Case {
     next_group(c, s, &run[..n], asked.value as usize)
 }
 
-fn dispatch(
-    c: Case,
-    s: &[u8],
-    table: &[u8],
-    codes: &mut [u8],
-    values: &mut [u64],
-    run: &mut [u8],
-    out_codes: &mut [u8],
-    out_values: &mut [u64],
-    out: &mut [u8],
-) -> Case {
+fn dispatch(c: Case, s: &[u8], table: &[u8]) -> Case {
     let what = c.what;
     match what {
-        1 => on_list(c, s, table, codes, values, out_codes, out_values, out),
-        3 => on_bytes(c, s, table, run, out_codes, out_values, out),
-        2 | 4 | 5 | 6 | 7 | 8 => on_block(c, s, table, codes, values, run, out_values, out),
-        9 | 10 => on_entries(c, s, values),
-        11 | 12 => on_record(c, s, run),
+        1 => on_list(c, s, table),
+        3 => on_bytes(c, s, table),
+        2 | 4 | 5 | 6 | 7 | 8 => on_block(c, s, table),
+        9 | 10 => on_entries(c, s),
+        11 | 12 => on_record(c, s),
         _ => astray(c),
     }
 }
@@ -723,19 +649,7 @@ fn new_table(s: &[u8], from: usize, table: &mut [u8]) -> Left
     }
 }
 
-fn line(
-    n: usize,
-    s: &[u8],
-    t: usize,
-    table: &mut [u8],
-    counts: &mut [u64],
-    codes: &mut [u8],
-    values: &mut [u64],
-    run: &mut [u8],
-    out_codes: &mut [u8],
-    out_values: &mut [u64],
-    out: &mut [u8],
-) -> Left
+fn line(n: usize, s: &[u8], t: usize, table: &mut [u8], counts: &mut [u64]) -> Left
     requires { ⌜ t ≤ length (now table) ⌝ }
     ensures { λ r. ⌜ r .table ≤ length (now (table .exit)) ⌝ }
 {
@@ -749,17 +663,7 @@ fn line(
         at: what.at,
         same: true,
     };
-    let c = dispatch(
-        start,
-        s,
-        &table[..t],
-        codes,
-        values,
-        run,
-        out_codes,
-        out_values,
-        out,
-    );
+    let c = dispatch(start, s, &table[..t]);
     if c.at != s.len() {
         return Left {
             table: t,
@@ -774,36 +678,15 @@ fn line(
 }
 
 // The lines of a file, up to the first that is neither a case nor a table; its number, or 0 where there is none.
-fn lines(
-    s: &[u8],
-    table: &mut [u8],
-    counts: &mut [u64],
-    codes: &mut [u8],
-    values: &mut [u64],
-    run: &mut [u8],
-    out_codes: &mut [u8],
-    out_values: &mut [u64],
-    out: &mut [u8],
-) -> usize {
+fn lines(s: &[u8], counts: &mut [u64]) -> usize {
+    let mut table = [0u8; 256];
     let mut t: usize = 0;
     let mut from: usize = 0;
     let mut n: usize = 0;
     while from < s.len() {
         n += 1;
         let end = text::line_end(s, from);
-        let left = line(
-            n,
-            &s[from..end],
-            t,
-            table,
-            counts,
-            codes,
-            values,
-            run,
-            out_codes,
-            out_values,
-            out,
-        );
+        let left = line(n, &s[from..end], t, &mut table, counts);
         if !left.well {
             return n;
         }
@@ -847,9 +730,12 @@ fn load(path: &[u8], text: &mut [u8]) -> usize
     if fd < 0 {
         return 0;
     }
-    let n = io::read_full(fd, text);
+    let got = console::fill(fd, text);
     libc::close(fd);
-    n
+    if got.failed {
+        return 0;
+    }
+    got.count
 }
 
 // The counts of a file, and the line where it was left, if it was.
@@ -863,22 +749,12 @@ fn finish(path: &[u8], counts: &mut [u64], stopped: usize) {
     say(b": neither a case nor a table; what comes after it is not run\n");
 }
 
-fn file(
-    path: &[u8],
-    text: &mut [u8],
-    table: &mut [u8],
-    counts: &mut [u64],
-    codes: &mut [u8],
-    values: &mut [u64],
-    run: &mut [u8],
-    out_codes: &mut [u8],
-    out_values: &mut [u64],
-    out: &mut [u8],
-) {
+fn file(path: &[u8], counts: &mut [u64]) {
     say(path);
     say(b"\n");
     fill64(counts, 0, CASES, 0);
-    let n = load(path, text);
+    let mut text = text_room();
+    let n = load(path, &mut text);
     if n == 0 {
         not_read(path, counts, b" cannot be read, or has nothing in it\n");
         return;
@@ -887,17 +763,7 @@ fn file(
         not_read(path, counts, b" is longer than 262143 bytes\n");
         return;
     }
-    let stopped = lines(
-        &text[..n],
-        table,
-        counts,
-        codes,
-        values,
-        run,
-        out_codes,
-        out_values,
-        out,
-    );
+    let stopped = lines(&text[..n], counts);
     finish(path, counts, stopped);
 }
 
@@ -923,89 +789,26 @@ fn text_room() -> [u8; 262144]
 }
 
 // The file that an argument names.
-fn argument(
-    i: usize,
-    counts: &mut [u64],
-    text: &mut [u8],
-    table: &mut [u8],
-    codes: &mut [u8],
-    values: &mut [u64],
-    run: &mut [u8],
-    out_codes: &mut [u8],
-    out_values: &mut [u64],
-    out: &mut [u8],
-) {
+fn argument(i: usize, counts: &mut [u64]) {
     let mut path = io::buffer();
     let n = os::arg(i, &mut path);
-    file(
-        &path[..n],
-        text,
-        table,
-        counts,
-        codes,
-        values,
-        run,
-        out_codes,
-        out_values,
-        out,
-    );
+    file(&path[..n], counts);
 }
 
-fn files(
-    count: usize,
-    counts: &mut [u64],
-    text: &mut [u8],
-    table: &mut [u8],
-    codes: &mut [u8],
-    values: &mut [u64],
-    run: &mut [u8],
-    out_codes: &mut [u8],
-    out_values: &mut [u64],
-    out: &mut [u8],
-) {
+fn files(count: usize, counts: &mut [u64]) {
     let mut i: usize = 1;
     while i < count {
-        argument(
-            i,
-            counts,
-            text,
-            table,
-            codes,
-            values,
-            run,
-            out_codes,
-            out_values,
-            out,
-        );
+        argument(i, counts);
         i += 1;
     }
 }
 
 fn main() {
     if os::arg_count() < 2 {
-        say(b"usage: replay FILE..\n");
+        console::tell(b"usage: replay FILE..\n");
         return;
     }
     let mut counts = [0u64; 16];
-    let mut text = text_room();
-    let mut table = [0u8; 256];
-    let mut codes = space::codes();
-    let mut values = space::values();
-    let mut run = space::records();
-    let mut out_codes = space::codes();
-    let mut out_values = space::values();
-    let mut out = space::records();
-    files(
-        os::arg_count(),
-        &mut counts,
-        &mut text,
-        &mut table,
-        &mut codes,
-        &mut values,
-        &mut run,
-        &mut out_codes,
-        &mut out_values,
-        &mut out,
-    );
+    files(os::arg_count(), &mut counts);
     total(&counts);
 }

@@ -3,4 +3,5 @@ pub mod Runs
 pub mod Answer
 pub mod Operations
 pub mod Sizes
+pub mod Slots
 pub mod Loads

@@ -31,6 +31,13 @@ fitted-zeros (suc n) [] zero = refl
 fitted-zeros (suc n) [] (suc k) = ap (λ (l : List ℕ). 0 ∷ l) (fitted-zeros n [] k)
 fitted-zeros (suc n) (x ∷ xs) k = ap (λ (l : List ℕ). x ∷ l) (fitted-zeros n xs k)
 
+-- the list stands in front
+pub fitted-front : (n : ℕ) (xs : List ℕ) → length xs ≤ n → take (length xs) (fitted n xs) ≡ xs
+unfolding fitted
+fitted-front n [] h = refl
+fitted-front zero (x ∷ xs) h = absurd (omega arith)
+fitted-front (suc n) (x ∷ xs) h = ap (λ (l : List ℕ). x ∷ l) (fitted-front n xs (omega arith))
+
 pub zeros-fitted : (n : ℕ) → replicate n 0 ≡ fitted n []
 unfolding fitted
 zeros-fitted zero = refl

@@ -66,7 +66,7 @@ pub record Room : Type 0 where
   pub values : ℕ
   pub records : ℕ
 
--- items 1 to 3: "count (2, 3, 13), operations in order, batch count (2, 5, 3, 13)"
+-- items 1 to 3: "count (2, 3, 13), operations in order .., batch count (2, 5, 3, 13)"
 pub record Head : Type 0 where
   pub ops : List Op
   pub batches : ℕ

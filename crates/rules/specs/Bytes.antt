@@ -72,7 +72,7 @@ opsBytes t (x ∷ xs) = opBytes t x ++ opsBytes t xs
 
 -- ---- 3. "Batch count, 4 bytes, little-endian."
 
--- "5: batch count over (bytes left / 5), rounded down", before the limit of 16,384 batches
+-- 5, "batch count over (bytes left / 5), rounded down", before the limit of 16,384 batches
 unfoldable pub batchCountAt : List ℕ → ℕ → Read ℕ
 batchCountAt s at =
     refuse (ltb (length s) (at + 4)) 2 at
@@ -86,7 +86,7 @@ batchCountAt s at =
 abbrev pub upTo : ℕ → List ℕ → Bool
 upTo m ns = every (λ (n : ℕ). leb n m) ns
 
--- the sizes of the b-th batch: "6: nibble over 9". Groups from the width on have no operations; at width 8 there are no such groups.
+-- the sizes of the b-th batch: 6, "nibble over 9". Groups from the width on have no operations; at width 8 there are no such groups.
 unfoldable pub sizesAt : ℕ → List ℕ → ℕ → ℕ → Read (List ℕ)
 sizesAt w s at b =
     let ns = digits 16 8 (leAt 4 s at) in

@@ -2,16 +2,17 @@
 use mathlib.Core.Bool.{Bool, not, _&&_, _||_}
 use mathlib.Core.List.{List, [], map}
 use mathlib.Core.Option.{Option}
-use Prim.Native.Nat.{ℕ, _+_, _/_, _%_}
+use Prim.Native.Nat.{ℕ, _+_, _-_, _/_, _%_}
 use lib.ListN.{length}
 use lib.Dec.{leb, ltb, eqb}
 use lib.Seq.{sets}
 use Rattle.rules.specs.Lists.{fitted}
 use Rattle.rules.specs.Answer.{Answer, good, refused, Read, refuse, refuseFirst}
-use Rattle.rules.specs.Operations.{operations, codes, values, goodTable, opFault}
+use Rattle.rules.specs.Operations.{Op, operations, codes, values, goodTable, opFault}
 use Rattle.rules.specs.Batching.{batchesOf}
 use Rattle.rules.specs.Record.{Record, Block, blockOf, noBlock, recordSize, recordsBytes, recordsIn}
-use Rattle.rules.specs.Block.{Room, blockBytes, blockAt}
+use Rattle.rules.specs.Bytes.{countAt, opAt}
+use Rattle.rules.specs.Block.{Room, Head, blockBytes, headAt, blockAt}
 use Rattle.rules.specs.Checks.{recordRight, structureFaults, paddingFaults, commitmentFaults}
 use Rattle.rules.specs.Lookups.{Place, groupOf, nextGroup, rawTable, paddedTable}
 
@@ -51,7 +52,7 @@ filled a b =
 
 -- ---- build: "3, 14, 12, 4, 13"
 
--- "13: lent output smaller than the result needs"
+-- 13, "lent output smaller than the result needs"
 unfoldable pub roomFor : Block → Room → Bool
 roomFor b room = leb (length (b .ops)) (room .codes) && (leb (length (b .ops)) (room .values) && leb (length (b .records)) (room .records))
 
@@ -104,6 +105,53 @@ decoded w t s at room =
 abbrev pub readLeft : Read Block → Block
 readLeft (good b) = b .item
 readLeft (refused n p) = noBlock
+
+-- ---- what a reply tells: "A refusal replies with every length and total 0", as these are those of what is left
+
+pub record Totals : Type 0 where
+  pub batches : ℕ
+  pub operations : ℕ
+
+-- of a block that build or decode left
+abbrev pub totals : Block → Totals
+totals b = record { batches = length (b .records); operations = length (b .ops) }
+
+-- how many bytes encode wrote, or entries a table has
+abbrev pub lengthTold : Answer (List ℕ) → ℕ
+lengthTold d = length (bytesLeft d)
+
+-- decode, from a place on: "the reply says how many were used"
+abbrev pub used : ℕ → Read Block → ℕ
+used at (good b) = b .next - at
+used at (refused n p) = 0
+
+-- ---- a reader's steps, "count and operation reads only": decode's 3, 14 and 1, then the item at its place; the operation is the i-th
+
+unfoldable pub countHere : List ℕ → ℕ → Read ℕ
+countHere s at =
+    refuse (ltb 1048576 (length s)) 3 0
+    (refuse (ltb (length s) at) 1 0
+    (countAt s at))
+
+unfoldable pub opHere : List ℕ → List ℕ → ℕ → ℕ → Read Op
+opHere t s at i =
+    refuse (ltb 1048576 (length s)) 3 0
+    (refuse (not (goodTable t)) 14 0
+    (refuse (ltb (length s) at) 1 0
+    (opAt t s at i)))
+
+-- ---- how much a block needs: decode's first refusals and items 1 to 3, with room for 65,535 operations and 16,384 batches; no block has more, so that 13
+-- is never the answer
+
+abbrev pub most : Room
+most = record { codes = 65535; values = 65535; records = 16384 }
+
+unfoldable pub headed : List ℕ → List ℕ → ℕ → Read Head
+headed t s at =
+    refuse (ltb 1048576 (length s)) 3 0
+    (refuse (not (goodTable t)) 14 0
+    (refuse (ltb (length s) at) 1 0
+    (headAt t s at most)))
 
 -- ---- checks: "structure 3, 15; padding 3, 15, 10; commitment 3, 14, 15, 4, then batch by batch the first fault"
 

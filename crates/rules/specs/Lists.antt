@@ -3,7 +3,7 @@ use mathlib.Core.Bool.{Bool, true, _&&_}
 use mathlib.Core.List.{List, [], _∷_}
 use Prim.Native.Nat.{ℕ, zero, suc, _+_}
 
--- "content, then zeros": a list filled up with zeros, or cut, to n elements. A lent run of n elements holds this once the list is written to its front.
+-- Content, then zeros: a list filled up with zeros, or cut, to n elements. A lent run of n elements holds this once the list is written to its front.
 unfoldable pub fitted : ℕ → List ℕ → List ℕ
 fitted zero xs = []
 fitted (suc n) [] = 0 ∷ fitted n []

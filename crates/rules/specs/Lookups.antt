@@ -70,10 +70,10 @@ paddedTable b = paddedEntries 0 (marks (b .records))
 
 -- "A raw index and a padded index are different kinds of number and must not be mixed."
 pub data Raw : Type 0 where
-  raw : ℕ → Raw
+  rawAt : ℕ → Raw
 
 pub data Padded : Type 0 where
-  padded : ℕ → Padded
+  paddedAt : ℕ → Padded
 
 -- the largest index
 abbrev pub largest : ℕ
@@ -81,8 +81,8 @@ largest = 18446744073709551615
 
 -- "Padded index = raw index + entry"; "An index past the last entry gives none; so does .. a sum over the largest index"
 unfoldable pub paddedIndex : List ℕ → Raw → Option Padded
-paddedIndex table (raw i) = cond (ltb i (length table) && leb (i + getD table i 0) largest) (some (padded (i + getD table i 0))) none
+paddedIndex table (rawAt i) = cond (ltb i (length table) && leb (i + getD table i 0) largest) (some (paddedAt (i + getD table i 0))) none
 
 -- "raw index = padded index - entry"; "An index past the last entry gives none; so does an entry greater than the padded index"
 unfoldable pub rawIndex : List ℕ → Padded → Option Raw
-rawIndex table (padded i) = cond (ltb i (length table) && leb (getD table i 0) i) (some (raw (i - getD table i 0))) none
+rawIndex table (paddedAt i) = cond (ltb i (length table) && leb (getD table i 0) i) (some (rawAt (i - getD table i 0))) none

@@ -57,6 +57,6 @@ valueRight t x = cond (valued t (x .code)) (ltb (x .value) field) (eqb (x .value
 unfoldable pub admissible : List ℕ → Op → Bool
 admissible t x = assigned t (x .code) && valueRight t x
 
--- "4: operation not admissible"
+-- 4, "operation not admissible"
 unfoldable pub opFault : List ℕ → Op → ℕ
 opFault t x = cond (admissible t x) 0 4

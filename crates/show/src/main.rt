@@ -1,66 +1,203 @@
 // show FILE [OFFSET]: prints the batches of the block that starts at a byte of a file, under the virtual machine's own table; or says in one line
 // what is wrong.
 ghost use mathlib.Core.Path.{_≡_};
+ghost use Prim.Native.Nat.{_≤_};
 ghost use lib.ListN.{length};
+use console::byte;
 use decoder::Decoded;
+use listing::After;
+use listing::Block;
+use listing::plus;
 use text::Number;
+use wire::CountRead;
 
-const MOST_BYTES: usize = 1048576;
-
-// Room for a file.
-fn file_room() -> [u8; 1048577]
-    ensures { λ r. ⌜ 1048577 ≡ length r ⌝ }
+// As many bytes as a block may have.
+fn block_room() -> [u8; 1048576]
+    ensures { λ r. ⌜ 1048576 ≡ length r ⌝ }
 {
-    [0; 1048577]
+    [0; 1048576]
 }
 
-fn show(bytes: &[u8], at: usize) {
+// ---- where a refusal points to, in the bytes of a block
+
+// The byte of operation i; of what comes after the operations where there are i.
+fn operation_byte(s: &[u8], first: usize, i: usize) -> usize {
+    let mut at = first;
+    let mut k: usize = 0;
+    while k < i {
+        at = plus(at, listing::op_size(byte(s, at) as u8));
+        k += 1;
+    }
+    at
+}
+
+// Four bytes, the lowest first.
+fn four(s: &[u8], at: usize) -> usize {
+    let low = byte(s, at) + 256 * byte(s, plus(at, 1));
+    low + 65536 * byte(s, plus(at, 2)) + 16777216 * byte(s, plus(at, 3))
+}
+
+// The batch count is at `at`: the byte of a batch's flags, or of its nibbles.
+fn batch_byte(s: &[u8], at: usize, refusal: u8, batch: usize) -> usize {
+    let nibbles = plus(at, 4);
+    if refusal == 10 {
+        return plus(plus(nibbles, times4(four(s, at))), batch);
+    }
+    plus(nibbles, times4(batch))
+}
+
+fn times4(n: usize) -> usize {
+    let two = plus(n, n);
+    plus(two, two)
+}
+
+fn place_byte(s: &[u8], refusal: u8, place: usize) -> usize {
+    if refusal == 2 {
+        return place;
+    }
+    let c = wire::read_count(s, 0);
+    let CountRead::Found { value, next } = c else {
+        return 0;
+    };
+    if refusal == 4 {
+        return operation_byte(s, next, place);
+    }
+    let at = operation_byte(s, next, value as usize);
+    if refusal < 6 {
+        return at;
+    }
+    batch_byte(s, at, refusal, place)
+}
+
+fn say_byte(page: &mut [u8], what: &[u8], at: usize) {
+    console::say(page, what);
+    console::number(page, at as u64);
+}
+
+// The byte that a refusal points to, where it has one.
+fn say_place(page: &mut [u8], s: &[u8], at: usize, refusal: u8, place: usize) {
+    match refusal {
+        2 => say_byte(page, b", in the item that starts at byte ", plus(at, place)),
+        3..=10 => say_byte(page, b", at byte ", plus(at, place_byte(s, refusal, place))),
+        _ => {}
+    }
+}
+
+// ---- a block
+
+fn refused(path: &[u8], s: &[u8], at: usize, refusal: u8, place: usize) {
+    let mut line = console::errors();
+    console::about(&mut line, b"show", path);
+    console::say(&mut line, b": ");
+    listing::print_refusal(&mut line, refusal, place);
+    say_place(&mut line, s, at, refusal, place);
+    console::say(&mut line, b"\n");
+    console::flush(&mut line);
+}
+
+// What stands after a block that ends at `last`, in a file that ends at `end`; that is not known where it comes first.
+fn after(last: usize, end: usize, read: usize, used: usize) -> After {
+    if last <= end {
+        return After::Bytes(end - last);
+    }
+    if used <= read {
+        return After::AtLeast(read - used);
+    }
+    After::Unasked
+}
+
+// The bytes of the file from `at` on, as many as a block may have.
+fn show(path: &[u8], bytes: &[u8], at: usize, end: usize) {
     let table = vm::table();
     let mut codes = space::codes();
     let mut values = space::values();
     let mut records = space::records();
-    let r = decoder::decode(&table, bytes, at, &mut codes, &mut values, &mut records);
+    let r = decoder::decode(&table, bytes, 0, &mut codes, &mut values, &mut records);
     match r {
         Decoded::Made {
             batches,
             operations,
             used,
-        } => listing::print_block(
-            &table,
-            &codes,
-            &values,
-            &records,
-            at,
-            batches,
-            operations,
-            used,
-        ),
-        Decoded::Refused { number, place } => listing::print_refusal(number, place),
+        } => {
+            let block = Block {
+                at,
+                batches,
+                operations,
+                used,
+            };
+            let rest = after(plus(at, used), end, bytes.len(), used);
+            listing::print_block(&codes, &values, &records, block, rest);
+        }
+        Decoded::Refused { number, place } => refused(path, bytes, at, number, place),
     }
+}
+
+// ---- a file
+
+const LAST: usize = 9223372036854775807;
+
+fn seek(fd: i32, at: usize) -> bool
+    requires { ⌜ at ≤ 9223372036854775807 ⌝ }
+{
+    if at == 0 {
+        return true;
+    }
+    0 <= libc::lseek(fd, at as i64, libc::SEEK_SET)
+}
+
+// Where the file ends; 0 where it is a pipe.
+fn end_of(fd: i32) -> usize {
+    let end = libc::lseek(fd, 0, libc::SEEK_END);
+    if 0 <= end {
+        return end as usize;
+    }
+    0
+}
+
+fn show_read(path: &[u8], fd: i32, at: usize, room: &mut [u8]) {
+    let got = console::fill(fd, room);
+    if got.failed {
+        console::fail(b"show", path);
+        return;
+    }
+    let n = got.count;
+    let read = plus(at, n);
+    let end = end_of(fd);
+    if n == 0 && end < at {
+        refused(path, b"", at, 1, 0);
+        return;
+    }
+    if n < room.len() {
+        show(path, &room[..n], at, read);
+        return;
+    }
+    show(path, &room[..n], at, end);
+}
+
+fn show_from(path: &[u8], fd: i32, at: usize) {
+    if LAST < at {
+        refused(path, b"", at, 1, 0);
+        return;
+    }
+    if !seek(fd, at) {
+        console::fail(b"show", path);
+        return;
+    }
+    let mut room = block_room();
+    show_read(path, fd, at, &mut room);
 }
 
 fn show_file(path: &[u8], at: usize) {
     let fd = os::open_read(path);
     if fd < 0 {
-        os::fail(path);
+        console::fail(b"show", path);
         return;
     }
-    // a folder opens like a file, and only a read says that it is none
-    let mut nothing = [0u8; 0];
-    if libc::read(fd, &mut nothing) < 0 {
-        os::fail(path);
-        libc::close(fd);
-        return;
-    }
-    let mut bytes = file_room();
-    let n = io::read_full(fd, &mut bytes);
+    show_from(path, fd, at);
     libc::close(fd);
-    if MOST_BYTES < n {
-        listing::say(b"show: the file is larger than 1048576 bytes\n");
-        return;
-    }
-    show(&bytes[..n], at);
 }
+
+// ---- arguments
 
 // The offset that the second argument names; 0 where there is none.
 fn offset() -> Number {
@@ -69,24 +206,38 @@ fn offset() -> Number {
     }
     let mut argument = io::buffer();
     let n = os::arg(2, &mut argument);
-    text::decimal(&argument[..n])
+    text::either(&argument[..n])
+}
+
+fn help() {
+    console::print(
+        b"show FILE [OFFSET]: prints the batches of the block that starts at byte OFFSET of FILE (0 where none is given), under the virtual machine's\nown table; or says in one line, on standard error, what is wrong: the number of the refusal, what it means, and where. The file may have any size:\nonly the 1048576 bytes from OFFSET on are read, and no block is longer than 671742. Of a group it prints the number, the index of its first operation in the block, and that operation's byte in the file.\nWhat it prints was read from a whole block: one that is cut short is refused. It does not notice batch data of another list that fits these\noperations, nor a changed byte that leaves a good block: only batching the list again would.\n",
+    );
+}
+
+fn run(path: &[u8]) {
+    if check::same(path, b"--help") {
+        help();
+        return;
+    }
+    let at = offset();
+    match at {
+        Number::Is(from) => show_file(path, from as usize),
+        Number::Not | Number::Large => console::tell(b"show: OFFSET is not a number of bytes\n"),
+    }
 }
 
 fn main() {
     let count = os::arg_count();
     if count < 2 || 3 < count {
-        listing::say(b"usage: show FILE [OFFSET]\n");
+        console::tell(b"usage: show FILE [OFFSET] (show --help says more)\n");
         return;
     }
     let mut path = io::buffer();
     let n = os::arg(1, &mut path);
     if os::errno() != 0 {
-        listing::say(b"show: the name of the file is too long\n");
+        console::tell(b"show: the name of the file is too long\n");
         return;
     }
-    let at = offset();
-    match at {
-        Number::Is(from) => show_file(&path[..n], from as usize),
-        Number::Not | Number::Large => listing::say(b"show: the offset is not a number of bytes\n"),
-    }
+    run(&path[..n]);
 }

@@ -89,7 +89,7 @@ pub fn either(text: &[u8]) -> Number {
     if text[0] != b'0' {
         return decimal(text);
     }
-    if text[1] != b'x' {
+    if text[1] != b'x' && text[1] != b'X' {
         return decimal(text);
     }
     hex(&text[2..])
@@ -149,30 +149,54 @@ pub fn line_end(s: &[u8], from: usize) -> usize
     at
 }
 
-// What parts words. Parentheses do, so that a value may stand as `push(5)` or `push 5`.
+// What parts words.
 fn blank(b: u8) -> bool {
     match b {
-        b' ' | b'\t' | b'\r' | b'\n' | b'(' | b')' => true,
+        b' ' | b'\t' | b'\r' | b'\n' => true,
         _ => false,
     }
 }
 
-// Where the next word of a line starts; its end where there is none before the comment.
+// Where the words of a line end: in front of its comment, and of the blanks there.
+pub fn words_end(line: &[u8]) -> usize
+    ensures { λ r. ⌜ r ≤ length (now (line .entry)) ⌝ }
+{
+    let mut end: usize = 0;
+    let mut at: usize = 0;
+    while at < line.len() {
+        let b = line[at];
+        at += 1;
+        if b == b'#' {
+            return end;
+        }
+        if !blank(b) {
+            end = at;
+        }
+    }
+    end
+}
+
+// Where the next word of a line starts; its end where there is none.
 pub fn word_start(line: &[u8], from: usize) -> usize
     requires { ⌜ from ≤ length (now line) ⌝ }
     ensures { λ r. ⌜ (from ≤ r) × (r ≤ length (now (line .entry))) ⌝ }
 {
     let mut at = from;
     while at < line.len() {
-        if line[at] == b'#' {
-            return line.len();
-        }
         if !blank(line[at]) {
             return at;
         }
         at += 1;
     }
     at
+}
+
+// A parenthesis ends a word too, so that `push(5)` has two.
+fn parts(b: u8) -> bool {
+    if b == b'(' || b == b')' {
+        return true;
+    }
+    blank(b)
 }
 
 // Where the word at a place ends.
@@ -182,10 +206,7 @@ pub fn word_end(line: &[u8], from: usize) -> usize
 {
     let mut at = from;
     while at < line.len() {
-        if line[at] == b'#' {
-            return at;
-        }
-        if blank(line[at]) {
+        if parts(line[at]) {
             return at;
         }
         at += 1;

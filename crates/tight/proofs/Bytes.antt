@@ -4,6 +4,7 @@ use mathlib.Core.List.{List}
 use Prim.Native.Nat.{ℕ}
 use native.Mathlib.Omega.{arith}
 use lib.ListN.{getD, replicate}
+use Rattle.rules.specs.Lists.{fitted}
 use Rattle.rules.specs.Functions as rules
 use Rattle.rules.specs.Functions.{Arena, roomIn}
 use Rattle.rules.specs.Examples.{tableT, p1, p2}
@@ -44,6 +45,10 @@ writes : (r : Encoded) → EncodesP1 (replicate 30 0) r → ⊥
 unfolding document
 writes r h = let z : _≡_ {A = ℕ} 0 5 = ap (λ (l : List ℕ). getD l 3 0) (h .bytes) in omega arith
 
+elsewhere : (r : Encoded) → EncodesP1 (fitted 30 p2) r → ⊥
+unfolding document
+elsewhere r h = let z : _≡_ {A = ℕ} 5 0 = ap (λ (l : List ℕ). getD l 0 0) (h .bytes) in omega arith
+
 fills : (r : Decoded) → DecodesP2 lentRuns r → ⊥
 unfolding document
 fills r h = let z : _≡_ {A = ℕ} 0 1 = ap (λ (a : Arena). getD (a .codes) 0 0) (h .runs) in omega arith
@@ -54,6 +59,7 @@ shut-out =
       encode-refuses = λ n p after h. not-written n p (h .reply ∙ written);
       decode-refuses = λ n p after h. not-read n p (h .reply ∙ read);
       encode-writes-nothing = writes;
+      encode-at-the-start = elsewhere;
       decode-writes-nothing = fills;
       encode-length = λ n after h. same-length n (h .reply ∙ written);
       decode-totals = λ b o u after h. same-totals b o u (h .reply ∙ read);

@@ -1,16 +1,28 @@
 -- One answer for each input. Assumes nothing.
 use mathlib.Core.Path.{_≡_, sym, _∙_}
+use Rattle.claims.specs.One.{Only}
 use Rattle.tight.specs.OneAnswer.{OneAnswer}
 
-same : {A : Type 0} (answer r q : A) → r ≡ answer → q ≡ answer → r ≡ q
-same answer r q x y = x ∙ sym y
+-- a contract that says what the reply equals
+equal : {A : Type 0} (answer : A) → Only (λ r. r ≡ answer)
+equal answer r q h k = h ∙ sym k
 
 pub one-answer : OneAnswer
 one-answer =
     record {
-      build = λ answer before r q x y h k. (h .reply ∙ sym (k .reply), h .runs ∙ sym (k .runs));
+      build = λ t cs vs before r q x y h k. (h .reply ∙ sym (k .reply), h .runs ∙ sym (k .runs));
       encode = λ t a at before r q x y h k. (h .reply ∙ sym (k .reply), h .bytes ∙ sym (k .bytes));
       decode = λ t s at before r q x y h k. (h .reply ∙ sym (k .reply), h .runs ∙ sym (k .runs));
-      table = λ d out r q x y h k. (h .reply ∙ sym (k .reply), h .left ∙ sym (k .left));
-      others = same;
+      structure = λ a. equal _;
+      padding = λ a. equal _;
+      commitment = λ t a. equal _;
+      raw-to-padded = λ a before r q x y h k. (h .reply ∙ sym (k .reply), h .left ∙ sym (k .left));
+      padded-to-raw = λ a before r q x y h k. (h .reply ∙ sym (k .reply), h .left ∙ sym (k .left));
+      raw-to-padded-index = λ table i. equal _;
+      padded-to-raw-index = λ table i. equal _;
+      op-idx-in-batch-to-group = λ b i. equal _;
+      next-op-group-index = λ b g. equal _;
+      head = λ t s at. equal _;
+      reader-count = λ s at. equal _;
+      reader-op = λ t s at i. equal _;
     }

@@ -3,6 +3,7 @@ use mathlib.Core.Path.{_≡_}
 use mathlib.Core.List.{List}
 use Prim.Native.Nat.{ℕ}
 use lib.ListN.{replicate}
+use Rattle.rules.specs.Lists.{fitted}
 use Rattle.rules.specs.Functions.{Arena}
 use Rattle.rules.specs.Examples.{tableT, p1, p2}
 use Rattle.rules.specs.Examples as examples
@@ -28,6 +29,8 @@ pub record ShutOut : Type 0 where
   pub decode-refuses : (n p : ℕ) (after : Arena) → DecodesP2 after (decoded.Refused n p) → ⊥
   -- "one that writes nothing"
   pub encode-writes-nothing : (r : Encoded) → EncodesP1 (replicate 30 0) r → ⊥
+  -- one that ignores the write position
+  pub encode-at-the-start : (r : Encoded) → EncodesP1 (fitted 30 p2) r → ⊥
   pub decode-writes-nothing : (r : Decoded) → DecodesP2 lentRuns r → ⊥
   -- "one that replies with an invented length or batch total"
   pub encode-length : (n : ℕ) (after : List ℕ) → EncodesP1 after (encoded.Written n) → n ≡ 20

@@ -1,26 +1,35 @@
--- "that statement with the output buffers admits one answer for each input": for each public function, two answers that satisfy its contract coincide,
--- the reply and every lent output.
+-- One answer for each function of the library's face, by its contract: the reply and every lent output.
 use mathlib.Core.Path.{_≡_}
 use mathlib.Core.List.{List}
 use Prim.Native.Nat.{ℕ}
-use Rattle.rules.specs.Answer.{Answer}
-use Rattle.rules.specs.Record.{Block}
-use Rattle.rules.specs.Block.{Room}
-use Rattle.rules.specs.Functions.{Arena}
-use Rattle.build.specs.declared.Built.{Built}
+use lib.ListN.{length}
+use Rattle.rules.specs.Lookups.{rawAt, paddedAt, paddedIndex, rawIndex}
+use Rattle.rules.specs.Functions.{Arena, built, structureChecked, paddingChecked, commitmentChecked, rawTabled, paddedTabled, groupLookup, nextLookup, headed, countHere, opHere}
+use Rattle.claims.specs.One.{One, Only}
+use Rattle.operation.specs.Verdict.{verdictOf}
+use Rattle.op_batch.specs.declared.OpBatch.{OpBatch}
+use Rattle.op_batch.specs.OpBatch.{recordIn, lookupOf, nextOf}
+use Rattle.wire.specs.Replies.{countReadOf, opReadOf}
 use Rattle.build.specs.Outcome.{Outcome}
-use Rattle.encoder.specs.declared.Encoded.{Encoded}
 use Rattle.encoder.specs.Replies.{Encodes}
-use Rattle.decoder.specs.declared.Decoded.{Decoded}
 use Rattle.decoder.specs.Replies.{Decodes}
-use Rattle.prefix.specs.declared.Tabled.{Tabled}
-use Rattle.prefix.specs.Tables.{Answered}
+use Rattle.head.specs.Replies.{headOf}
+use Rattle.prefix.specs.Tables.{Answered, paddedFound, rawFound}
 
-pub record OneAnswer : Type 1 where
-  pub build : (answer : Room → Answer Block) (before : Arena) (r q : Built) (x y : Arena) → Outcome answer r before x → Outcome answer q before y → (r ≡ q) × (x ≡ y)
-  pub encode : (t : List ℕ) (a : Arena) (at : ℕ) (before : List ℕ) (r q : Encoded) (x y : List ℕ) → Encodes t a at before x r → Encodes t a at before y q → (r ≡ q) × (x ≡ y)
-  pub decode : (t s : List ℕ) (at : ℕ) (before : Arena) (r q : Decoded) (x y : Arena) → Decodes t s at before x r → Decodes t s at before y q → (r ≡ q) × (x ≡ y)
-  -- both tables
-  pub table : (d : Answer (List ℕ)) (out : List ℕ) (r q : Tabled) (x y : List ℕ) → Answered d r out x → Answered d q out y → (r ≡ q) × (x ≡ y)
-  -- the checks and all lookups: their contract says that the reply equals an expression of the inputs, and they have no output
-  pub others : {A : Type 0} (answer r q : A) → r ≡ answer → q ≡ answer → r ≡ q
+pub record OneAnswer : Type 0 where
+  pub build : (t cs vs : List ℕ) (before : Arena) → One (λ r after. Outcome (built 8 t cs vs) r before after)
+  pub encode : (t : List ℕ) (a : Arena) (at : ℕ) (before : List ℕ) → One (λ r after. Encodes t a at before after r)
+  pub decode : (t s : List ℕ) (at : ℕ) (before : Arena) → One (λ r after. Decodes t s at before after r)
+  pub structure : (a : Arena) → Only (λ r. r ≡ verdictOf (structureChecked 8 a))
+  pub padding : (a : Arena) → Only (λ r. r ≡ verdictOf (paddingChecked 8 a))
+  pub commitment : (t : List ℕ) (a : Arena) → Only (λ r. r ≡ verdictOf (commitmentChecked 8 t a))
+  pub raw-to-padded : (a : Arena) (before : List ℕ) → One (λ r after. Answered (rawTabled 8 a (length before)) r before after)
+  pub padded-to-raw : (a : Arena) (before : List ℕ) → One (λ r after. Answered (paddedTabled 8 a (length before)) r before after)
+  pub raw-to-padded-index : (table : List ℕ) (i : ℕ) → Only (λ r. r ≡ paddedFound (paddedIndex table (rawAt i)))
+  pub padded-to-raw-index : (table : List ℕ) (i : ℕ) → Only (λ r. r ≡ rawFound (rawIndex table (paddedAt i)))
+  pub op-idx-in-batch-to-group : (b : OpBatch) (i : ℕ) → Only (λ r. r ≡ lookupOf (groupLookup 8 (recordIn b) i))
+  pub next-op-group-index : (b : OpBatch) (g : ℕ) → Only (λ r. r ≡ nextOf (nextLookup 8 (recordIn b) g))
+  pub head : (t s : List ℕ) (at : ℕ) → Only (λ r. r ≡ headOf (headed t s at))
+  -- the reader's steps
+  pub reader-count : (s : List ℕ) (at : ℕ) → Only (λ r. r ≡ countReadOf (countHere s at))
+  pub reader-op : (t s : List ℕ) (at i : ℕ) → Only (λ r. r ≡ opReadOf (opHere t s at i))

@@ -140,6 +140,15 @@ pub fn table() -> [u8; 128]
     KINDS
 }
 
+// The kind of an opcode; unassigned past the table.
+pub fn kind(code: u8) -> u8 {
+    if 128 <= code {
+        return 3;
+    }
+    let kinds = table();
+    kinds[code as usize]
+}
+
 fn letter(name: &[u8], i: usize) -> u8 {
     if i < name.len() {
         return name[i];
@@ -197,10 +206,18 @@ pub enum Named {
     Nothing,
 }
 
+// A capital letter counts as its small one.
+fn small(b: u8) -> u8 {
+    match b {
+        65..=90 => b + 32,
+        _ => b,
+    }
+}
+
 fn is_named(code: u8, name: &[u8]) -> bool {
     let mut i: usize = 0;
     while i < name.len() {
-        if name_byte(code, i) != name[i] {
+        if name_byte(code, i) != small(name[i]) {
             return false;
         }
         i += 1;

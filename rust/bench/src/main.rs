@@ -25,7 +25,8 @@ struct Contender {
     tasks: fn(&List) -> Vec<Task>,
 }
 
-/// The first is the one the others are held against.
+/// The first is the one the others are held against; the port's own forms are held against the
+/// port's too. `port` lends room, `own room` makes it, `bytes` lends runs of bytes alone.
 const CONTENDERS: &[Contender] = &[
     Contender {
         name: "original",
@@ -36,16 +37,27 @@ const CONTENDERS: &[Contender] = &[
         name: "port",
         tasks: port::tasks,
     },
+    #[cfg(feature = "port")]
+    Contender {
+        name: "own room",
+        tasks: port::owned,
+    },
+    #[cfg(feature = "port")]
+    Contender {
+        name: "bytes",
+        tasks: port::bytes,
+    },
     Contender {
         name: "copy",
         tasks: floor::tasks,
     },
 ];
 
-const FUNCTIONS: [&str; 8] = [
+const FUNCTIONS: [&str; 9] = [
     "build",
     "encode",
     "decode",
+    "decode, 1 MiB",
     "structure",
     "padding",
     "commitment",
@@ -68,7 +80,9 @@ fn main() {
         stop("ROUNDS is a number from 1 to 100000");
     };
 
-    println!("ns per operation: best, median (best held against the original's best)");
+    println!(
+        "ns per operation: best, median (best held against the first's best, and against the port's)"
+    );
     for size in sizes {
         for mix in Mix::ALL {
             let list = List::new(mix, size);

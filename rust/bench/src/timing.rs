@@ -47,11 +47,15 @@ pub fn compare(function: &str, size: usize, rounds: usize, tasks: &mut [(&str, &
             }
         }
     }
-    let mut first = None;
+    let (mut first, mut port) = (None, None);
     for ((name, _), samples) in tasks.iter().zip(&mut samples) {
         samples.sort_by(f64::total_cmp);
         let (best, median) = (samples[0], samples[samples.len() / 2]);
         let against = best / *first.get_or_insert(best);
-        println!("  {function:<13} {name:<10} {best:7.2} {median:7.2}   {against:5.2}");
+        if *name == "port" {
+            port = Some(best);
+        }
+        let beside = port.map_or(String::new(), |port| format!("   {:5.2}", best / port));
+        println!("  {function:<13} {name:<10} {best:7.2} {median:7.2}   {against:5.2}{beside}");
     }
 }

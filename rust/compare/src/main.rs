@@ -107,10 +107,11 @@ fn report(tally: &Tally, name: &str) {
             tally.original[at]
         );
     }
+    println!("{:<14}{:>14}", "head", tally.heads);
     println!(
         "{:<14}{:>14}{:>14}{:>16}",
         "all",
-        tally.model.iter().sum::<u64>(),
+        tally.model.iter().sum::<u64>() + tally.heads,
         tally.bytes.iter().sum::<u64>(),
         tally.original.iter().sum::<u64>()
     );

@@ -161,6 +161,16 @@ fn refused(refusal: Refusal) -> (u8, usize) {
     (refusal.number(), refusal.place)
 }
 
+/// Does `oli_head` say what the model says of the head?
+pub fn head_agrees(table: &[u8], bytes: &[u8], at: usize) -> bool {
+    let reply = boundary::head(table, bytes, at);
+    let ours = (reply.number, reply.place, reply.batches, reply.operations);
+    ours == match model::head(table, bytes, at) {
+        Ok((batches, operations)) => (0, 0, batches, operations),
+        Err(refusal) => (refusal.number, refusal.place, 0, 0),
+    }
+}
+
 /// Do the functions with room of their own say what the model's answer says? The answer is for
 /// enough room.
 pub fn owned_agrees(call: Call<'_>, answer: &Answer) -> bool {

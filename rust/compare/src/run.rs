@@ -24,6 +24,8 @@ pub struct Tally {
     pub model: [u64; 12],
     /// The port's functions over bytes against the model, by function.
     pub bytes: [u64; 12],
+    /// The port's `oli_head` against the model, for every decode.
+    pub heads: u64,
     /// The port (or the model in its place) against the original, by function.
     pub original: [u64; 12],
     /// The numbers of all answers that were compared, by function; 0 is no refusal.
@@ -41,7 +43,8 @@ impl Tally {
         [&self.model, &self.bytes, &self.original]
             .iter()
             .flat_map(|counts| counts.iter())
-            .sum()
+            .sum::<u64>()
+            + self.heads
     }
 }
 
@@ -77,6 +80,7 @@ impl Run {
             }
             self.count(call.function(), ours.number);
             self.over_bytes(call, &ours)?;
+            self.head(call, &ours)?;
         }
         self.beside(call, &ours)?;
         Ok(ours)
@@ -111,6 +115,26 @@ impl Run {
 
     #[cfg(not(feature = "port"))]
     fn over_bytes(&mut self, _: Call<'_>, _: &Answer) -> Checked<()> {
+        Ok(())
+    }
+
+    /// What a block needs room for.
+    #[cfg(feature = "port")]
+    fn head(&mut self, call: Call<'_>, answer: &Answer) -> Checked<()> {
+        if let Call::Decode {
+            table, bytes, at, ..
+        } = call
+        {
+            self.tally.heads += 1;
+            if !crate::port::head_agrees(table, bytes, at) {
+                return Err(stopped("the head differs", call, answer, &"another head"));
+            }
+        }
+        Ok(())
+    }
+
+    #[cfg(not(feature = "port"))]
+    fn head(&mut self, _: Call<'_>, _: &Answer) -> Checked<()> {
         Ok(())
     }
 

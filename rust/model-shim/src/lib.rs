@@ -35,6 +35,14 @@ pub struct DecodeReply {
 }
 
 #[repr(C)]
+pub struct HeadReply {
+    number: u8,
+    place: usize,
+    batches: usize,
+    operations: usize,
+}
+
+#[repr(C)]
 pub struct CheckReply {
     number: u8,
     place: usize,
@@ -201,6 +209,34 @@ pub unsafe extern "C" fn oli_decode(
             operations: answer.rest[1],
             used: answer.rest[2],
         }
+    }
+}
+
+/// # Safety
+/// As for [`oli_build`].
+#[unsafe(no_mangle)]
+pub unsafe extern "C" fn oli_head(
+    table: *const u8,
+    table_len: usize,
+    bytes: *const u8,
+    bytes_len: usize,
+    at: usize,
+) -> HeadReply {
+    // SAFETY: the caller's.
+    let head = unsafe { model::head(run(table, table_len), run(bytes, bytes_len), at) };
+    match head {
+        Ok((batches, operations)) => HeadReply {
+            number: 0,
+            place: 0,
+            batches,
+            operations,
+        },
+        Err(refusal) => HeadReply {
+            number: refusal.number,
+            place: refusal.place,
+            batches: 0,
+            operations: 0,
+        },
     }
 }
 

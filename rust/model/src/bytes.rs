@@ -173,9 +173,11 @@ fn worked_out(table: &[u8], batch: &mut Batch, ops: &[Operation]) -> Result<(), 
     Ok(())
 }
 
-type Read = (Vec<Operation>, Vec<Batch>, usize);
+/// The operations, the batch count, and the place after it.
+type Head = (Vec<Operation>, usize, usize);
 
-fn decode_tried(table: &[u8], bytes: &[u8], at: usize, room: Room) -> Result<Read, Refusal> {
+/// Decode's order up to the batch count: 3 (buffer), 14, 1, count, operations, batch count.
+fn head_tried(table: &[u8], bytes: &[u8], at: usize, room: Room) -> Result<Head, Refusal> {
     if bytes.len() > MOST_BYTES {
         return refuse(3, 0);
     }
@@ -217,6 +219,24 @@ fn decode_tried(table: &[u8], bytes: &[u8], at: usize, room: Room) -> Result<Rea
     if room.records / RECORD < total {
         return refuse(13, 0);
     }
+    Ok((list, total, here))
+}
+
+/// How many batches and operations the block at a place has, whatever the room.
+pub fn head(table: &[u8], bytes: &[u8], at: usize) -> Result<(usize, usize), Refusal> {
+    let room = Room {
+        codes: MOST_PADDED,
+        values: MOST_PADDED,
+        records: MOST_BATCHES * RECORD,
+    };
+    let (list, total, _) = head_tried(table, bytes, at, room)?;
+    Ok((total, list.len()))
+}
+
+type Read = (Vec<Operation>, Vec<Batch>, usize);
+
+fn decode_tried(table: &[u8], bytes: &[u8], at: usize, room: Room) -> Result<Read, Refusal> {
+    let (list, total, mut here) = head_tried(table, bytes, at, room)?;
 
     let mut batches = Vec::new();
     for i in 0..total {

@@ -17,7 +17,7 @@ mod data;
 mod lookups;
 
 pub use batching::build;
-pub use bytes::{count_bytes, decode, encode, read_count};
+pub use bytes::{count_bytes, decode, encode, head, read_count};
 pub use call::{Answer, Arena, Call, Function, Room, answer};
 pub use checks::{commitment, padding, record_holds, structure};
 pub use data::{

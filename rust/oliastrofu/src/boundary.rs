@@ -49,6 +49,16 @@ pub struct DecodeReply {
     pub used: usize,
 }
 
+/// What `oli_head` replies.
+#[repr(C)]
+#[derive(Clone, Copy, Debug, Default, PartialEq, Eq)]
+pub struct HeadReply {
+    pub number: u8,
+    pub place: usize,
+    pub batches: usize,
+    pub operations: usize,
+}
+
 /// What the three checks reply; number 0 if passed.
 #[repr(C)]
 #[derive(Clone, Copy, Debug, Default, PartialEq, Eq)]
@@ -125,6 +135,8 @@ exports! {
     encode = oli_encode(table: u8, codes: u8, values: u64, records: u8;; out: u8; at) -> EncodeReply;
     /// `oli_decode` on lent slices.
     decode = oli_decode(table: u8, bytes: u8; at; out_codes: u8, out_values: u64, records: u8;) -> DecodeReply;
+    /// `oli_head` on lent slices.
+    head = oli_head(table: u8, bytes: u8; at;;) -> HeadReply;
     /// `oli_structure` on lent slices.
     structure = oli_structure(codes: u8, values: u64, records: u8;;;) -> CheckReply;
     /// `oli_padding` on lent slices.
@@ -145,11 +157,109 @@ exports! {
     next_group = oli_next_group(record: u8; group;;) -> NextReply;
 }
 
+/// The runs that build and decode fill, made for the call, of exactly these lengths: opcodes and
+/// values, and bytes of records. Nothing is zeroed beforehand.
+///
+/// ```
+/// use oliastrofu::boundary::New;
+/// let mut table = [3; 128];
+/// table[..4].copy_from_slice(&[0, 1, 0, 2]);
+/// let (reply, new) = New::build(&table, &[1], &[5], 3, 82);
+/// assert_eq!((reply.number, new.codes, new.values), (0, vec![1, 0, 0], vec![5, 0, 0]));
+/// ```
+#[derive(Clone, Debug, Default, PartialEq, Eq)]
+pub struct New {
+    pub codes: Vec<u8>,
+    pub values: Vec<u64>,
+    pub records: Vec<u8>,
+}
+
+impl New {
+    fn with(operations: usize, records: usize) -> Self {
+        Self {
+            codes: Vec::with_capacity(operations),
+            values: Vec::with_capacity(operations),
+            records: Vec::with_capacity(records),
+        }
+    }
+
+    /// # Safety
+    /// The library has filled the runs to these lengths, which they were made for.
+    unsafe fn filled(mut self, operations: usize, records: usize) -> Self {
+        // SAFETY: the caller's.
+        unsafe {
+            self.codes.set_len(operations);
+            self.values.set_len(operations);
+            self.records.set_len(records);
+        }
+        self
+    }
+
+    /// `oli_build` on lent slices and new runs.
+    pub fn build(
+        table: &[u8],
+        codes: &[u8],
+        values: &[u64],
+        operations: usize,
+        records: usize,
+    ) -> (BuildReply, Self) {
+        let mut new = Self::with(operations, records);
+        // SAFETY: each pair is a slice that lives through the call, or room of that length that no
+        // one else has. Every element of an output is stored, refused or not: what is left in it
+        // is proved to be content and zeros to its end, whatever was there.
+        unsafe {
+            let reply = oli_build(
+                table.as_ptr(),
+                table.len(),
+                codes.as_ptr(),
+                codes.len(),
+                values.as_ptr(),
+                values.len(),
+                new.codes.as_mut_ptr(),
+                operations,
+                new.values.as_mut_ptr(),
+                operations,
+                new.records.as_mut_ptr(),
+                records,
+            );
+            (reply, new.filled(operations, records))
+        }
+    }
+
+    /// `oli_decode` on lent slices and new runs.
+    pub fn decode(
+        table: &[u8],
+        bytes: &[u8],
+        at: usize,
+        operations: usize,
+        records: usize,
+    ) -> (DecodeReply, Self) {
+        let mut new = Self::with(operations, records);
+        // SAFETY: as above.
+        unsafe {
+            let reply = oli_decode(
+                table.as_ptr(),
+                table.len(),
+                bytes.as_ptr(),
+                bytes.len(),
+                at,
+                new.codes.as_mut_ptr(),
+                operations,
+                new.values.as_mut_ptr(),
+                operations,
+                new.records.as_mut_ptr(),
+                records,
+            );
+            (reply, new.filled(operations, records))
+        }
+    }
+}
+
 /// The same with runs of 64-bit numbers as little-endian bytes, eight to a number.
 ///
 /// An input that is not whole numbers is refused with 3, and an index lookup in one finds nothing.
-/// Of an output only whole numbers are room; bytes left over are zeroed too. All but `structure`
-/// and the index lookups want stack: 512 KiB for work space; `build` and the tables 1 MiB.
+/// Of an output only whole numbers are room; bytes left over are zeroed too. Numbers go through work
+/// space on the stack: STACK
 ///
 /// ```
 /// use oliastrofu::boundary::{IndexReply, le};

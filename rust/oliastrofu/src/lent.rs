@@ -5,7 +5,9 @@
 
 use crate::{
     Arena, PaddedIndex, RECORD, RawIndex, Refusal,
-    boundary::{self, BuildReply, CheckReply, DecodeReply, EncodeReply, IndexReply, TableReply},
+    boundary::{
+        self, BuildReply, CheckReply, DecodeReply, EncodeReply, HeadReply, IndexReply, TableReply,
+    },
 };
 
 /// The runs that build and decode fill: opcodes, values, and records of 82 bytes.
@@ -32,6 +34,14 @@ pub struct Decoded {
     pub operations: usize,
     /// The bytes of the block.
     pub used: usize,
+}
+
+/// What a block needs room for.
+#[derive(Clone, Copy, Debug, PartialEq, Eq)]
+pub struct Head {
+    pub batches: usize,
+    /// Padded operations.
+    pub operations: usize,
 }
 
 /// Batches a list of operations under a table of kinds.
@@ -89,6 +99,28 @@ pub fn encode(
         buffer,
         at,
     ))
+}
+
+/// How many operations and batches the block at a place in the bytes has: with room for them
+/// [`decode`] never gives 13. Only the count, the operations and the batch count are read, so
+/// decode may still refuse the block; what is refused here decode refuses in the same way.
+///
+/// ```
+/// use oliastrofu::lent::{self, Head};
+/// let mut table = [3; 128];
+/// table[..4].copy_from_slice(&[0, 1, 0, 2]);
+/// let bytes = [5, 1, 5, 0, 0, 0, 0, 0, 0, 0, 0, 1, 0, 0, 0, 2, 0, 0, 0, 1];
+/// let head = lent::head(&table, &bytes, 0)?;
+/// assert_eq!(head, Head { batches: 1, operations: 2 });
+/// let mut codes = vec![0; head.operations];
+/// let mut values = vec![0; head.operations];
+/// let mut records = vec![0; head.batches * oliastrofu::RECORD];
+/// let out = lent::Outputs { codes: &mut codes, values: &mut values, records: &mut records };
+/// assert_eq!(lent::decode(&table, &bytes, 0, out)?.used, 20);
+/// # Ok::<(), oliastrofu::Refusal>(())
+/// ```
+pub fn head(table: &[u8], bytes: &[u8], at: usize) -> Result<Head, Refusal> {
+    headed(boundary::head(table, bytes, at))
 }
 
 /// Reads a block from a place in the bytes on.
@@ -272,6 +304,14 @@ pub(crate) fn decoded(reply: DecodeReply) -> Result<Decoded, Refusal> {
         batches: reply.batches,
         operations: reply.operations,
         used: reply.used,
+    })
+}
+
+fn headed(reply: HeadReply) -> Result<Head, Refusal> {
+    Refusal::check(reply.number, reply.place)?;
+    Ok(Head {
+        batches: reply.batches,
+        operations: reply.operations,
     })
 }
 

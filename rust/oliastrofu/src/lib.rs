@@ -44,7 +44,7 @@ pub use batch::{
     Arena, Batch, Block, PaddedIndex, PaddedTable, RECORD, RawIndex, RawTable, VM_TABLE,
 };
 pub use owned::{
-    build, commitment, decode, encode, group_of, next_group, padded_index, padded_table, padding,
-    raw_index, raw_table, structure,
+    build, commitment, decode, encode, group_of, head, next_group, padded_index, padded_table,
+    padding, raw_index, raw_table, structure,
 };
 pub use refusal::{Cause, Refusal};

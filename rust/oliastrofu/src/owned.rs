@@ -2,7 +2,8 @@
 
 use crate::{
     Arena, Batch, Block, Cause, PaddedIndex, PaddedTable, RECORD, RawIndex, RawTable, Refusal,
-    lent::{self, Outputs},
+    boundary::New,
+    lent::{self, Head},
 };
 
 /// Operations in a list to batch.
@@ -12,29 +13,40 @@ const MOST_PADDED: usize = 65_535;
 /// Batches in a block.
 const MOST_BATCHES: usize = 16_384;
 
-/// Room for a block of so many operations and batches.
-fn room(operations: usize, batches: usize) -> Block {
-    Block {
-        codes: vec![0; operations],
-        values: vec![0; operations],
-        records: vec![0; batches.saturating_mul(RECORD)],
+impl From<New> for Block {
+    fn from(new: New) -> Self {
+        Self {
+            codes: new.codes,
+            values: new.values,
+            records: new.records,
+        }
     }
 }
 
-impl Block {
-    fn outputs(&mut self) -> Outputs<'_> {
-        Outputs {
-            codes: &mut self.codes,
-            values: &mut self.values,
-            records: &mut self.records,
-        }
-    }
+/// Cuts a run at a length, and gives back what is after it.
+fn cut<T>(run: &mut Vec<T>, length: usize) {
+    run.truncate(length);
+    run.shrink_to_fit();
+}
 
-    fn cut(&mut self, operations: usize, batches: usize) {
-        self.codes.truncate(operations);
-        self.values.truncate(operations);
-        self.records.truncate(batches.saturating_mul(RECORD));
-    }
+/// How many operations and batches a list of so many operations, so many of them with an
+/// immediate, gets at most.
+///
+/// A batch of j immediates has 8 - j groups of operations. It ends where a plain operation comes
+/// and all eight groups are taken, or an immediate and seven are: then its groups but the last have
+/// nine operations, up to j of them eight. So 72 is at most its operations, and ten for each of its
+/// immediates and for the one that came. Also it has seven operations or more, whatever they are.
+/// A group of operations gets one padding, at most: if it ends in an immediate's operation, or is
+/// empty, which one group of a batch can be, and three of the last one.
+fn most(listed: usize, immediates: usize) -> (usize, usize) {
+    let by_kind = listed.saturating_add(immediates.saturating_mul(20)) / 72;
+    let batches = by_kind.min(listed / 7).saturating_add(1);
+    let groups = batches.saturating_mul(8).saturating_sub(immediates);
+    let paddings = immediates
+        .saturating_add(batches)
+        .saturating_add(3)
+        .min(groups);
+    (listed.saturating_add(paddings), batches)
 }
 
 /// Batches a list of operations under a table of kinds.
@@ -49,17 +61,38 @@ impl Block {
 /// # Ok::<(), oliastrofu::Refusal>(())
 /// ```
 pub fn build(table: &[u8], codes: &[u8], values: &[u64]) -> Result<Block, Refusal> {
-    // A batch that is not the last has seven operations of the list or more, and no batch gets
-    // more than eight of padding. A list over the limit is refused whatever the room.
+    // A list over the limit is refused whatever the room.
     let listed = if codes.len() > MOST_LISTED {
         0
     } else {
         codes.len()
     };
-    let batches = (listed / 7).saturating_add(1);
-    let mut block = room(listed.saturating_add(batches.saturating_mul(8)), batches);
-    let built = lent::build(table, codes, values, block.outputs())?;
-    block.cut(built.operations, built.batches);
+    let placed: [bool; 256] =
+        core::array::from_fn(|code| table.get(code).is_some_and(|&kind| kind == 1));
+    let immediates = codes.iter().take(listed).filter(|&&code| {
+        let known = placed.get(usize::from(code));
+        known.is_some_and(|&placed| placed)
+    });
+    let (operations, batches) = most(listed, immediates.count());
+    let made = |operations, batches| {
+        New::build(
+            table,
+            codes,
+            values,
+            operations,
+            RECORD.saturating_mul(batches),
+        )
+    };
+    let (mut reply, mut new) = made(operations, batches);
+    if Cause::of_number(reply.number) == Cause::Room {
+        // It does not come to this, as far as we know. No list gets more.
+        (reply, new) = made(65_536, MOST_LISTED);
+    }
+    let built = lent::built(reply)?;
+    let mut block = Block::from(new);
+    cut(&mut block.codes, built.operations);
+    cut(&mut block.values, built.operations);
+    cut(&mut block.records, built.batches.saturating_mul(RECORD));
     Ok(block)
 }
 
@@ -90,8 +123,8 @@ pub fn encode(table: &[u8], block: &Block) -> Result<Vec<u8>, Refusal> {
 /// The block that begins at a place in the bytes, and how many of them it takes. What comes after
 /// it is not read.
 ///
-/// Room is made for as much as the rest of the bytes could hold, so it is never refused for want
-/// of room. Where the bytes hold many blocks, [`lent::decode`] is better.
+/// Room is made for just what the block needs ([`head`] says it), so it is never refused for want
+/// of room.
 ///
 /// ```
 /// let mut table = [3; 128];
@@ -106,19 +139,25 @@ pub fn encode(table: &[u8], block: &Block) -> Result<Vec<u8>, Refusal> {
 /// # Ok::<(), oliastrofu::Refusal>(())
 /// ```
 pub fn decode(table: &[u8], bytes: &[u8], at: usize) -> Result<(Block, usize), Refusal> {
-    let left = bytes.len().saturating_sub(at);
-    let batches = (left / 5).min(MOST_BATCHES);
-    let mut block = room(left.min(MOST_PADDED), batches);
-    let mut read = lent::decode(table, bytes, at, block.outputs());
-    if read.is_err_and(|refusal| refusal.cause == Cause::Room) {
-        // The count is over the bytes that are left. With room for as many, the refusal is the one
-        // that says what is wrong.
-        block = room(MOST_PADDED, batches);
-        read = lent::decode(table, bytes, at, block.outputs());
-    }
-    let read = read?;
-    block.cut(read.operations, read.batches);
-    Ok((block, read.used))
+    let head = head(table, bytes, at)?;
+    let records = head.batches.saturating_mul(RECORD);
+    let (reply, new) = New::decode(table, bytes, at, head.operations, records);
+    let read = lent::decoded(reply)?;
+    Ok((new.into(), read.used))
+}
+
+/// How many operations and batches the block at a place in the bytes has; see [`lent::head`].
+///
+/// ```
+/// use oliastrofu::lent::Head;
+/// let mut table = [3; 128];
+/// table[..4].copy_from_slice(&[0, 1, 0, 2]);
+/// let bytes = [5, 1, 5, 0, 0, 0, 0, 0, 0, 0, 0, 1, 0, 0, 0, 2, 0, 0, 0, 1];
+/// assert_eq!(oliastrofu::head(&table, &bytes, 0)?, Head { batches: 1, operations: 2 });
+/// # Ok::<(), oliastrofu::Refusal>(())
+/// ```
+pub fn head(table: &[u8], bytes: &[u8], at: usize) -> Result<Head, Refusal> {
+    lent::head(table, bytes, at)
 }
 
 /// The structure check.
@@ -249,4 +288,71 @@ pub fn group_of(batch: &Batch, index: usize) -> Result<Option<(usize, usize)>, R
 /// ```
 pub fn next_group(batch: &Batch, group: usize) -> Result<Option<usize>, Refusal> {
     lent::next_group(&batch.record(), group)
+}
+
+#[cfg(test)]
+#[allow(clippy::arithmetic_side_effects)]
+mod tests {
+    use super::*;
+    use crate::VM_TABLE;
+
+    /// Does the room that [`most`] names hold the list's block?
+    fn holds(list: &[bool]) -> bool {
+        let codes: Vec<u8> = list
+            .iter()
+            .map(|&placed| if placed { 91 } else { 1 })
+            .collect();
+        let immediates = list.iter().filter(|&&placed| placed).count();
+        let (operations, batches) = most(list.len(), immediates);
+        let values = vec![0; codes.len()];
+        let (reply, _) = New::build(&VM_TABLE, &codes, &values, operations, batches * RECORD);
+        reply.number == 0
+    }
+
+    #[test]
+    fn every_short_list_has_room() {
+        for length in 1..=17 {
+            for bits in 0..1u32 << length {
+                let list: Vec<bool> = (0..length).map(|i| bits >> i & 1 == 1).collect();
+                assert!(holds(&list), "{list:?}");
+            }
+        }
+    }
+
+    /// Runs of plain operations and of immediates, of all lengths that meet the ends of groups and
+    /// batches.
+    #[test]
+    fn lists_of_runs_have_room() {
+        for plain in 0..=75 {
+            for placed in 0..=9 {
+                for first in [0, 1, 7, 8, 9, 62, 63, 64] {
+                    let run = (0..plain).map(|_| false).chain((0..placed).map(|_| true));
+                    let list: Vec<bool> = (0..first)
+                        .map(|_| false)
+                        .chain(run.cycle().take(1_000))
+                        .collect();
+                    for length in (1..=list.len()).step_by(37) {
+                        assert!(list.get(..length).is_none_or(holds));
+                    }
+                }
+            }
+        }
+    }
+
+    #[test]
+    fn mixed_lists_have_room() {
+        let mut seed = 0x2545_f491_4f6c_dd1du64;
+        let mut next = |bound: u64| {
+            seed ^= seed << 13;
+            seed ^= seed >> 7;
+            seed ^= seed << 17;
+            seed % bound
+        };
+        for turn in 0..4_000 {
+            let length = 1 + next(if turn % 40 == 0 { 16_384 } else { 400 });
+            let one_in = 1 + next(40);
+            let list: Vec<bool> = (0..length).map(|_| next(one_in) == 0).collect();
+            assert!(holds(&list), "{list:?}");
+        }
+    }
 }

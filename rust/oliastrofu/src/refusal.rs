@@ -94,18 +94,23 @@ impl Cause {
         }
     }
 
+    /// The one place of these sentences; crates/listing prints the same.
     const fn words(self) -> &'static str {
         match self {
-            Self::PastEnd => "the offset or write position is past the buffer's end",
+            Self::PastEnd => "the offset or write position is past the end of the bytes",
             Self::BytesEnd => "the bytes end inside the count, an operation or the batch count",
-            Self::Limit => "over a limit, lists of unequal length, or a wrong form of the count",
-            Self::Operation => "an operation is not admissible",
+            Self::Limit => {
+                "a count has a wrong form or is over a limit, or lists have unequal lengths"
+            }
+            Self::Operation => {
+                "an operation is not admissible: its opcode is unassigned or its value out of range"
+            }
             Self::BatchCount => "more batches than the bytes that are left can hold",
             Self::Nibble => "a group's length is over 9",
             Self::PastOperations => "a batch runs past the operations",
             Self::SlotPastEnd => "an immediate's slot is past the groups",
             Self::SlotTaken => "an immediate's slot is a group of operations",
-            Self::Padding => "a flag is not one of padding",
+            Self::Padding => "a padding flag stands where no padding is",
             Self::LeftOver => "operations are left over after the last batch",
             Self::EmptyList => "the list to batch is empty",
             Self::Room => "a lent output is smaller than the result needs",

@@ -2,7 +2,7 @@
 
 use oliastrofu::{
     Arena, Batch, Block, Cause, PaddedIndex, RECORD, RawIndex, Refusal, VM_TABLE, boundary, build,
-    commitment, decode, encode, group_of,
+    commitment, decode, encode, group_of, head,
     lent::{self, Outputs},
     next_group, padded_index, padded_table, padding, raw_index, raw_table, structure,
 };
@@ -121,6 +121,31 @@ fn no_want_of_room() {
     assert_eq!((refusal.number(), refusal.place), (4, 0));
     let refusal = build(&VM_TABLE, &[1; 16_385], &[0; 16_385]).unwrap_err();
     assert_eq!(refusal.cause, Cause::Limit);
+}
+
+/// What is given back keeps no room beyond itself, wherever the block stands.
+#[test]
+fn no_room_is_kept() -> Result<(), Refusal> {
+    for (plain, size) in [(1, 1), (1, 3), (7, 20), (9, 1_000), (100, 16_384)] {
+        let codes: Vec<u8> = (0..size)
+            .map(|i| if i % plain == 0 { 91 } else { 1 })
+            .collect();
+        let built = build(&VM_TABLE, &codes, &vec![0; size])?;
+        let bytes = encode(&VM_TABLE, &built)?;
+        let mut buffer = vec![221; 1_048_576];
+        buffer[9_999..][..bytes.len()].copy_from_slice(&bytes);
+        let (read, used) = decode(&VM_TABLE, &buffer, 9_999)?;
+        assert_eq!((&read, used), (&built, bytes.len()));
+        let head = head(&VM_TABLE, &buffer, 9_999)?;
+        assert_eq!(head.operations, read.codes.len());
+        assert_eq!(head.batches, read.batches().len());
+        for block in [built, read] {
+            assert_eq!(block.codes.capacity(), block.codes.len());
+            assert_eq!(block.values.capacity(), block.values.len());
+            assert_eq!(block.records.capacity(), block.records.len());
+        }
+    }
+    Ok(())
 }
 
 /// Any bytes, any lists, any lent buffer: an answer, and on refusal outputs that are all zero.

@@ -1,12 +1,12 @@
 use mathlib.Core.Path.{sym}
 use native.Mathlib.Omega.{arith}
-use lib.Seq.{length-take-le}
 use borrow.Author.Needs.{needs}
+use lib.Seq.{length-take-le}
 use Rattle.batch.proofs.lend.Statement.{statement}
 use Rattle.batch.proofs.lend.Tie as tie
 use Rattle.batch.proofs.lend.Reads as reads
 use Rattle.batch.proofs.lend.Lts as lts
-use Rattle.batch.proofs.print_built.Reads as print-built-reads
+use Rattle.batch.proofs.write.Reads as write-reads
 
 returns : tie.Need-returns
 returns c = search needs
@@ -23,17 +23,17 @@ mul-end c = search needs
 returns-4 : tie.Need-returns-4
 returns-4 c = search needs
 
-slice-aggregate-print-built : tie.Need-slice-aggregate-print-built
-slice-aggregate-print-built c = sym (length-take-le _ _ (omega arith))
+slice-aggregate-write : tie.Need-slice-aggregate-write
+slice-aggregate-write c = sym (length-take-le _ _ (omega arith))
 
-slice-aggregate-print-built-2 : tie.Need-slice-aggregate-print-built-2
-slice-aggregate-print-built-2 c = sym (length-take-le _ _ (omega arith))
+slice-aggregate-write-2 : tie.Need-slice-aggregate-write-2
+slice-aggregate-write-2 c = sym (length-take-le _ _ (omega arith))
 
-slice-aggregate-print-built-3 : tie.Need-slice-aggregate-print-built-3
-slice-aggregate-print-built-3 c = sym (length-take-le _ _ (omega arith))
+slice-aggregate-write-3 : tie.Need-slice-aggregate-write-3
+slice-aggregate-write-3 c = sym (length-take-le _ _ (omega arith))
 
-print-built-requires : tie.Need-print-built-requires
-print-built-requires c κs = search needs
+write-requires : tie.Need-write-requires
+write-requires c κs = search needs
 
 same-length : tie.Need-same-length
 same-length c = search needs
@@ -50,9 +50,9 @@ lend-spec =
     returns-3
     mul-end
     returns-4
-    slice-aggregate-print-built
-    slice-aggregate-print-built-2
-    slice-aggregate-print-built-3
-    print-built-requires
+    slice-aggregate-write
+    slice-aggregate-write-2
+    slice-aggregate-write-3
+    write-requires
     same-length
     returns-5)

@@ -1,3 +1,4 @@
+use mathlib.Core.Path.{_≡_}
 use Prim.Native.Nat.{_-_, _≤_}
 use borrow.Author.Needs.{needs}
 use lib.ListN.{length}
@@ -5,23 +6,23 @@ use Rattle.batch.proofs.print_hex.Statement.{statement}
 use Rattle.batch.proofs.print_hex.Tie as tie
 use Rattle.batch.proofs.print_hex.Reads as reads
 use Rattle.batch.proofs.print_hex.Lts as lts
-use Rattle.batch.proofs.print_byte.Reads as print-byte-reads
 use Rattle.batch.proofs.print_end.Reads as print-end-reads
+use Rattle.console.proofs.hex.Reads as hex-reads
 
 abbrev Inv-loop : tie.InvT-loop
-Inv-loop bytes i₀ i = i ≤ length bytes
+Inv-loop page₀ bytes i₀ page i = (i ≤ length bytes) × (length page ≡ length page₀)
 
 abbrev μ-loop : tie.MeasureT-loop
-μ-loop bytes i₀ i = length bytes - i
+μ-loop page₀ bytes i₀ page i = length bytes - i
 
 loop-holds : tie.Need-loop-holds Inv-loop μ-loop
 loop-holds c = search needs
 
-shared-slice-read-print-byte : tie.Need-shared-slice-read-print-byte Inv-loop μ-loop
-shared-slice-read-print-byte c = search needs
+shared-slice-read-hex : tie.Need-shared-slice-read-hex Inv-loop μ-loop
+shared-slice-read-hex c = search needs
 
-print-byte-requires : tie.Need-print-byte-requires Inv-loop μ-loop
-print-byte-requires c κs = search needs
+hex-requires : tie.Need-hex-requires Inv-loop μ-loop
+hex-requires c κs = search needs
 
 add-i : tie.Need-add-i Inv-loop μ-loop
 add-i c = search needs
@@ -35,6 +36,9 @@ loop-less c = search needs
 loop-again : tie.Need-loop-again Inv-loop μ-loop
 loop-again c = search needs
 
+same-length : tie.Need-same-length Inv-loop μ-loop
+same-length c = search needs
+
 returns : tie.Need-returns Inv-loop μ-loop
 returns c = search needs
 
@@ -45,10 +49,11 @@ print-hex-spec =
     Inv-loop
     μ-loop
     loop-holds
-    shared-slice-read-print-byte
-    print-byte-requires
+    shared-slice-read-hex
+    hex-requires
     add-i
     print-end-requires
     loop-less
     loop-again
+    same-length
     returns)

@@ -5,7 +5,7 @@ use borrow.Author.Needs.{needs}
 use borrow.Author.Tests.{not-true, not-false}
 use lib.ListN.{length}
 use Rattle.rules.specs.Operations.{operations}
-use Rattle.rules.specs.Block.{immediates}
+use Rattle.rules.specs.Record.{immediates}
 use Rattle.checks.specs.Batch.{span}
 use Rattle.checks.proofs.Numbers.{placed-turn, plain-turn, immediates-none}
 use Rattle.checks.proofs.count_immediates.Statement.{statement}

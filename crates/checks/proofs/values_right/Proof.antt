@@ -5,8 +5,7 @@ use borrow.Author.Needs.{needs}
 use borrow.Author.Tests.{not-true, not-false}
 use lib.ListN.{drop}
 use Rattle.rules.specs.Operations.{operations}
-use Rattle.rules.specs.Record.{recordAt}
-use Rattle.rules.specs.Block.{immediates}
+use Rattle.rules.specs.Record.{recordAt, immediates}
 use Rattle.rules.specs.Checks.{begins}
 use Rattle.op_batch.proofs.Right.{numbers-length}
 use Rattle.checks.specs.Batch.{span}

@@ -6,7 +6,8 @@ use native.Mathlib.Nat.{sub-zero}
 use borrow.Author.Needs.{needs}
 use borrow.Author.Tests.{eq-eqb, ne-eqb}
 use lib.ListN.{length, take}
-use Rattle.rules.specs.Block.{cut, paddingRight}
+use Rattle.rules.specs.Record.{cut}
+use Rattle.rules.specs.Checks.{paddingRight}
 use Rattle.rules.specs.Lists.{total}
 use Rattle.rules.specs.Digits.{digits}
 use Rattle.rules.specs.Operations.{Op}

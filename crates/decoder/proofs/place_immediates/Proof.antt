@@ -5,7 +5,7 @@ use borrow.Author.Needs.{needs}
 use denote.Ref.{now}
 use lib.ListN.{length}
 use Rattle.rules.specs.Operations.{operations}
-use Rattle.rules.specs.Block.{immediates}
+use Rattle.rules.specs.Record.{immediates}
 use Rattle.decoder.specs.Stages.{Placed}
 use Rattle.decoder.proofs.Groups as G
 use Rattle.decoder.proofs.place_immediates.Statement.{statement}

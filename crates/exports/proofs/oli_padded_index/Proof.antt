@@ -1,4 +1,4 @@
-use Rattle.rules.specs.Lookups.{paddedIndex}
+use Rattle.rules.specs.Lookups.{rawAt, paddedIndex}
 use mathlib.Core.Path.{ap, _∙_}
 use Rattle.exports.specs.Flat.{flatPadded}
 use Rattle.exports.proofs.Cross.{cross-padded}
@@ -19,7 +19,7 @@ flat-padded-requires c κs = search needs
 returns : tie.Need-returns
 returns c =
     let a = c .before .before .before .args in
-    c .flat-padded .ensures ∙ (ap flatPadded (c .before .raw-to-padded-index .ensures) ∙ cross-padded (paddedIndex (a .table .now) (a .raw)))
+    c .flat-padded .ensures ∙ (ap flatPadded (c .before .raw-to-padded-index .ensures) ∙ cross-padded (paddedIndex (a .table .now) (rawAt (a .raw))))
 
 pub oli-padded-index-spec : {M : Type 1} → statement M
 oli-padded-index-spec =

@@ -1,9 +1,9 @@
-use Rattle.rules.specs.Lookups.{paddedIndex}
+use Rattle.rules.specs.Lookups.{rawAt, paddedIndex}
 use Rattle.crossing.specs.Words.{wordsIn}
 use Rattle.exports.proofs.Indexes.{inside, padded-none, padded-found}
 use Rattle.exports.proofs.Cross.{cross-padded}
 use Rattle.exports.specs.Flat.{flatPadded}
-use Rattle.exports.specs.Replies.{inWhole, indexReply}
+use Rattle.exports.specs.Replies.{inWhole, paddedReply}
 use Rattle.prefix.specs.Tables.{paddedFound, paddedBy}
 use borrow.Author.Tests.{not-true, not-false}
 use Prim.Native.Nat.{ℕ}
@@ -24,7 +24,7 @@ has-word-requires c κs = search needs
 returns : tie.Need-returns
 returns c =
     let a = c .before .before .before .args in
-    sym (ap indexReply (padded-none (a .table .now) (a .raw) (sym (c .before .has-word .ensures) ∙ not-true (c .before .has-word .result) (c .if1 .taken))))
+    sym (ap paddedReply (padded-none (a .table .now) (a .raw) (sym (c .before .has-word .ensures) ∙ not-true (c .before .has-word .result) (c .if1 .taken))))
 
 mul-le8 : tie.Need-mul-le8
 mul-le8 c =
@@ -47,8 +47,8 @@ returns-2 c =
     let a = c .before .before .before .before .before .before .args in
     let h = sym (c .before .before .before .before .has-word .ensures) ∙ not-false (c .before .before .before .before .has-word .result) (c .before .before .before .if1 .left) in
     c .flat-padded .ensures
-    ∙ ap flatPadded (c .before .padded-by .ensures ∙ ap (λ (e : ℕ). paddedFound (paddedBy e (a .raw))) (c .before .before .le8 .ensures) ∙ ap paddedFound (sym (padded-found (a .table .now) (a .raw) h)))
-    ∙ cross-padded (inWhole (a .table .now) (paddedIndex (wordsIn (a .table .now)) (a .raw)))
+    ∙ ap flatPadded (c .before .padded-by .ensures ∙ ap (λ (e : ℕ). paddedFound (paddedBy e (rawAt (a .raw)))) (c .before .before .le8 .ensures) ∙ ap paddedFound (sym (padded-found (a .table .now) (a .raw) h)))
+    ∙ cross-padded (inWhole (a .table .now) (paddedIndex (wordsIn (a .table .now)) (rawAt (a .raw))))
 
 pub oli-padded-index-le-spec : {M : Type 1} → statement M
 oli-padded-index-le-spec =

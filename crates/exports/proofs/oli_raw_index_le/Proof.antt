@@ -1,9 +1,9 @@
-use Rattle.rules.specs.Lookups.{rawIndex}
+use Rattle.rules.specs.Lookups.{paddedAt, rawIndex}
 use Rattle.crossing.specs.Words.{wordsIn}
 use Rattle.exports.proofs.Indexes.{inside, raw-none, raw-found}
 use Rattle.exports.proofs.Cross.{cross-raw}
 use Rattle.exports.specs.Flat.{flatRaw}
-use Rattle.exports.specs.Replies.{inWhole, indexReply}
+use Rattle.exports.specs.Replies.{inWhole, rawReply}
 use Rattle.prefix.specs.Tables.{rawFound, rawBy}
 use borrow.Author.Tests.{not-true, not-false}
 use Prim.Native.Nat.{ℕ}
@@ -24,7 +24,7 @@ has-word-requires c κs = search needs
 returns : tie.Need-returns
 returns c =
     let a = c .before .before .before .args in
-    sym (ap indexReply (raw-none (a .table .now) (a .padded) (sym (c .before .has-word .ensures) ∙ not-true (c .before .has-word .result) (c .if1 .taken))))
+    sym (ap rawReply (raw-none (a .table .now) (a .padded) (sym (c .before .has-word .ensures) ∙ not-true (c .before .has-word .result) (c .if1 .taken))))
 
 mul-le8 : tie.Need-mul-le8
 mul-le8 c =
@@ -47,8 +47,8 @@ returns-2 c =
     let a = c .before .before .before .before .before .before .args in
     let h = sym (c .before .before .before .before .has-word .ensures) ∙ not-false (c .before .before .before .before .has-word .result) (c .before .before .before .if1 .left) in
     c .flat-raw .ensures
-    ∙ ap flatRaw (c .before .raw-by .ensures ∙ ap (λ (e : ℕ). rawFound (rawBy e (a .padded))) (c .before .before .le8 .ensures) ∙ ap rawFound (sym (raw-found (a .table .now) (a .padded) h)))
-    ∙ cross-raw (inWhole (a .table .now) (rawIndex (wordsIn (a .table .now)) (a .padded)))
+    ∙ ap flatRaw (c .before .raw-by .ensures ∙ ap (λ (e : ℕ). rawFound (rawBy e (paddedAt (a .padded)))) (c .before .before .le8 .ensures) ∙ ap rawFound (sym (raw-found (a .table .now) (a .padded) h)))
+    ∙ cross-raw (inWhole (a .table .now) (rawIndex (wordsIn (a .table .now)) (paddedAt (a .padded))))
 
 pub oli-raw-index-le-spec : {M : Type 1} → statement M
 oli-raw-index-le-spec =

@@ -5,7 +5,7 @@ use Rattle.listing.proofs.flagged.Statement.{statement}
 use Rattle.listing.proofs.flagged.Tie as tie
 use Rattle.listing.proofs.flagged.Reads as reads
 use Rattle.listing.proofs.flagged.Lts as lts
-use Rattle.listing.proofs.byte.Reads as byte-reads
+use Rattle.console.proofs.byte.Reads as byte-reads
 use Rattle.listing.proofs.marked.Reads as marked-reads
 
 abbrev Inv-loop : tie.InvT-loop

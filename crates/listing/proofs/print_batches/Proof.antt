@@ -1,18 +1,22 @@
-use native.Mathlib.Omega.{arith}
+use mathlib.Core.Path.{_≡_}
+use Prim.Native.Nat.{_-_, _≤_}
 use borrow.Author.Needs.{needs}
-use Prim.Native.Nat.{_≤_, _-_, _*_}
+use lib.ListN.{length}
 use Rattle.listing.proofs.print_batches.Statement.{statement}
 use Rattle.listing.proofs.print_batches.Tie as tie
 use Rattle.listing.proofs.print_batches.Reads as reads
 use Rattle.listing.proofs.print_batches.Lts as lts
-use Rattle.listing.proofs.byte.Reads as byte-reads
+use Rattle.console.proofs.byte.Reads as byte-reads
+use Rattle.listing.proofs.plus.Reads as plus-reads
 use Rattle.listing.proofs.print_batch.Reads as print-batch-reads
+use Rattle.listing.proofs.print_groups.Reads as print-groups-reads
+use Rattle.listing.proofs.size.Reads as size-reads
 
 abbrev Inv-loop : tie.InvT-loop
-Inv-loop table codes values records batches at₀ b₀ at b = (b ≤ batches) × (at ≤ 255 * b)
+Inv-loop page₀ codes values records batches first operation₀ at₀ b₀ page operation at b = (b ≤ batches) × (length page ≡ length page₀)
 
 abbrev μ-loop : tie.MeasureT-loop
-μ-loop table codes values records batches at₀ b₀ at b = batches - b
+μ-loop page₀ codes values records batches first operation₀ at₀ b₀ page operation at b = batches - b
 
 loop-holds : tie.Need-loop-holds Inv-loop μ-loop
 loop-holds c = search needs
@@ -20,17 +24,32 @@ loop-holds c = search needs
 mul-r : tie.Need-mul-r Inv-loop μ-loop
 mul-r c = search needs
 
-print-batch-requires : tie.Need-print-batch-requires Inv-loop μ-loop
-print-batch-requires c κs = search needs
-
 add-byte : tie.Need-add-byte Inv-loop μ-loop
 add-byte c = search needs
 
 byte-requires : tie.Need-byte-requires Inv-loop μ-loop
 byte-requires c κs = search needs
 
-add-at : tie.Need-add-at Inv-loop μ-loop
-add-at c = search needs
+add-byte-2 : tie.Need-add-byte-2 Inv-loop μ-loop
+add-byte-2 c = search needs
+
+byte-requires-2 : tie.Need-byte-requires-2 Inv-loop μ-loop
+byte-requires-2 c κs = search needs
+
+print-batch-requires : tie.Need-print-batch-requires Inv-loop μ-loop
+print-batch-requires c κs = search needs
+
+print-groups-requires : tie.Need-print-groups-requires Inv-loop μ-loop
+print-groups-requires c κs = search needs
+
+size-requires : tie.Need-size-requires Inv-loop μ-loop
+size-requires c κs = search needs
+
+plus-requires : tie.Need-plus-requires Inv-loop μ-loop
+plus-requires c κs = search needs
+
+plus-requires-2 : tie.Need-plus-requires-2 Inv-loop μ-loop
+plus-requires-2 c κs = search needs
 
 add-b : tie.Need-add-b Inv-loop μ-loop
 add-b c = search needs
@@ -40,6 +59,9 @@ loop-less c = search needs
 
 loop-again : tie.Need-loop-again Inv-loop μ-loop
 loop-again c = search needs
+
+same-length : tie.Need-same-length Inv-loop μ-loop
+same-length c = search needs
 
 returns : tie.Need-returns Inv-loop μ-loop
 returns c = search needs
@@ -52,11 +74,17 @@ print-batches-spec =
     μ-loop
     loop-holds
     mul-r
-    print-batch-requires
     add-byte
     byte-requires
-    add-at
+    add-byte-2
+    byte-requires-2
+    print-batch-requires
+    print-groups-requires
+    size-requires
+    plus-requires
+    plus-requires-2
     add-b
     loop-less
     loop-again
+    same-length
     returns)

@@ -1,24 +1,25 @@
-use native.Mathlib.Omega.{arith}
+use mathlib.Core.Path.{_≡_}
+use Prim.Native.Nat.{_-_, _≤_}
 use borrow.Author.Needs.{needs}
-use Prim.Native.Nat.{_≤_, _-_, _*_}
+use lib.ListN.{length}
 use Rattle.listing.proofs.print_ops.Statement.{statement}
 use Rattle.listing.proofs.print_ops.Tie as tie
 use Rattle.listing.proofs.print_ops.Reads as reads
 use Rattle.listing.proofs.print_ops.Lts as lts
+use Rattle.listing.proofs.plus.Reads as plus-reads
 use Rattle.listing.proofs.print_op_at.Reads as print-op-at-reads
-use Rattle.listing.proofs.say.Reads as say-reads
 
 abbrev Inv-loop : tie.InvT-loop
-Inv-loop table codes values at n padded i₀ t8 t9 i = i ≤ n
+Inv-loop page₀ codes values at n i₀ page i = (i ≤ n) × (length page ≡ length page₀)
 
 abbrev μ-loop : tie.MeasureT-loop
-μ-loop table codes values at n padded i₀ t8 t9 i = n - i
+μ-loop page₀ codes values at n i₀ page i = n - i
 
 loop-holds : tie.Need-loop-holds Inv-loop μ-loop
 loop-holds c = search needs
 
-add-print-op-at : tie.Need-add-print-op-at Inv-loop μ-loop
-add-print-op-at c = search needs
+plus-requires : tie.Need-plus-requires Inv-loop μ-loop
+plus-requires c κs = search needs
 
 print-op-at-requires : tie.Need-print-op-at-requires Inv-loop μ-loop
 print-op-at-requires c κs = search needs
@@ -32,17 +33,8 @@ loop-less c = search needs
 loop-again : tie.Need-loop-again Inv-loop μ-loop
 loop-again c = search needs
 
-slice-aggregate-say : tie.Need-slice-aggregate-say Inv-loop μ-loop
-slice-aggregate-say c = search needs
-
-say-requires : tie.Need-say-requires Inv-loop μ-loop
-say-requires c κs = search needs
-
-slice-aggregate-say-2 : tie.Need-slice-aggregate-say-2 Inv-loop μ-loop
-slice-aggregate-say-2 c = search needs
-
-say-requires-2 : tie.Need-say-requires-2 Inv-loop μ-loop
-say-requires-2 c κs = search needs
+same-length : tie.Need-same-length Inv-loop μ-loop
+same-length c = search needs
 
 returns : tie.Need-returns Inv-loop μ-loop
 returns c = search needs
@@ -54,13 +46,10 @@ print-ops-spec =
     Inv-loop
     μ-loop
     loop-holds
-    add-print-op-at
+    plus-requires
     print-op-at-requires
     add-i
     loop-less
     loop-again
-    slice-aggregate-say
-    say-requires
-    slice-aggregate-say-2
-    say-requires-2
+    same-length
     returns)

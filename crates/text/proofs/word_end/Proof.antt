@@ -5,7 +5,7 @@ use Rattle.text.proofs.word_end.Statement.{statement}
 use Rattle.text.proofs.word_end.Tie as tie
 use Rattle.text.proofs.word_end.Reads as reads
 use Rattle.text.proofs.word_end.Lts as lts
-use Rattle.text.proofs.blank.Reads as blank-reads
+use Rattle.text.proofs.parts.Reads as parts-reads
 
 abbrev Inv-loop : tie.InvT-loop
 Inv-loop line from at₀ at = (from ≤ at) × (at ≤ length line)
@@ -16,20 +16,14 @@ abbrev μ-loop : tie.MeasureT-loop
 loop-holds : tie.Need-loop-holds Inv-loop μ-loop
 loop-holds c = search needs
 
-shared-slice-read-if1 : tie.Need-shared-slice-read-if1 Inv-loop μ-loop
-shared-slice-read-if1 c = search needs
+shared-slice-read-parts : tie.Need-shared-slice-read-parts Inv-loop μ-loop
+shared-slice-read-parts c = search needs
+
+parts-requires : tie.Need-parts-requires Inv-loop μ-loop
+parts-requires c κs = search needs
 
 returns : tie.Need-returns Inv-loop μ-loop
 returns c = search needs
-
-shared-slice-read-blank : tie.Need-shared-slice-read-blank Inv-loop μ-loop
-shared-slice-read-blank c = search needs
-
-blank-requires : tie.Need-blank-requires Inv-loop μ-loop
-blank-requires c κs = search needs
-
-returns-2 : tie.Need-returns-2 Inv-loop μ-loop
-returns-2 c = search needs
 
 add-at : tie.Need-add-at Inv-loop μ-loop
 add-at c = search needs
@@ -40,8 +34,8 @@ loop-less c = search needs
 loop-again : tie.Need-loop-again Inv-loop μ-loop
 loop-again c = search needs
 
-returns-3 : tie.Need-returns-3 Inv-loop μ-loop
-returns-3 c = search needs
+returns-2 : tie.Need-returns-2 Inv-loop μ-loop
+returns-2 c = search needs
 
 pub word-end-spec : {M : Type 1} → statement M
 word-end-spec =
@@ -50,12 +44,10 @@ word-end-spec =
     Inv-loop
     μ-loop
     loop-holds
-    shared-slice-read-if1
+    shared-slice-read-parts
+    parts-requires
     returns
-    shared-slice-read-blank
-    blank-requires
-    returns-2
     add-at
     loop-less
     loop-again
-    returns-3)
+    returns-2)

@@ -6,6 +6,7 @@ use Rattle.vm.proofs.is_named.Tie as tie
 use Rattle.vm.proofs.is_named.Reads as reads
 use Rattle.vm.proofs.is_named.Lts as lts
 use Rattle.vm.proofs.name_byte.Reads as name-byte-reads
+use Rattle.vm.proofs.small.Reads as small-reads
 
 abbrev Inv-loop : tie.InvT-loop
 Inv-loop code name i₀ i = i ≤ length name
@@ -19,8 +20,11 @@ loop-holds c = search needs
 name-byte-requires : tie.Need-name-byte-requires Inv-loop μ-loop
 name-byte-requires c κs = search needs
 
-shared-slice-read-if1 : tie.Need-shared-slice-read-if1 Inv-loop μ-loop
-shared-slice-read-if1 c = search needs
+shared-slice-read-small : tie.Need-shared-slice-read-small Inv-loop μ-loop
+shared-slice-read-small c = search needs
+
+small-requires : tie.Need-small-requires Inv-loop μ-loop
+small-requires c κs = search needs
 
 returns : tie.Need-returns Inv-loop μ-loop
 returns c = search needs
@@ -48,7 +52,8 @@ is-named-spec =
     μ-loop
     loop-holds
     name-byte-requires
-    shared-slice-read-if1
+    shared-slice-read-small
+    small-requires
     returns
     add-i
     loop-less

@@ -43,7 +43,7 @@ use denote.Triple.Table.{entered, cited}
 use denote.Triple.Walked.{says, Stays, stay-none, walkOf, goes-none, Walks, ends-at, walked, walk-meets}
 use denote.Exit.{yes}
 use denote.Triple.Clauses.{ensured, lasts}
-use Rattle.reader.specs.Here.{countHere}
+use Rattle.rules.specs.Functions.{countHere}
 use Rattle.wire.specs.Replies.{countReadOf}
 use Rattle.reader.specs.declared.Reader.{Reader}
 use Rattle.wire.specs.declared.CountRead.{CountRead}

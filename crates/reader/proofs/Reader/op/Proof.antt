@@ -43,7 +43,7 @@ use denote.Triple.Table.{entered, cited}
 use denote.Triple.Walked.{says, Stays, stay-none, stay-none-slice, walkOf, goes-none, goes-none-slice, Walks, ends-at, walked, walk-meets}
 use denote.Exit.{yes}
 use denote.Triple.Clauses.{ensured, lasts}
-use Rattle.reader.specs.Here.{opHere}
+use Rattle.rules.specs.Functions.{opHere}
 use Rattle.wire.specs.Replies.{opReadOf}
 use Rattle.reader.specs.declared.Reader.{Reader}
 use Rattle.wire.specs.declared.OpRead.{OpRead}

@@ -1,0 +1,81 @@
+use mathlib.Core.Path.{sym}
+use native.Mathlib.Omega.{arith}
+use borrow.Author.Needs.{needs}
+use lib.Seq.{length-take-le}
+use Rattle.batch.proofs.batch_text.Statement.{statement}
+use Rattle.batch.proofs.batch_text.Tie as tie
+use Rattle.batch.proofs.batch_text.Reads as reads
+use Rattle.batch.proofs.batch_text.Lts as lts
+use Rattle.batch.proofs.batch.Reads as batch-reads
+use Rattle.batch.proofs.codes_room.Reads as codes-room-reads
+use Rattle.batch.proofs.read.Reads as read-reads
+use Rattle.batch.proofs.values_room.Reads as values-room-reads
+
+codes-room-requires : tie.Need-codes-room-requires
+codes-room-requires c κs = search needs
+
+values-room-requires : tie.Need-values-room-requires
+values-room-requires c κs = search needs
+
+slice-reshare-prefix-read : tie.Need-slice-reshare-prefix-read
+slice-reshare-prefix-read c = search needs
+
+slice-aggregate-read : tie.Need-slice-aggregate-read
+slice-aggregate-read c = sym (length-take-le _ _ (omega arith))
+
+slice-aggregate-read-2 : tie.Need-slice-aggregate-read-2
+slice-aggregate-read-2 c = search needs
+
+slice-aggregate-read-3 : tie.Need-slice-aggregate-read-3
+slice-aggregate-read-3 c = search needs
+
+read-requires : tie.Need-read-requires
+read-requires c κs = search needs
+
+same-length : tie.Need-same-length
+same-length c = search needs
+
+returns : tie.Need-returns
+returns c = search needs
+
+array-share-prefix-codes : tie.Need-array-share-prefix-codes
+array-share-prefix-codes c = search needs
+
+slice-aggregate-batch : tie.Need-slice-aggregate-batch
+slice-aggregate-batch c = sym (length-take-le _ _ (omega arith))
+
+array-share-prefix-values : tie.Need-array-share-prefix-values
+array-share-prefix-values c = search needs
+
+slice-aggregate-batch-2 : tie.Need-slice-aggregate-batch-2
+slice-aggregate-batch-2 c = sym (length-take-le _ _ (omega arith))
+
+batch-requires : tie.Need-batch-requires
+batch-requires c κs = search needs
+
+same-length-2 : tie.Need-same-length-2
+same-length-2 c = search needs
+
+returns-2 : tie.Need-returns-2
+returns-2 c = search needs
+
+pub batch-text-spec : {M : Type 1} → statement M
+batch-text-spec =
+    tie.close
+    (tie.spec
+    codes-room-requires
+    values-room-requires
+    slice-reshare-prefix-read
+    slice-aggregate-read
+    slice-aggregate-read-2
+    slice-aggregate-read-3
+    read-requires
+    same-length
+    returns
+    array-share-prefix-codes
+    slice-aggregate-batch
+    array-share-prefix-values
+    slice-aggregate-batch-2
+    batch-requires
+    same-length-2
+    returns-2)

@@ -1,0 +1,45 @@
+-- All claims, gathered. Assumes nothing.
+use Prim.Native.Nat.{ℕ}
+use Rattle.rules.specs.Operations.{Op}
+use Rattle.rules.specs.Batching.{batchesOf}
+use Rattle.rules.specs.Record.{Block, blockOf}
+use Rattle.rules.specs.Block.{Room}
+use Rattle.claims.specs.Claims.{Claims}
+use Rattle.claims.proofs.Right.{Width, width-8, width-4}
+use Rattle.claims.proofs.Ended.{ended-count}
+use Rattle.claims.proofs.Sizes.{block-length}
+use Rattle.claims.proofs.Arena.{nine-and-eight}
+use Rattle.claims.proofs.Again.{encodable}
+use Rattle.claims.proofs.Demand1.{demand1}
+use Rattle.claims.proofs.Demand3.{takes, demand3, again, once}
+use Rattle.claims.proofs.Passes.{build-passes, decode-passes}
+use Rattle.claims.proofs.Checked.{shaped-in}
+use Rattle.claims.proofs.Settled.{returns, needed}
+use Rattle.claims.proofs.Finished.{finished}
+use Rattle.claims.proofs.OneList.{one-list}
+
+pub claims : (w : ℕ) → Width w → Claims w
+claims w width =
+    record {
+      demand1 = demand1 w;
+      demand3 = demand3 w width;
+      build-passes = build-passes w width;
+      decode-passes = decode-passes w;
+      finished = finished w (width .eight);
+      again = again w;
+      once = once w;
+      one-list = one-list w (width .eight);
+      returns = returns w (width .eight);
+      needed = needed;
+      ended-count = ended-count;
+      block-length = block-length;
+      lent-sized = shaped-in;
+      built-sized = λ t xs h. nine-and-eight (blockOf (batchesOf w t xs) .records) (takes w width t xs h .sized);
+      read-sized = λ t s at room b next h. nine-and-eight (b .records) (encodable w t s at room b next h .sized);
+    }
+
+pub claims-8 : Claims 8
+claims-8 = claims 8 width-8
+
+pub claims-4 : Claims 4
+claims-4 = claims 4 width-4

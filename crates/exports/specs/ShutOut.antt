@@ -1,0 +1,75 @@
+-- At a named input each export has this reply and leaves this, and nothing else: so one that refuses everything, passes everything, answers the place 0, writes
+-- nothing, leaves what it was lent, ignores the write position or tells an invented length is shut out. Lent runs are full of nines.
+use mathlib.Core.Path.{_≡_}
+use mathlib.Core.List.{List, [], _∷_, _++_}
+use Prim.Native.Nat.{ℕ}
+use lib.ListN.{replicate}
+use Rattle.rules.specs.Record.{recordAt, recordsBytes, recordBytes, wordBytes}
+use Rattle.rules.specs.Block.{Room}
+use Rattle.rules.specs.Lookups.{rawAt, paddedAt, paddedIndex, rawIndex}
+use Rattle.rules.specs.Functions.{Arena, arena, built, encoded, decoded, headed, structureChecked, paddingChecked, commitmentChecked, rawTabled, paddedTabled, groupLookup, nextLookup}
+use Rattle.rules.specs.Examples.{tableT, is, lent, p1, p2}
+use Rattle.crossing.specs.Words.{wordsIn}
+use Rattle.exports.specs.declared.BuildReply.{BuildReply}
+use Rattle.exports.specs.declared.EncodeReply.{EncodeReply}
+use Rattle.exports.specs.declared.DecodeReply.{DecodeReply}
+use Rattle.exports.specs.declared.TableReply.{TableReply}
+use Rattle.exports.specs.Replies.{Builds, Writes, Reads, Tables, BuildsBytes, ReadsBytes, TablesBytes, headReply, checkReply, paddedReply, rawReply, oneRecord, inWhole, groupReply, nextReply}
+
+abbrev pub nines : ℕ → List ℕ
+nines n = replicate n 9
+
+-- runs for three operations and one record, a byte over; with values as numbers, and as bytes
+abbrev pub numbers : Arena
+numbers = arena (nines 3) (nines 3) (nines 83)
+
+abbrev pub bytes : Arena
+bytes = arena (nines 3) (nines 25) (nines 83)
+
+-- what P1's block leaves there
+abbrev pub codesLeft : List ℕ
+codesLeft = 1 ∷ 0 ∷ 0 ∷ []
+
+abbrev pub recordsLeft : List ℕ
+recordsLeft = recordsBytes (p1 .records) ++ (0 ∷ [])
+
+-- P1's block with a second batch, whose count is over 8; its flag stands on an empty group; its number is another
+abbrev pub second : List ℕ → List ℕ → ℕ → Arena
+second fs ns k = arena (1 ∷ 0 ∷ 2 ∷ []) (5 ∷ 0 ∷ 0 ∷ []) (recordsBytes (p1 .records) ++ recordBytes (is (0 ∷ replicate 8 1) fs ns k))
+
+-- a batch of three groups: nine operations, none and one
+abbrev pub threeGroups : List ℕ
+threeGroups = recordBytes (is (0 ∷ 9 ∷ 9 ∷ replicate 6 10) (replicate 8 0) (replicate 8 0) 3)
+
+pub record ShutOut : Type 0 where
+  pub oli-build : (r : BuildReply) (after : Arena) → Builds (built 8 tableT (1 ∷ []) (5 ∷ [])) r numbers after
+      → (r ≡ record { number = 0; place = 0; batches = 1; operations = 2 }) × (after ≡ arena codesLeft (5 ∷ 0 ∷ 0 ∷ []) recordsLeft)
+  -- encode to byte 3 of a buffer of 30
+  pub oli-encode : (r : EncodeReply) (after : List ℕ) → Writes (encoded 8 tableT (lent p1) 30 3) 3 r (nines 30) after
+      → (r ≡ record { number = 0; place = 0; length = 20 }) × (after ≡ nines 3 ++ (p2 ++ nines 7))
+  pub oli-decode : (r : DecodeReply) (after : Arena) → Reads (decoded 8 tableT p2 0) 0 r numbers after
+      → (r ≡ record { number = 0; place = 0; batches = 1; operations = 2; used = 20 }) × (after ≡ arena codesLeft (5 ∷ 0 ∷ 0 ∷ []) recordsLeft)
+  pub oli-raw-table : (r : TableReply) (after : List ℕ) → Tables (rawTabled 8 (lent p1) 4) r (nines 4) after → (r ≡ record { number = 0; place = 0; entries = 2 }) × (after ≡ 0 ∷ 1 ∷ 0 ∷ 0 ∷ [])
+  pub oli-padded-table : (r : TableReply) (after : List ℕ) → Tables (paddedTabled 8 (lent p1) 4) r (nines 4) after
+      → (r ≡ record { number = 0; place = 0; entries = 3 }) × (after ≡ 0 ∷ 0 ∷ 1 ∷ 0 ∷ [])
+  -- over bytes
+  pub oli-build-le : (r : BuildReply) (after : Arena) → BuildsBytes (built 8 tableT (1 ∷ []) (5 ∷ [])) r bytes after
+      → (r ≡ record { number = 0; place = 0; batches = 1; operations = 2 }) × (after ≡ arena codesLeft (5 ∷ replicate 24 0) recordsLeft)
+  pub oli-decode-le : (r : DecodeReply) (after : Arena) → ReadsBytes (decoded 8 tableT p2 0) 0 r bytes after
+      → (r ≡ record { number = 0; place = 0; batches = 1; operations = 2; used = 20 }) × (after ≡ arena codesLeft (5 ∷ replicate 24 0) recordsLeft)
+  pub oli-padded-table-le : (r : TableReply) (after : List ℕ) → TablesBytes (paddedTabled 8 (lent p1) 4) r (nines 33) after
+      → (r ≡ record { number = 0; place = 0; entries = 3 }) × (after ≡ wordBytes (0 ∷ 0 ∷ 1 ∷ 0 ∷ []) ++ (0 ∷ []))
+  pub oli-head : (headReply (headed tableT p2 0) ≡ record { number = 0; place = 0; batches = 1; operations = 2 }) × (headReply (headed tableT p2 20) ≡ record { number = 2; place = 20; batches = 0; operations = 0 })
+  -- checks
+  pub passed : (checkReply (structureChecked 8 (lent p1)) ≡ record { number = 0; place = 0 })
+      × (checkReply (paddingChecked 8 (lent p1)) ≡ record { number = 0; place = 0 })
+      × (checkReply (commitmentChecked 8 tableT (lent p1)) ≡ record { number = 0; place = 0 })
+  pub oli-structure : checkReply (structureChecked 8 (second (replicate 8 0) (2 ∷ replicate 7 0) 9)) ≡ record { number = 15; place = 1 }
+  pub oli-padding : checkReply (paddingChecked 8 (second (1 ∷ replicate 7 0) (2 ∷ replicate 7 0) 1)) ≡ record { number = 10; place = 1 }
+  pub oli-commitment : checkReply (commitmentChecked 8 tableT (second (replicate 8 0) (3 ∷ replicate 7 0) 1)) ≡ record { number = 16; place = 1 }
+  -- lookups in P1's tables, over numbers and over bytes, and in one batch
+  pub oli-padded-index : (paddedReply (paddedIndex (0 ∷ 1 ∷ []) (rawAt 1)) ≡ record { found = 1; index = 2 }) × (paddedReply (paddedIndex (0 ∷ 1 ∷ []) (rawAt 2)) ≡ record { found = 0; index = 0 })
+  pub oli-raw-index : (rawReply (rawIndex (0 ∷ 0 ∷ 1 ∷ []) (paddedAt 2)) ≡ record { found = 1; index = 1 }) × (rawReply (rawIndex (0 ∷ 0 ∷ 1 ∷ []) (paddedAt 3)) ≡ record { found = 0; index = 0 })
+  pub oli-padded-index-le : paddedReply (inWhole (wordBytes (0 ∷ 1 ∷ [])) (paddedIndex (wordsIn (wordBytes (0 ∷ 1 ∷ []))) (rawAt 1))) ≡ record { found = 1; index = 2 }
+  pub oli-group : groupReply (oneRecord threeGroups (groupLookup 8 (recordAt threeGroups 0) 9)) ≡ record { number = 0; place = 0; found = 1; group = 2; position = 0 }
+  pub oli-next-group : nextReply (oneRecord threeGroups (nextLookup 8 (recordAt threeGroups 0) 0)) ≡ record { number = 0; place = 0; found = 1; group = 2 }
