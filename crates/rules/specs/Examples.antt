@@ -12,9 +12,9 @@ use Rattle.rules.specs.Operations.{Op, codes, values, kindOf, admissible
 use Rattle.rules.specs.Batching.{target}
 use Rattle.rules.specs.Record.{Record, Block, recordsBytes}
 use Rattle.rules.specs.Bytes.{countAt, countBytes}
-use Rattle.rules.specs.Block.{Room}
-use Rattle.rules.specs.Lookups.{Place, nextGroup, raw, padded, paddedIndex, rawIndex}
-use Rattle.rules.specs.Functions.{Arena, arena, blockIn, roomIn, filled, built, blockLeft, encoded, written, decoded, readLeft, structureChecked, paddingChecked, commitmentChecked, rawTabled, paddedTabled, tableLeft, groupLookup, nextLookup}
+use Rattle.rules.specs.Block.{Room, Head}
+use Rattle.rules.specs.Lookups.{Place, nextGroup, rawAt, paddedAt, paddedIndex, rawIndex}
+use Rattle.rules.specs.Functions.{Arena, arena, blockIn, roomIn, filled, built, blockLeft, encoded, written, decoded, readLeft, Totals, totals, lengthTold, used, countHere, opHere, headed, structureChecked, paddingChecked, commitmentChecked, rawTabled, paddedTabled, tableLeft, groupLookup, nextLookup}
 use Rattle.rules.specs.Open.{document}
 
 -- "Table T: opcodes 0 and 2 kind 0, opcode 1 kind 1, opcode 3 kind 2, the rest 3."
@@ -427,12 +427,15 @@ pub record OfLookups : Type 0 where
   pub padded-short : paddedTabled 8 (lent p7more) 10 ≡ refused 13 0
   pub no-room : (rawTabled 8 (lent (block [] [])) 0 ≡ refused 13 0) × (paddedTabled 8 (lent (block [] [])) 0 ≡ refused 13 0)
   -- index lookups: every entry, one past the last, no entries, an entry greater than the index, a sum at the largest index and over it
-  pub to-padded : (paddedIndex (0 ∷ 1 ∷ []) (raw 0) ≡ some (padded 0)) × (paddedIndex (0 ∷ 1 ∷ []) (raw 1) ≡ some (padded 2)) × (paddedIndex (0 ∷ 1 ∷ []) (raw 2) ≡ none) × (paddedIndex [] (raw 0) ≡ none)
-  pub to-raw : (rawIndex (0 ∷ 0 ∷ 1 ∷ []) (padded 1) ≡ some (raw 1)) × (rawIndex (0 ∷ 0 ∷ 1 ∷ []) (padded 2) ≡ some (raw 1)) × (rawIndex (0 ∷ 0 ∷ 1 ∷ []) (padded 3) ≡ none) × (rawIndex [] (padded 0) ≡ none)
-  pub entry-greater : (rawIndex (0 ∷ 1 ∷ []) (padded 1) ≡ some (raw 0)) × (rawIndex (0 ∷ 2 ∷ []) (padded 1) ≡ none) × (rawIndex (1 ∷ []) (padded 0) ≡ none)
-  pub sum-largest : (paddedIndex (0 ∷ 18446744073709551614 ∷ []) (raw 1) ≡ some (padded 18446744073709551615)) × (paddedIndex (0 ∷ 18446744073709551615 ∷ []) (raw 1) ≡ none)
+  pub to-padded : (paddedIndex (0 ∷ 1 ∷ []) (rawAt 0) ≡ some (paddedAt 0)) × (paddedIndex (0 ∷ 1 ∷ []) (rawAt 1) ≡ some (paddedAt 2)) × (paddedIndex (0 ∷ 1 ∷ []) (rawAt 2) ≡ none) × (paddedIndex [] (rawAt 0) ≡ none)
+  pub to-raw : (rawIndex (0 ∷ 0 ∷ 1 ∷ []) (paddedAt 1) ≡ some (rawAt 1)) × (rawIndex (0 ∷ 0 ∷ 1 ∷ []) (paddedAt 2) ≡ some (rawAt 1)) × (rawIndex (0 ∷ 0 ∷ 1 ∷ []) (paddedAt 3) ≡ none) × (rawIndex [] (paddedAt 0) ≡ none)
+  pub entry-greater : (rawIndex (0 ∷ 1 ∷ []) (paddedAt 1) ≡ some (rawAt 0)) × (rawIndex (0 ∷ 2 ∷ []) (paddedAt 1) ≡ none) × (rawIndex (1 ∷ []) (paddedAt 0) ≡ none)
+  pub sum-largest : (paddedIndex (0 ∷ 18446744073709551614 ∷ []) (rawAt 1) ≡ some (paddedAt 18446744073709551615)) × (paddedIndex (0 ∷ 18446744073709551615 ∷ []) (rawAt 1) ≡ none)
 
 -- ---- "Numbers of refusal", the orders: an example named 3-14 has both faults and gets the first; one with a single number has that bound's two sides
+
+abbrev pub head : List Op → ℕ → Head
+head xs k = record { ops = xs; batches = k }
 
 -- two opcodes with one value, and a record that fails structure
 abbrev pub unequal : Arena
@@ -481,6 +484,20 @@ pub record OfOrders : Type 0 where
   pub decode-10-9 : read (laid 3 (2 ∷ (push ++ (2 ∷ []))) 2 (low 1 ++ low 0x11) (1 ∷ 0 ∷ [])) 0 ≡ refused 10 0
   pub decode-8-11 : read (laid 2 (push ++ (2 ∷ [])) 1 (high 0x10) (0 ∷ [])) 0 ≡ refused 8 0
   pub decode-10-11 : read (laid 2 (2 ∷ 2 ∷ []) 1 (low 1) (1 ∷ [])) 0 ≡ refused 10 0
+  -- a reader's steps and a block's head: 3, 14, 1, then the item; the head has room for any block
+  pub count-3-1 : (s : List ℕ) → length s ≡ 1048577 → countHere s 1048578 ≡ refused 3 0
+  pub count-limit : (s : List ℕ) → length s ≡ 1048576 → countHere s 1048577 ≡ refused 1 0
+  pub count-here : (countHere p2 0 ≡ found 2 1) × (countHere p2 20 ≡ refused 2 20) × (countHere p2 21 ≡ refused 1 0)
+  pub op-3-14 : (s : List ℕ) → length s ≡ 1048577 → opHere [] s 1048578 0 ≡ refused 3 0
+  pub op-limit : (s : List ℕ) → length s ≡ 1048576 → opHere tableT s 1048577 0 ≡ refused 1 0
+  pub op-14-1 : opHere [] p2 21 0 ≡ refused 14 0
+  pub op-here : (opHere tableT p2 1 7 ≡ found (op 1 5) 10) × (opHere tableT p2 20 7 ≡ refused 2 20) × (opHere tableT p2 21 7 ≡ refused 1 0) × (opHere tableT (4 ∷ []) 0 7 ≡ refused 4 7)
+  pub head-3-14 : (s : List ℕ) → length s ≡ 1048577 → headed [] s 1048578 ≡ refused 3 0
+  pub head-limit : (s : List ℕ) → length s ≡ 1048576 → headed tableT s 1048577 ≡ refused 1 0
+  pub head-14-1 : headed [] p2 21 ≡ refused 14 0
+  pub head-here : (headed tableT p2 0 ≡ found (head (p1 .ops) 1) 15) × (headed tableT p2 20 ≡ refused 2 20) × (headed tableT p2 21 ≡ refused 1 0)
+  pub head-65535 : headed tableT (0xfc ∷ 0xff ∷ 0x07 ∷ []) 0 ≡ refused 2 3
+  pub head-16384 : (s : List ℕ) → length s ≡ 81920 → headed tableT (1 ∷ 0x00 ∷ 0x40 ∷ 0 ∷ 0 ∷ s) 0 ≡ found (head [] 16384) 5
   -- "Tables: 3, 15, 10, 13."
   pub table-3-15 : (rawTabled 8 unequal 0 ≡ refused 3 0) × (paddedTabled 8 unequal 0 ≡ refused 3 0)
   pub table-15-10 : rawTabled 8 (lent (block (twos 2) (flagged (1 ∷ zeros 7) ∷ []))) 0 ≡ refused 15 1
@@ -500,6 +517,9 @@ pub record OfOrders : Type 0 where
 abbrev pub p1record : List ℕ
 p1record = (0 ∷ replicate 8 2) ++ ((1 ∷ zeros 7) ++ ((1 ∷ zeros 7) ++ ((5 ∷ zeros 7) ++ (zeros 48 ++ (2 ∷ [])))))
 
+abbrev pub told : ℕ → ℕ → Totals
+told b n = record { batches = b; operations = n }
+
 pub record OfOutputs : Type 0 where
   -- a record's 82 bytes
   pub record-bytes :
@@ -517,6 +537,10 @@ pub record OfOutputs : Type 0 where
   pub decode-refused : filled (arena (replicate 3 7) (replicate 4 7) (replicate 85 7)) (readLeft (read p2 1)) ≡ arena (zeros 3) (zeros 4) (zeros 85)
   pub table-leaves : tableLeft (replicate 4 7) (rawTabled 8 (lent p1) 4) ≡ 0 ∷ 1 ∷ 0 ∷ 0 ∷ []
   pub table-refused : tableLeft (7 ∷ []) (rawTabled 8 (lent p1) 1) ≡ 0 ∷ []
+  -- the lengths and totals of a reply, 0 where it refuses
+  pub totals-told : (totals (blockLeft (build (pushes 8))) ≡ told 2 10) × (totals (blockLeft (build [])) ≡ told 0 0)
+  pub length-told : (lengthTold (write p1) ≡ 20) × (lengthTold (encoded 8 tableT (lent p1) 19 0) ≡ 0)
+  pub bytes-used : (used 2 (read ((7 ∷ 7 ∷ []) ++ (p2 ++ (7 ∷ []))) 2) ≡ 20) × (used 2 (read p2 2) ≡ 0)
   -- encode writes only the block's bytes, and none where it refuses
   pub encode-leaves : written (replicate 24 7) 3 (encoded 8 tableT (lent p1) 24 3) ≡ replicate 3 7 ++ (p2 ++ (7 ∷ []))
   pub encode-refused : written (replicate 22 7) 3 (encoded 8 tableT (lent p1) 22 3) ≡ replicate 22 7
@@ -863,6 +887,19 @@ numbers =
         decode-10-9 = refl;
         decode-8-11 = refl;
         decode-10-11 = refl;
+        count-3-1 = λ s h. rw h;
+        count-limit = λ s h. rw h;
+        count-here = (refl, refl, refl);
+        op-3-14 = λ s h. rw h;
+        op-limit = λ s h. rw h;
+        op-14-1 = refl;
+        op-here = (refl, refl, refl, refl);
+        head-3-14 = λ s h. rw h;
+        head-limit = λ s h. rw h;
+        head-14-1 = refl;
+        head-here = (refl, refl, refl);
+        head-65535 = refl;
+        head-16384 = λ s h. rw h;
         table-3-15 = (refl, refl);
         table-15-10 = refl;
         table-10-13 = refl;
@@ -886,6 +923,9 @@ numbers =
         decode-refused = refl;
         table-leaves = refl;
         table-refused = refl;
+        totals-told = (refl, refl);
+        length-told = (refl, refl);
+        bytes-used = (refl, refl);
         encode-leaves = refl;
         encode-refused = refl;
       };
