@@ -491,7 +491,7 @@ pub record OfOrders : Type 0 where
   pub op-3-14 : (s : List ℕ) → length s ≡ 1048577 → opHere [] s 1048578 0 ≡ refused 3 0
   pub op-limit : (s : List ℕ) → length s ≡ 1048576 → opHere tableT s 1048577 0 ≡ refused 1 0
   pub op-14-1 : opHere [] p2 21 0 ≡ refused 14 0
-  pub op-here : (opHere tableT p2 1 7 ≡ found (op 1 5) 10) × (opHere tableT p2 20 7 ≡ refused 2 20) × (opHere tableT p2 21 7 ≡ refused 1 0) × (opHere tableT (4 ∷ []) 0 7 ≡ refused 4 7)
+  pub op-here : (opHere tableT p2 1 7 ≡ found (op 1 5) 10) × (opHere tableT p2 20 7 ≡ refused 2 20) × (opHere tableT p2 21 7 ≡ refused 1 0) × (opHere tableT (4 ∷ []) 0 7 ≡ refused 4 7) × (opHere tableT (2 ∷ []) 0 7 ≡ found (op 2 0) 1)
   pub head-3-14 : (s : List ℕ) → length s ≡ 1048577 → headed [] s 1048578 ≡ refused 3 0
   pub head-limit : (s : List ℕ) → length s ≡ 1048576 → headed tableT s 1048577 ≡ refused 1 0
   pub head-14-1 : headed [] p2 21 ≡ refused 14 0
@@ -893,7 +893,7 @@ numbers =
         op-3-14 = λ s h. rw h;
         op-limit = λ s h. rw h;
         op-14-1 = refl;
-        op-here = (refl, refl, refl, refl);
+        op-here = (refl, refl, refl, refl, refl);
         head-3-14 = λ s h. rw h;
         head-limit = λ s h. rw h;
         head-14-1 = refl;
