@@ -1,14 +1,20 @@
--- Document 01, "Numbers to check", computed by the checker from the definitions: one table under one claim.
+-- Document 01's numbers and sentences, computed by the checker from the definitions: one table, `Numbers`, under one claim. It has the numbers to check and, for
+-- the guards of each function, inputs on both sides of the bound, with number and place (in a later operation or batch too), and inputs with two faults.
 use mathlib.Core.Path.{_≡_, refl}
-use mathlib.Core.List.{List, [], _∷_, _++_}
-use Prim.Native.Nat.{ℕ}
+use mathlib.Core.Bool.{true, false}
+use mathlib.Core.List.{List, [], _∷_, _++_, map}
+use mathlib.Core.Option.{Option, none, some}
+use Prim.Native.Nat.{ℕ, _+_, _*_}
 use lib.ListN.{length, replicate}
+use Rattle.rules.specs.Lists.{butLast}
 use Rattle.rules.specs.Answer.{Answer, good, refused, Read, found}
-use Rattle.rules.specs.Operations.{Op, codes, values}
+use Rattle.rules.specs.Operations.{Op, codes, values, kindOf, admissible}
+use Rattle.rules.specs.Batching.{target}
 use Rattle.rules.specs.Record.{Record, Block, recordsBytes}
 use Rattle.rules.specs.Bytes.{countAt, countBytes}
-use Rattle.rules.specs.Block.{Room}
-use Rattle.rules.specs.Functions.{Arena, arena, built, encoded, decoded, structureChecked, paddingChecked, commitmentChecked, rawTabled, paddedTabled}
+use Rattle.rules.specs.Block.{Room, Head}
+use Rattle.rules.specs.Lookups.{Place, nextGroup, rawAt, paddedAt, paddedIndex, rawIndex}
+use Rattle.rules.specs.Functions.{Arena, arena, blockIn, roomIn, filled, built, blockLeft, encoded, written, decoded, readLeft, Totals, totals, lengthTold, used, countHere, opHere, headed, structureChecked, paddingChecked, commitmentChecked, rawTabled, paddedTabled, tableLeft, groupLookup, nextLookup}
 use Rattle.rules.specs.Open.{document}
 
 -- "Table T: opcodes 0 and 2 kind 0, opcode 1 kind 1, opcode 3 kind 2, the rest 3."
@@ -25,8 +31,11 @@ is s f g n = record { starts = s; flags = f; numbers = g; count = n }
 abbrev pub block : List Op → List Record → Block
 block xs rs = record { ops = xs; records = rs }
 
+abbrev pub room : ℕ → ℕ → ℕ → Room
+room c v r = record { codes = c; values = v; records = r }
+
 abbrev pub ample : Room
-ample = record { codes = 100; values = 100; records = 100 }
+ample = room 100 100 100
 
 -- the answers, for a list of operations, a block and a list of bytes
 abbrev pub build : List Op → Answer Block
@@ -41,10 +50,24 @@ write b = encoded 8 tableT (lent b) 1000 0
 abbrev pub read : List ℕ → ℕ → Read Block
 read s at = decoded 8 tableT s at ample
 
--- how many batches a list makes
-abbrev pub batchesIn : Answer Block → ℕ
-batchesIn (good b) = length (b .records)
-batchesIn (refused n p) = 0
+abbrev pub structure : Block → Answer Unit
+structure b = structureChecked 8 (lent b)
+
+abbrev pub padding : Block → Answer Unit
+padding b = paddingChecked 8 (lent b)
+
+abbrev pub commitment : Block → Answer Unit
+commitment b = commitmentChecked 8 tableT (lent b)
+
+-- the counts of the batches that a list makes
+abbrev pub counts : Answer Block → List ℕ
+counts (good b) = map (λ (r : Record). r .count) (b .records)
+counts (refused n p) = []
+
+-- ---- lists, blocks and bytes
+
+abbrev pub zeros : ℕ → List ℕ
+zeros n = replicate n 0
 
 abbrev pub twos : ℕ → List Op
 twos n = replicate n (op 2 0)
@@ -53,24 +76,476 @@ abbrev pub pushes : ℕ → List Op
 pushes n = replicate n (op 1 5)
 
 abbrev pub p1 : Block
-p1 = block (op 1 5 ∷ op 0 0 ∷ []) (is (0 ∷ replicate 8 2) (1 ∷ replicate 7 0) (1 ∷ 5 ∷ replicate 6 0) 2 ∷ [])
+p1 = block (op 1 5 ∷ op 0 0 ∷ []) (is (0 ∷ replicate 8 2) (1 ∷ zeros 7) (1 ∷ 5 ∷ zeros 6) 2 ∷ [])
 
 abbrev pub p2 : List ℕ
 p2 = 0x05 ∷ 0x01 ∷ 0x05 ∷ 0 ∷ 0 ∷ 0 ∷ 0 ∷ 0 ∷ 0 ∷ 0 ∷ 0x00 ∷ 0x01 ∷ 0 ∷ 0 ∷ 0 ∷ 0x02 ∷ 0 ∷ 0 ∷ 0 ∷ 0x01 ∷ []
+
+abbrev pub p6 : Block
+p6 = block (twos 8 ++ (op 1 5 ∷ op 0 0 ∷ op 0 0 ∷ [])) (is (0 ∷ 8 ∷ 10 ∷ 10 ∷ replicate 5 11) (0 ∷ 1 ∷ 0 ∷ 1 ∷ zeros 4) (1134765260439810 ∷ 1 ∷ 5 ∷ zeros 5) 4 ∷ [])
 
 -- eight of opcode 1: two batches
 abbrev pub p7more : Block
 p7more =
     block (pushes 7 ++ (op 0 0 ∷ op 1 5 ∷ op 0 0 ∷ []))
-    (is (0 ∷ replicate 8 8) (1 ∷ replicate 7 0) (4432676798593 ∷ replicate 7 5) 8 ∷ is (0 ∷ replicate 8 2) (1 ∷ replicate 7 0) (1 ∷ 5 ∷ replicate 6 0) 2 ∷ [])
+    (is (0 ∷ replicate 8 8) (1 ∷ zeros 7) (4432676798593 ∷ replicate 7 5) 8 ∷ is (0 ∷ replicate 8 2) (1 ∷ zeros 7) (1 ∷ 5 ∷ zeros 6) 2 ∷ [])
 
--- the record of a batch of one operation of opcode 2
+-- the record of a batch of one operation of opcode 2, and of a batch of none
 abbrev pub single : Record
-single = is (0 ∷ replicate 8 1) (replicate 8 0) (2 ∷ replicate 7 0) 1
+single = is (0 ∷ replicate 8 1) (zeros 8) (2 ∷ zeros 7) 1
+
+abbrev pub nothing : Record
+nothing = is (zeros 9) (zeros 8) (zeros 8) 0
+
+-- that record with other flags, and with other numbers and another count
+abbrev pub flagged : List ℕ → Record
+flagged fs = is (0 ∷ replicate 8 1) fs (2 ∷ zeros 7) 1
+
+abbrev pub numbered : List ℕ → ℕ → Record
+numbered ns k = is (0 ∷ replicate 8 1) (zeros 8) ns k
+
+-- bytes: operation 1 with value 5
+abbrev pub push : List ℕ
+push = 1 ∷ 5 ∷ zeros 7
+
+-- bytes: the count of n operations, operations, k batches, nibbles, flags
+abbrev pub laid : ℕ → List ℕ → ℕ → List ℕ → List ℕ → List ℕ
+laid n xs k ns fs = (2 * n + 1) ∷ (xs ++ ((k ∷ 0 ∷ 0 ∷ 0 ∷ []) ++ (ns ++ fs)))
+
+-- four bytes with one that is not 0: groups 0 and 1, and groups 6 and 7
+abbrev pub low : ℕ → List ℕ
+low n = n ∷ 0 ∷ 0 ∷ 0 ∷ []
+
+abbrev pub high : ℕ → List ℕ
+high n = 0 ∷ 0 ∷ 0 ∷ n ∷ []
 
 -- bytes: n operations of opcode 2, then one batch with these nibbles
 abbrev pub bare : ℕ → List ℕ → List ℕ
-bare n ns = countBytes n ++ (replicate n 2 ++ ((1 ∷ 0 ∷ 0 ∷ 0 ∷ []) ++ (ns ++ (0 ∷ []))))
+bare n ns = laid n (replicate n 2) 1 ns (0 ∷ [])
+
+-- a value that is too large by one, and the largest, as bytes
+abbrev pub over : List ℕ
+over = 1 ∷ 0 ∷ 0 ∷ 0 ∷ 255 ∷ 255 ∷ 255 ∷ 255 ∷ []
+
+abbrev pub top : List ℕ
+top = 0 ∷ 0 ∷ 0 ∷ 0 ∷ 255 ∷ 255 ∷ 255 ∷ 255 ∷ []
+
+-- ---- "Operations and their table"
+
+pub record OfOperations : Type 0 where
+  -- a good table has 128 bytes, kinds 0 to 3, and kind 0 for opcode 0
+  pub table-127 : built 8 (zeros 127) (2 ∷ []) (0 ∷ []) ample ≡ refused 14 0
+  pub table-129 : built 8 (zeros 129) (2 ∷ []) (0 ∷ []) ample ≡ refused 14 0
+  pub kind-four : built 8 (zeros 127 ++ (4 ∷ [])) (2 ∷ []) (0 ∷ []) ample ≡ refused 14 0
+  pub noop-one : built 8 (1 ∷ zeros 127) (2 ∷ []) (0 ∷ []) ample ≡ refused 14 0
+  pub noop-three : built 8 (3 ∷ zeros 127) (2 ∷ []) (0 ∷ []) ample ≡ refused 14 0
+  -- opcode under 128, whatever the table has; past the table there is no kind but 3
+  pub opcode-127 : built 8 (zeros 128) (127 ∷ []) (0 ∷ []) ample ≡ good (block (op 127 0 ∷ []) (numbered (127 ∷ zeros 7) 1 ∷ []))
+  pub opcode-128 : built 8 (zeros 128) (0 ∷ 128 ∷ []) (0 ∷ 0 ∷ []) ample ≡ refused 4 1
+  pub opcode-over : (admissible (zeros 200) (op 127 0) ≡ true) × (admissible (zeros 200) (op 128 0) ≡ false)
+  pub past-the-table : kindOf (zeros 5) 5 ≡ 3
+  pub unassigned : build (op 2 0 ∷ op 4 0 ∷ []) ≡ refused 4 1
+  -- value 0 for kind 0, below the field's size for kinds 1 and 2
+  pub valued-noop : build (op 2 0 ∷ op 2 0 ∷ op 2 1 ∷ []) ≡ refused 4 2
+  pub largest-1 : build (op 1 18446744069414584320 ∷ op 2 0 ∷ []) ≡ good (block (op 1 18446744069414584320 ∷ op 2 0 ∷ []) (is (0 ∷ replicate 8 2) (zeros 8) (257 ∷ 18446744069414584320 ∷ zeros 6) 2 ∷ []))
+  pub largest-2 : build (op 3 18446744069414584320 ∷ []) ≡ good (block (op 3 18446744069414584320 ∷ []) (numbered (3 ∷ zeros 7) 1 ∷ []))
+  pub field-1 : build (op 2 0 ∷ op 1 18446744069414584321 ∷ []) ≡ refused 4 1
+  pub field-2 : build (op 2 0 ∷ op 3 18446744069414584321 ∷ []) ≡ refused 4 1
+  -- "Limits": 16,384 operations in a list to batch, as many values
+  pub list-16385 : (cs vs : List ℕ) → length cs ≡ 16385 → length vs ≡ 16385 → built 8 tableT cs vs ample ≡ refused 3 0
+  pub list-16384 : (cs vs : List ℕ) → length cs ≡ 16384 → length vs ≡ 16384 → built 8 [] cs vs ample ≡ refused 14 0
+  pub fewer-values : built 8 tableT (2 ∷ 2 ∷ []) (0 ∷ []) ample ≡ refused 3 0
+  pub more-values : built 8 tableT (2 ∷ []) (0 ∷ 0 ∷ []) ample ≡ refused 3 0
+  -- 65,535 padded operations and as many values, 16,384 batches, records whole
+  pub block-65536 : (cs vs : List ℕ) → length cs ≡ 65536 → length vs ≡ 65536 → structureChecked 8 (arena cs vs []) ≡ refused 3 0
+  pub batches-16385 : (rs : List ℕ) → length rs ≡ 1343570 → structureChecked 8 (arena [] [] rs) ≡ refused 3 0
+  pub block-fewer : structureChecked 8 (arena (2 ∷ []) [] (recordsBytes (single ∷ []))) ≡ refused 3 0
+  pub block-more : structureChecked 8 (arena (2 ∷ []) (0 ∷ 0 ∷ []) (recordsBytes (single ∷ []))) ≡ refused 3 0
+  pub block-full : (cs vs rs : List ℕ) → length cs ≡ 65535 → length vs ≡ 65535 → length rs ≡ 1343488 → commitmentChecked 8 [] (arena cs vs rs) ≡ refused 14 0
+  pub record-81 : structureChecked 8 (arena [] [] (zeros 81)) ≡ refused 3 0
+  pub record-83 : structureChecked 8 (arena [] [] (zeros 83)) ≡ refused 3 0
+  pub record-82 : structureChecked 8 (arena [] [] (zeros 82)) ≡ good tt
+  pub records-164 : structureChecked 8 (arena [] [] (zeros 164)) ≡ good tt
+  -- 1,048,576 bytes in a byte buffer
+  pub bytes-1048577 : (s : List ℕ) → length s ≡ 1048577 → decoded 8 [] s 1048578 ample ≡ refused 3 0
+  pub bytes-1048576 : (s : List ℕ) → length s ≡ 1048576 → decoded 8 tableT s 1048577 ample ≡ refused 1 0
+  pub buffer-1048577 : encoded 8 tableT (lent (block [] [])) 1048577 0 ≡ refused 3 0
+  pub buffer-1048576 : encoded 8 tableT (lent (block [] [])) 1048576 0 ≡ good (1 ∷ 0 ∷ 0 ∷ 0 ∷ 0 ∷ [])
+
+-- ---- "Batching"
+
+pub record OfBatching : Type 0 where
+  -- "close and open until next free is a power of two": the group counts of plain operations
+  pub targets : map target (1 ∷ 2 ∷ 3 ∷ 4 ∷ 5 ∷ 6 ∷ 7 ∷ 8 ∷ []) ≡ 1 ∷ 2 ∷ 4 ∷ 4 ∷ 8 ∷ 8 ∷ 8 ∷ 8 ∷ []
+  pub plain-1 : counts (build (twos 1)) ≡ 1 ∷ []
+  pub plain-10 : counts (build (twos 10)) ≡ 2 ∷ []
+  pub plain-18 : counts (build (twos 18)) ≡ 2 ∷ []
+  pub plain-28 : counts (build (twos 28)) ≡ 4 ∷ []
+  pub plain-36 : counts (build (twos 36)) ≡ 4 ∷ []
+  pub plain-37 : build (twos 37) ≡ good (block (twos 37 ++ replicate 3 (op 0 0)) (is (0 ∷ 9 ∷ 18 ∷ 27 ∷ 36 ∷ 37 ∷ 38 ∷ 39 ∷ 40 ∷ []) (zeros 5 ++ (1 ∷ 1 ∷ 1 ∷ [])) (replicate 4 145249953336295682 ++ (2 ∷ 0 ∷ 0 ∷ 0 ∷ [])) 8 ∷ []))
+  pub plain-72 : build (twos 72) ≡ good (block (twos 72) (is (0 ∷ 9 ∷ 18 ∷ 27 ∷ 36 ∷ 45 ∷ 54 ∷ 63 ∷ 72 ∷ []) (zeros 8) (replicate 8 145249953336295682) 8 ∷ []))
+  pub plain-73 : counts (build (twos 73)) ≡ 8 ∷ 1 ∷ []
+  -- a plain operation wants under 9 in the group, or a free group
+  pub seven-and-two : counts (build (pushes 7 ++ twos 2)) ≡ 8 ∷ []
+  pub seven-and-three : counts (build (pushes 7 ++ twos 3)) ≡ 8 ∷ 1 ∷ []
+  pub six-and-four : counts (build (pushes 6 ++ twos 4)) ≡ 8 ∷ []
+  -- one with an immediate wants a free slot, and with 8 or 9 in the group a free group before it
+  pub seven-in-eight : counts (build (pushes 6 ++ (twos 1 ++ pushes 1))) ≡ 8 ∷ []
+  pub six-of-eight : counts (build (pushes 6 ++ (twos 2 ++ pushes 1))) ≡ 8 ∷ 2 ∷ []
+  pub six-of-nine : counts (build (pushes 6 ++ (twos 3 ++ pushes 1))) ≡ 8 ∷ 2 ∷ []
+  pub five-of-eight : counts (build (pushes 5 ++ (twos 3 ++ pushes 1))) ≡ 8 ∷ []
+  pub five-of-nine : counts (build (pushes 5 ++ (twos 4 ++ pushes 1))) ≡ 8 ∷ []
+  -- a group of eight that ends in an immediate's operation is closed by a Noop; one with an immediate before its end is not
+  pub noop-ninth :
+      build (twos 7 ++ pushes 2)
+      ≡ good (block (twos 7 ++ (op 1 5 ∷ op 0 0 ∷ op 1 5 ∷ op 0 0 ∷ [])) (is (0 ∷ 9 ∷ 9 ∷ replicate 6 11) (1 ∷ 0 ∷ 1 ∷ zeros 5) (571815307018498 ∷ 5 ∷ 1 ∷ 5 ∷ zeros 4) 4 ∷ []))
+  pub no-noop : build (op 1 5 ∷ op 1 6 ∷ op 2 0 ∷ []) ≡ good (block (op 1 5 ∷ op 1 6 ∷ op 2 0 ∷ op 0 0 ∷ []) (is (0 ∷ 3 ∷ 3 ∷ 3 ∷ replicate 5 4) (0 ∷ 0 ∷ 0 ∷ 1 ∷ zeros 4) (32897 ∷ 5 ∷ 6 ∷ zeros 5) 4 ∷ []))
+  -- all but the last of a list
+  pub but-last : (butLast (op 1 5 ∷ op 2 0 ∷ op 0 0 ∷ []) ≡ op 1 5 ∷ op 2 0 ∷ []) × (butLast (twos 1) ≡ [])
+  -- "Errors the rules must catch": a kind 2 value in a group, a caller's own Noop dropped
+  pub kind-two : build (op 3 7 ∷ []) ≡ good (block (op 3 7 ∷ []) (numbered (3 ∷ zeros 7) 1 ∷ []))
+  pub own-noop : build (op 2 0 ∷ op 0 0 ∷ []) ≡ good (block (op 2 0 ∷ op 0 0 ∷ []) (is (0 ∷ replicate 8 2) (zeros 8) (2 ∷ zeros 7) 1 ∷ []))
+
+-- ---- "Block bytes", written and read item by item
+
+pub record OfBytes : Type 0 where
+  -- the count's forms: cut short, more than two zeros, not the shortest, over 65,535
+  pub count-missing : countAt (7 ∷ []) 1 ≡ refused 2 1
+  pub count-cut-2 : countAt (7 ∷ 0x02 ∷ []) 1 ≡ refused 2 1
+  pub count-cut-3 : countAt (7 ∷ 0x04 ∷ 0 ∷ []) 1 ≡ refused 2 1
+  pub three-zeros : countAt (7 ∷ 0x08 ∷ []) 1 ≡ refused 3 0
+  pub all-zeros : countAt (7 ∷ 0 ∷ []) 1 ≡ refused 3 0
+  pub long-127 : countAt (7 ∷ 0xfe ∷ 0x01 ∷ []) 1 ≡ refused 3 0
+  pub long-16383 : countAt (7 ∷ 0xfc ∷ 0xff ∷ 0x01 ∷ []) 1 ≡ refused 3 0
+  pub count-65535 : (countBytes 65535 ≡ 0xfc ∷ 0xff ∷ 0x07 ∷ []) × (countAt (0xfc ∷ 0xff ∷ 0x07 ∷ []) 0 ≡ found 65535 3)
+  pub count-65536 : countAt (0x04 ∷ 0x00 ∷ 0x08 ∷ []) 0 ≡ refused 3 0
+  -- an operation: 2 has the place of its opcode, 4 its number, and an unassigned opcode goes before a missing value
+  pub op-missing : read (3 ∷ []) 0 ≡ refused 2 1
+  pub op-missing-later : read (5 ∷ 2 ∷ []) 0 ≡ refused 2 2
+  pub value-cut : read (3 ∷ 1 ∷ 5 ∷ zeros 6) 0 ≡ refused 2 1
+  pub value-cut-later : read (5 ∷ 2 ∷ 3 ∷ 5 ∷ []) 0 ≡ refused 2 2
+  pub value-whole : read (3 ∷ 1 ∷ 5 ∷ zeros 7) 0 ≡ refused 2 10
+  pub opcode-unassigned : read (5 ∷ 2 ∷ 4 ∷ []) 0 ≡ refused 4 1
+  pub opcode-high : decoded 8 (zeros 128) (5 ∷ 2 ∷ 128 ∷ []) 0 ample ≡ refused 4 1
+  pub value-over-1 : read (5 ∷ 2 ∷ 1 ∷ over) 0 ≡ refused 4 1
+  pub value-over-2 : read (5 ∷ 2 ∷ 3 ∷ over) 0 ≡ refused 4 1
+  pub value-top : read (laid 1 (3 ∷ top) 1 (low 1) (0 ∷ [])) 0 ≡ found (block (op 3 18446744069414584320 ∷ []) (numbered (3 ∷ zeros 7) 1 ∷ [])) 19
+  -- the batch count: cut short, all four bytes, (bytes left / 5) rounded down, over 16,384
+  pub batches-missing : read (3 ∷ 2 ∷ []) 0 ≡ refused 2 2
+  pub batches-cut : read (3 ∷ 2 ∷ 0 ∷ 0 ∷ 0 ∷ []) 0 ≡ refused 2 2
+  pub fourth-byte : read (1 ∷ 0 ∷ 0 ∷ 0 ∷ 1 ∷ []) 0 ≡ refused 5 0
+  pub nine-left : read (1 ∷ 2 ∷ 0 ∷ 0 ∷ 0 ∷ zeros 9) 0 ≡ refused 5 0
+  pub ten-left : read (1 ∷ 2 ∷ 0 ∷ 0 ∷ 0 ∷ zeros 10) 0 ≡ found (block [] (nothing ∷ nothing ∷ [])) 15
+  pub left-from-here : read ((7 ∷ 7 ∷ 7 ∷ 7 ∷ 7 ∷ []) ++ (1 ∷ 1 ∷ 0 ∷ 0 ∷ 0 ∷ [])) 5 ≡ refused 5 0
+  pub five-first : read (1 ∷ 0x01 ∷ 0x40 ∷ 0 ∷ 0 ∷ zeros 9) 0 ≡ refused 5 0
+  pub read-16385 : (s : List ℕ) → length s ≡ 81925 → read (1 ∷ 0x01 ∷ 0x40 ∷ 0 ∷ 0 ∷ s) 0 ≡ refused 3 0
+  pub read-16384 : (s : List ℕ) → length s ≡ 81920 → read (1 ∷ 0x00 ∷ 0x40 ∷ 0 ∷ 0 ∷ s) 0 ≡ refused 13 0
+  -- nibbles, low first, and flags, group i in bit i
+  pub nibbles : read (bare 3 (low 0x21)) 0 ≡ found (block (twos 3) (is (0 ∷ 1 ∷ replicate 7 3) (zeros 8) (2 ∷ 258 ∷ zeros 6) 2 ∷ [])) 13
+  pub nibble-9-last : read (bare 9 (high 0x90)) 0 ≡ found (block (twos 9) (is (zeros 8 ++ (9 ∷ [])) (zeros 8) (zeros 7 ++ (145249953336295682 ∷ [])) 8 ∷ [])) 19
+  pub nibble-10-last : read (bare 10 (high 0xa0)) 0 ≡ refused 6 0
+  pub nibble-10-later : read (laid 11 (replicate 11 2) 2 (low 1 ++ low 10) (0 ∷ 0 ∷ [])) 0 ≡ refused 6 1
+  pub p6-bytes :
+      (write p6 ≡ good (laid 11 (replicate 8 2 ++ (push ++ (0 ∷ 0 ∷ []))) 1 (0x28 ∷ 0x10 ∷ 0 ∷ 0 ∷ []) (0x0a ∷ [])))
+      × (read (laid 11 (replicate 8 2 ++ (push ++ (0 ∷ 0 ∷ []))) 1 (0x28 ∷ 0x10 ∷ 0 ∷ 0 ∷ []) (0x0a ∷ [])) 0 ≡ found p6 29)
+  pub two-batches :
+      (write p7more ≡ good (laid 10 (push ++ (push ++ (push ++ (push ++ (push ++ (push ++ (push ++ (0 ∷ (push ++ (0 ∷ [])))))))))) 2 (low 8 ++ low 2) (1 ∷ 1 ∷ [])))
+      × (read (laid 10 (push ++ (push ++ (push ++ (push ++ (push ++ (push ++ (push ++ (0 ∷ (push ++ (0 ∷ [])))))))))) 2 (low 8 ++ low 2) (1 ∷ 1 ∷ [])) 0 ≡ found p7more 89)
+  pub kind-2-bytes : write (block (op 3 258 ∷ []) (numbered (3 ∷ zeros 7) 1 ∷ [])) ≡ good (laid 1 (3 ∷ 2 ∷ 1 ∷ zeros 6) 1 (low 1) (0 ∷ []))
+  pub empty-block : (write (block [] []) ≡ good (1 ∷ 0 ∷ 0 ∷ 0 ∷ 0 ∷ [])) × (read (1 ∷ 0 ∷ 0 ∷ 0 ∷ 0 ∷ []) 0 ≡ found (block [] []) 5)
+
+-- ---- "Decoding a batch"
+
+pub record OfReading : Type 0 where
+  -- the numbers and the count
+  pub empty-group : read (bare 2 (0x01 ∷ 0x01 ∷ 0 ∷ 0 ∷ [])) 0 ≡ found (block (twos 2) (is (0 ∷ 1 ∷ 1 ∷ replicate 6 2) (zeros 8) (2 ∷ 0 ∷ 2 ∷ zeros 5) 3 ∷ [])) 12
+  pub groups-after : read (bare 3 (0x01 ∷ 0x11 ∷ 0 ∷ 0 ∷ [])) 0 ≡ found (block (twos 3) (is (0 ∷ 1 ∷ 1 ∷ 2 ∷ replicate 5 3) (zeros 8) (2 ∷ 0 ∷ 2 ∷ 2 ∷ zeros 4) 4 ∷ [])) 13
+  pub empty-first : read (bare 1 (low 0x10)) 0 ≡ found (block (twos 1) (is (0 ∷ 0 ∷ replicate 7 1) (zeros 8) (0 ∷ 2 ∷ zeros 6) 2 ∷ [])) 11
+  pub slot-after : read (laid 2 (2 ∷ push) 1 (low 0x11) (0 ∷ [])) 0 ≡ found (block (op 2 0 ∷ op 1 5 ∷ []) (is (0 ∷ 1 ∷ replicate 7 2) (zeros 8) (2 ∷ 1 ∷ 5 ∷ zeros 5) 3 ∷ [])) 20
+  pub slot-then-empty : read (laid 2 (push ++ (2 ∷ [])) 1 (0x01 ∷ 0x10 ∷ 0 ∷ 0 ∷ []) (0 ∷ [])) 0 ≡ found (block (op 1 5 ∷ op 2 0 ∷ []) (is (0 ∷ 1 ∷ 1 ∷ 1 ∷ replicate 5 2) (zeros 8) (1 ∷ 5 ∷ 0 ∷ 2 ∷ zeros 4) 4 ∷ [])) 20
+  pub two-slots : read (laid 2 (push ++ push) 1 (0x01 ∷ 0x01 ∷ 0 ∷ 0 ∷ []) (0 ∷ [])) 0 ≡ found (block (pushes 2) (is (0 ∷ 1 ∷ 1 ∷ replicate 6 2) (zeros 8) (1 ∷ 5 ∷ 1 ∷ 5 ∷ zeros 4) 4 ∷ [])) 28
+  pub slot-seven : read (laid 1 push 1 (high 0x01) (0 ∷ [])) 0 ≡ found (block (op 1 5 ∷ []) (is (zeros 7 ++ (1 ∷ 1 ∷ [])) (zeros 8) (zeros 6 ++ (1 ∷ 5 ∷ [])) 8 ∷ [])) 19
+  pub kind-2-read : read (laid 2 (3 ∷ 2 ∷ 1 ∷ (zeros 6 ++ (2 ∷ []))) 1 (low 2) (0 ∷ [])) 0 ≡ found (block (op 3 258 ∷ op 2 0 ∷ []) (is (0 ∷ replicate 8 2) (zeros 8) (259 ∷ zeros 7) 1 ∷ [])) 20
+  pub empty-between : read (laid 2 (2 ∷ 2 ∷ []) 3 (low 1 ++ (low 0 ++ low 1)) (0 ∷ 0 ∷ 0 ∷ [])) 0 ≡ found (block (twos 2) (single ∷ nothing ∷ single ∷ [])) 22
+  -- 7, 8, 9, 10 and 11, in the first batch and in a later one
+  pub runs-past : read (bare 1 (low 2)) 0 ≡ refused 7 0
+  pub runs-past-by-two : read (bare 1 (low 0x11)) 0 ≡ refused 7 0
+  pub runs-past-later : read (laid 3 (2 ∷ 2 ∷ 2 ∷ []) 2 (low 2 ++ low 2) (0 ∷ 0 ∷ [])) 0 ≡ refused 7 1
+  pub slot-eight : read (laid 1 push 1 (high 0x10) (0 ∷ [])) 0 ≡ refused 8 0
+  pub slot-eight-later : read (laid 3 (2 ∷ 2 ∷ push) 2 (low 2 ++ high 0x10) (0 ∷ 0 ∷ [])) 0 ≡ refused 8 1
+  pub eight-slots : read (laid 8 (push ++ (push ++ (push ++ (push ++ (push ++ (push ++ (push ++ push))))))) 1 (low 8) (0 ∷ [])) 0 ≡ refused 8 0
+  pub slot-taken : read (laid 2 (push ++ (2 ∷ [])) 1 (low 0x11) (0 ∷ [])) 0 ≡ refused 9 0
+  pub slot-taken-later : read (laid 4 (2 ∷ 2 ∷ (push ++ (2 ∷ []))) 2 (low 2 ++ low 0x11) (0 ∷ 0 ∷ [])) 0 ≡ refused 9 1
+  pub slot-taken-first : read (laid 4 (push ++ (push ++ (push ++ (2 ∷ [])))) 1 (high 0x13) (0 ∷ [])) 0 ≡ refused 9 0
+  pub first-group-first : read (laid 3 (push ++ (2 ∷ push)) 1 (0x11 ∷ 0 ∷ 0 ∷ 0x10 ∷ []) (0 ∷ [])) 0 ≡ refused 9 0
+  pub no-noop-flagged : read (laid 1 (2 ∷ []) 1 (low 1) (1 ∷ [])) 0 ≡ refused 10 0
+  pub noop-before-end : read (laid 2 (0 ∷ 2 ∷ []) 1 (low 2) (1 ∷ [])) 0 ≡ refused 10 0
+  pub empty-flagged : read (laid 1 (2 ∷ []) 1 (low 0x10) (1 ∷ [])) 0 ≡ refused 10 0
+  pub immediate-flagged : read (laid 2 (push ++ (0 ∷ [])) 1 (low 2) (2 ∷ [])) 0 ≡ refused 10 0
+  pub flag-at-count : read (laid 1 (2 ∷ []) 1 (low 1) (0x02 ∷ [])) 0 ≡ refused 10 0
+  pub flag-last : read (laid 1 (2 ∷ []) 1 (low 1) (0x80 ∷ [])) 0 ≡ refused 10 0
+  pub flag-of-none : read (laid 0 [] 1 (low 0) (1 ∷ [])) 0 ≡ refused 10 0
+  pub flag-later : read (laid 3 (2 ∷ 2 ∷ 2 ∷ []) 2 (low 2 ++ low 1) (0 ∷ 1 ∷ [])) 0 ≡ refused 10 1
+  pub flag-third : read (laid 4 (2 ∷ 2 ∷ 2 ∷ 2 ∷ []) 3 (low 2 ++ (low 1 ++ low 1)) (0 ∷ 0 ∷ 1 ∷ [])) 0 ≡ refused 10 2
+  pub flag-right-later : read (laid 3 (2 ∷ 2 ∷ 0 ∷ []) 2 (low 1 ++ low 0x11) (0 ∷ 0x02 ∷ [])) 0 ≡ found (block (op 2 0 ∷ op 2 0 ∷ op 0 0 ∷ []) (single ∷ is (0 ∷ 1 ∷ replicate 7 2) (0 ∷ 1 ∷ zeros 6) (2 ∷ zeros 7) 2 ∷ [])) 18
+  pub flag-right : read (laid 2 (2 ∷ 0 ∷ []) 1 (low 2) (1 ∷ [])) 0 ≡ found (block (op 2 0 ∷ op 0 0 ∷ []) (is (0 ∷ replicate 8 2) (1 ∷ zeros 7) (2 ∷ zeros 7) 1 ∷ [])) 12
+  pub left-over : read (laid 2 (2 ∷ 2 ∷ []) 1 (low 1) (0 ∷ [])) 0 ≡ refused 11 0
+  -- 13: room exactly enough, and one less of each
+  pub room-right : decoded 8 tableT p2 0 (room 2 2 1) ≡ found p1 20
+  pub codes-short : decoded 8 tableT p2 0 (room 1 2 1) ≡ refused 13 0
+  pub values-short : decoded 8 tableT p2 0 (room 2 1 1) ≡ refused 13 0
+  pub records-short : decoded 8 tableT p2 0 (room 2 2 0) ≡ refused 13 0
+  -- at a width of 4 no group from there on has operations, a slot or a flag
+  pub width-nibble : decoded 4 tableT (laid 2 (2 ∷ 2 ∷ []) 2 (low 1 ++ (0 ∷ 0 ∷ 0x01 ∷ 0 ∷ [])) (0 ∷ 0 ∷ [])) 0 ample ≡ refused 6 1
+  pub width-flag : decoded 4 tableT (laid 2 (2 ∷ 2 ∷ []) 2 (low 1 ++ low 1) (0 ∷ 0x10 ∷ [])) 0 ample ≡ refused 6 1
+  pub width-slot : decoded 4 tableT (laid 1 push 1 (0 ∷ 0x10 ∷ 0 ∷ 0 ∷ []) (0 ∷ [])) 0 ample ≡ refused 8 0
+  pub width-four : decoded 4 tableT (laid 1 (2 ∷ []) 1 (0 ∷ 0x10 ∷ 0 ∷ 0 ∷ []) (0 ∷ [])) 0 ample ≡ found (block (twos 1) (is (zeros 4 ++ replicate 5 1) (zeros 8) (0 ∷ 0 ∷ 0 ∷ 2 ∷ zeros 4) 4 ∷ [])) 11
+
+-- ---- "Checks"
+
+pub record OfChecks : Type 0 where
+  pub passes : (structure p1 ≡ good tt) × (padding p1 ≡ good tt) × (commitment p1 ≡ good tt)
+  pub passes-6 : (structure p6 ≡ good tt) × (padding p6 ≡ good tt) × (commitment p6 ≡ good tt)
+  pub passes-7 : (structure p7more ≡ good tt) × (padding p7more ≡ good tt) × (commitment p7more ≡ good tt)
+  -- batch data that belongs to another operation list does not pass
+  pub stale-value : commitment (block (op 1 6 ∷ op 0 0 ∷ []) (p1 .records)) ≡ refused 16 0
+  pub stale-code : commitment (block (op 2 0 ∷ op 0 0 ∷ []) (p1 .records)) ≡ refused 16 0
+  pub stale-length : structure (block (op 1 5 ∷ op 0 0 ∷ op 2 0 ∷ []) (p1 .records)) ≡ refused 15 1
+  -- structure, clause by clause
+  pub count-9 : structure (block [] (is (zeros 9) (zeros 8) (zeros 8) 9 ∷ [])) ≡ refused 15 0
+  pub count-8 : structure (block [] (is (zeros 9) (zeros 8) (zeros 8) 8 ∷ [])) ≡ good tt
+  pub flag-2 : structure (block (twos 1) (flagged (2 ∷ zeros 7) ∷ [])) ≡ refused 15 0
+  pub flag-2-last : structure (block (twos 1) (flagged (zeros 7 ++ (2 ∷ [])) ∷ [])) ≡ refused 15 0
+  pub first-start : structure (block (twos 1) (is (replicate 9 1) (zeros 8) (zeros 8) 0 ∷ [])) ≡ refused 15 0
+  pub falling : structure (block (twos 2) (is (0 ∷ 2 ∷ 1 ∷ replicate 6 2) (zeros 8) (zeros 8) 3 ∷ [])) ≡ refused 15 0
+  pub falling-last : structure (block (twos 1) (is (0 ∷ replicate 7 2 ++ (1 ∷ [])) (zeros 8) (zeros 8) 8 ∷ [])) ≡ refused 15 0
+  pub ten-in-group : structure (block (twos 10) (is (0 ∷ replicate 8 10) (zeros 8) (zeros 8) 1 ∷ [])) ≡ refused 15 0
+  pub ten-in-last : structure (block (twos 10) (is (zeros 8 ++ (10 ∷ [])) (zeros 8) (zeros 8) 8 ∷ [])) ≡ refused 15 0
+  pub nine-in-last : structure (block (twos 9) (is (zeros 8 ++ (9 ∷ [])) (zeros 8) (zeros 8) 8 ∷ [])) ≡ good tt
+  pub count-short : structure (block (twos 2) (is (0 ∷ 1 ∷ replicate 7 2) (zeros 8) (2 ∷ zeros 7) 1 ∷ [])) ≡ refused 15 0
+  pub later-batch : structure (block (twos 2) (single ∷ flagged (2 ∷ zeros 7) ∷ [])) ≡ refused 15 1
+  pub sum-less : structure (block (twos 3) (single ∷ single ∷ [])) ≡ refused 15 2
+  pub sum-more : structure (block (twos 1) (single ∷ single ∷ [])) ≡ refused 15 2
+  pub batch-before-sum : structure (block (twos 3) (single ∷ flagged (2 ∷ zeros 7) ∷ [])) ≡ refused 15 1
+  pub no-batches : structure (block (twos 1) []) ≡ refused 15 0
+  pub no-operations : structure (block [] []) ≡ good tt
+  -- padding
+  pub not-noop : padding (block (twos 1) (flagged (1 ∷ zeros 7) ∷ [])) ≡ refused 10 0
+  pub noop-not-last : padding (block (op 0 0 ∷ op 2 0 ∷ []) (is (0 ∷ replicate 8 2) (1 ∷ zeros 7) (256 ∷ zeros 7) 1 ∷ [])) ≡ refused 10 0
+  pub noop-last : padding (block (op 2 0 ∷ op 0 0 ∷ []) (is (0 ∷ replicate 8 2) (1 ∷ zeros 7) (2 ∷ zeros 7) 1 ∷ [])) ≡ good tt
+  pub empty-flagged : padding (block (twos 1) (is (0 ∷ 0 ∷ replicate 7 1) (1 ∷ zeros 7) (0 ∷ 2 ∷ zeros 6) 2 ∷ [])) ≡ refused 10 0
+  pub flag-at-count : padding (block (twos 1) (flagged (0 ∷ 1 ∷ zeros 6) ∷ [])) ≡ refused 10 0
+  pub flag-last : padding (block (twos 1) (flagged (zeros 7 ++ (1 ∷ [])) ∷ [])) ≡ refused 10 0
+  pub padding-later : padding (block (twos 2) (single ∷ flagged (1 ∷ zeros 7) ∷ [])) ≡ refused 10 1
+  -- commitment
+  pub number-wrong : commitment (block (twos 1) (numbered (3 ∷ zeros 7) 1 ∷ [])) ≡ refused 16 0
+  pub number-less : commitment (block (twos 1) (numbered (1 ∷ zeros 7) 1 ∷ [])) ≡ refused 16 0
+  pub number-later : commitment (block (twos 2) (single ∷ numbered (3 ∷ zeros 7) 1 ∷ [])) ≡ refused 16 1
+  pub second-number : commitment (block (twos 2) (is (0 ∷ 1 ∷ replicate 7 2) (zeros 8) (2 ∷ 3 ∷ zeros 6) 2 ∷ [])) ≡ refused 16 0
+  pub slot-at-count : commitment (block (pushes 1) (numbered (1 ∷ 5 ∷ zeros 6) 1 ∷ [])) ≡ refused 8 0
+  pub slot-at-eight : commitment (block (pushes 1) (is (zeros 8 ++ (1 ∷ [])) (zeros 8) (zeros 7 ++ (1 ∷ [])) 8 ∷ [])) ≡ refused 8 0
+  pub slot-later : commitment (block (op 2 0 ∷ op 1 5 ∷ []) (single ∷ numbered (1 ∷ 5 ∷ zeros 6) 1 ∷ [])) ≡ refused 8 1
+  pub slot-taken : commitment (block (op 1 5 ∷ op 2 0 ∷ []) (is (0 ∷ 1 ∷ replicate 7 2) (zeros 8) (1 ∷ 2 ∷ zeros 6) 2 ∷ [])) ≡ refused 9 0
+  pub slot-taken-later : commitment (block (op 2 0 ∷ op 1 5 ∷ op 2 0 ∷ []) (single ∷ is (0 ∷ 1 ∷ replicate 7 2) (zeros 8) (1 ∷ 2 ∷ zeros 6) 2 ∷ [])) ≡ refused 9 1
+  pub values-right : commitment (block (op 1 5 ∷ op 1 6 ∷ []) (is (0 ∷ replicate 8 2) (zeros 8) (129 ∷ 5 ∷ 6 ∷ zeros 5) 3 ∷ [])) ≡ good tt
+  pub value-top : commitment (block (op 1 18446744069414584320 ∷ []) (numbered (1 ∷ 18446744069414584320 ∷ zeros 6) 2 ∷ [])) ≡ good tt
+  pub second-value : commitment (block (op 1 5 ∷ op 1 6 ∷ []) (is (0 ∷ replicate 8 2) (zeros 8) (129 ∷ 5 ∷ 7 ∷ zeros 5) 3 ∷ [])) ≡ refused 16 0
+  pub value-later : commitment (block (op 2 0 ∷ op 1 6 ∷ []) (single ∷ numbered (1 ∷ 5 ∷ zeros 6) 2 ∷ [])) ≡ refused 16 1
+  pub empty-0 : commitment (block (twos 1) (numbered (2 ∷ zeros 7) 2 ∷ [])) ≡ good tt
+  pub empty-then-slot : commitment (block (pushes 1) (is (0 ∷ 0 ∷ replicate 7 1) (zeros 8) (0 ∷ 1 ∷ 5 ∷ zeros 5) 3 ∷ [])) ≡ good tt
+  pub two-slots : commitment (block (op 1 5 ∷ op 1 6 ∷ op 2 0 ∷ []) (is (0 ∷ 1 ∷ 1 ∷ replicate 6 3) (zeros 8) (1 ∷ 5 ∷ 257 ∷ 6 ∷ zeros 4) 4 ∷ [])) ≡ good tt
+  pub empty-not-0 : commitment (block (twos 1) (numbered (2 ∷ 7 ∷ zeros 6) 2 ∷ [])) ≡ refused 16 0
+  pub second-empty-not-0 : commitment (block (twos 1) (numbered (2 ∷ 0 ∷ 7 ∷ zeros 5) 3 ∷ [])) ≡ refused 16 0
+  pub empty-first-not-0 : commitment (block (twos 1) (is (0 ∷ 0 ∷ replicate 7 1) (zeros 8) (7 ∷ 2 ∷ zeros 6) 2 ∷ [])) ≡ refused 16 0
+  pub empty-after-slot : commitment (block (pushes 1) (numbered (1 ∷ 5 ∷ 7 ∷ zeros 5) 3 ∷ [])) ≡ refused 16 0
+  pub empty-after-next : commitment (block (op 1 5 ∷ op 2 0 ∷ []) (is (0 ∷ 1 ∷ 1 ∷ replicate 6 2) (zeros 8) (1 ∷ 5 ∷ 2 ∷ 7 ∷ zeros 4) 4 ∷ [])) ≡ refused 16 0
+  pub empty-later : commitment (block (twos 2) (single ∷ numbered (2 ∷ 7 ∷ zeros 6) 2 ∷ [])) ≡ refused 16 1
+  -- what commitment does not look at: numbers from the count on, flags, values of kind 2
+  pub from-count-on : commitment (block (twos 1) (numbered (2 ∷ 7 ∷ zeros 6) 1 ∷ [])) ≡ good tt
+  pub flags-unseen : commitment (block (twos 1) (flagged (replicate 8 1) ∷ [])) ≡ good tt
+  pub kind-2-unseen : commitment (block (op 3 7 ∷ []) (numbered (3 ∷ zeros 7) 1 ∷ [])) ≡ good tt
+  -- its order: in a group number, all placings, all values; group by group; then the empty groups; batch by batch
+  pub number-before-slot : commitment (block (pushes 1) (numbered (2 ∷ 5 ∷ zeros 6) 1 ∷ [])) ≡ refused 16 0
+  pub slot-before-value : commitment (block (op 1 5 ∷ op 1 6 ∷ []) (is (0 ∷ replicate 8 2) (zeros 8) (129 ∷ 7 ∷ zeros 6) 2 ∷ [])) ≡ refused 8 0
+  pub taken-before-value : commitment (block (op 1 5 ∷ op 1 6 ∷ op 2 0 ∷ []) (is (0 ∷ 2 ∷ 2 ∷ replicate 6 3) (zeros 8) (129 ∷ 7 ∷ 2 ∷ zeros 5) 3 ∷ [])) ≡ refused 9 0
+  pub taken-before-next : commitment (block (op 1 5 ∷ op 2 0 ∷ []) (is (0 ∷ 1 ∷ replicate 7 2) (zeros 8) (1 ∷ 3 ∷ zeros 6) 2 ∷ [])) ≡ refused 9 0
+  pub value-before-next : commitment (block (op 1 5 ∷ op 1 5 ∷ []) (is (0 ∷ 1 ∷ 1 ∷ replicate 6 2) (zeros 8) (1 ∷ 7 ∷ 1 ∷ zeros 5) 3 ∷ [])) ≡ refused 16 0
+  pub slot-before-empty : commitment (block (pushes 1) (is (0 ∷ 0 ∷ replicate 7 1) (zeros 8) (7 ∷ 1 ∷ zeros 6) 2 ∷ [])) ≡ refused 8 0
+  pub empty-before-next : commitment (block (op 2 0 ∷ op 1 5 ∷ []) (numbered (2 ∷ 7 ∷ zeros 6) 2 ∷ numbered (1 ∷ zeros 7) 1 ∷ [])) ≡ refused 16 0
+
+-- ---- "Lookups and tables"
+
+abbrev pub placed : ℕ → ℕ → Answer (Option Place)
+placed g p = good (some (record { group = g; place = p }))
+
+-- three groups, of 8, 2 and 1, with an empty one before the last
+abbrev pub three : Record
+three = is (0 ∷ 8 ∷ 10 ∷ 10 ∷ replicate 5 11) (0 ∷ 1 ∷ 0 ∷ 1 ∷ zeros 4) (1134765260439810 ∷ 1 ∷ 5 ∷ zeros 5) 4
+
+-- nine in the last of eight groups, and none before
+abbrev pub last : Record
+last = is (zeros 8 ++ (9 ∷ [])) (zeros 8) (zeros 7 ++ (145249953336295682 ∷ [])) 8
+
+pub record OfLookups : Type 0 where
+  -- an operation's group: the first, the last of a group, the next, over an empty group, past the end
+  pub group-0 : groupLookup 8 three 0 ≡ placed 0 0
+  pub group-7 : groupLookup 8 three 7 ≡ placed 0 7
+  pub group-8 : groupLookup 8 three 8 ≡ placed 1 0
+  pub group-9 : groupLookup 8 three 9 ≡ placed 1 1
+  pub group-10 : groupLookup 8 three 10 ≡ placed 3 0
+  pub group-end : groupLookup 8 three 11 ≡ good none
+  pub group-largest : groupLookup 8 three 18446744073709551615 ≡ good none
+  pub group-last : groupLookup 8 last 8 ≡ placed 7 8
+  pub group-past : groupLookup 8 last 9 ≡ good none
+  pub group-of-none : groupLookup 8 nothing 0 ≡ good none
+  -- the next operation group
+  pub next-0 : nextLookup 8 three 0 ≡ good (some 1)
+  pub next-1 : nextLookup 8 three 1 ≡ good (some 3)
+  pub next-2 : nextLookup 8 three 2 ≡ good (some 3)
+  pub next-3 : nextLookup 8 three 3 ≡ good none
+  pub next-6 : nextLookup 8 last 6 ≡ good (some 7)
+  pub next-7 : nextLookup 8 last 7 ≡ good none
+  pub next-largest : nextLookup 8 last 18446744073709551615 ≡ good none
+  pub next-of-none : nextLookup 8 nothing 0 ≡ good none
+  pub under-the-count : nextGroup (is (0 ∷ 1 ∷ replicate 7 2) (zeros 8) (zeros 8) 1) 0 ≡ none
+  -- a record that fails structure
+  pub count-9 : (groupLookup 8 (is (zeros 9) (zeros 8) (zeros 8) 9) 0 ≡ refused 15 0) × (nextLookup 8 (is (zeros 9) (zeros 8) (zeros 8) 9) 0 ≡ refused 15 0)
+  pub flag-2 : (groupLookup 8 (flagged (2 ∷ zeros 7)) 0 ≡ refused 15 0) × (nextLookup 8 (flagged (2 ∷ zeros 7)) 0 ≡ refused 15 0)
+  pub first-start : (groupLookup 8 (is (replicate 9 1) (zeros 8) (zeros 8) 0) 0 ≡ refused 15 0) × (nextLookup 8 (is (replicate 9 1) (zeros 8) (zeros 8) 0) 0 ≡ refused 15 0)
+  pub falling : (groupLookup 8 (is (0 ∷ 2 ∷ 1 ∷ replicate 6 2) (zeros 8) (zeros 8) 3) 0 ≡ refused 15 0) × (nextLookup 8 (is (0 ∷ 2 ∷ 1 ∷ replicate 6 2) (zeros 8) (zeros 8) 3) 0 ≡ refused 15 0)
+  pub ten : (groupLookup 8 (is (0 ∷ replicate 8 10) (zeros 8) (zeros 8) 1) 0 ≡ refused 15 0) × (nextLookup 8 (is (0 ∷ replicate 8 10) (zeros 8) (zeros 8) 1) 0 ≡ refused 15 0)
+  pub count-short : (groupLookup 8 (is (0 ∷ 1 ∷ replicate 7 2) (zeros 8) (zeros 8) 1) 0 ≡ refused 15 0) × (nextLookup 8 (is (0 ∷ 1 ∷ replicate 7 2) (zeros 8) (zeros 8) 1) 0 ≡ refused 15 0)
+  -- the tables: paddings in two batches, in groups 1 and 3, none, a caller's own Noop
+  pub raw-7 : rawTabled 8 (lent p7more) 9 ≡ good (zeros 7 ++ (1 ∷ 2 ∷ []))
+  pub padded-7 : paddedTabled 8 (lent p7more) 11 ≡ good (zeros 8 ++ (1 ∷ 1 ∷ 2 ∷ []))
+  pub raw-6 : rawTabled 8 (lent p6) 10 ≡ good (zeros 9 ++ (2 ∷ []))
+  pub padded-6 : paddedTabled 8 (lent p6) 12 ≡ good (zeros 10 ++ (1 ∷ 2 ∷ []))
+  pub raw-own : rawTabled 8 (lent (block (op 2 0 ∷ op 0 0 ∷ []) (is (0 ∷ replicate 8 2) (zeros 8) (2 ∷ zeros 7) 1 ∷ []))) 3 ≡ good (zeros 3)
+  pub raw-empty : rawTabled 8 (lent (block [] [])) 1 ≡ good (0 ∷ [])
+  pub padded-empty : paddedTabled 8 (lent (block [] [])) 1 ≡ good (0 ∷ [])
+  pub raw-short : rawTabled 8 (lent p7more) 8 ≡ refused 13 0
+  pub padded-short : paddedTabled 8 (lent p7more) 10 ≡ refused 13 0
+  pub no-room : (rawTabled 8 (lent (block [] [])) 0 ≡ refused 13 0) × (paddedTabled 8 (lent (block [] [])) 0 ≡ refused 13 0)
+  -- index lookups: every entry, one past the last, no entries, an entry greater than the index, a sum at the largest index and over it
+  pub to-padded : (paddedIndex (0 ∷ 1 ∷ []) (rawAt 0) ≡ some (paddedAt 0)) × (paddedIndex (0 ∷ 1 ∷ []) (rawAt 1) ≡ some (paddedAt 2)) × (paddedIndex (0 ∷ 1 ∷ []) (rawAt 2) ≡ none) × (paddedIndex [] (rawAt 0) ≡ none)
+  pub to-raw : (rawIndex (0 ∷ 0 ∷ 1 ∷ []) (paddedAt 1) ≡ some (rawAt 1)) × (rawIndex (0 ∷ 0 ∷ 1 ∷ []) (paddedAt 2) ≡ some (rawAt 1)) × (rawIndex (0 ∷ 0 ∷ 1 ∷ []) (paddedAt 3) ≡ none) × (rawIndex [] (paddedAt 0) ≡ none)
+  pub entry-greater : (rawIndex (0 ∷ 1 ∷ []) (paddedAt 1) ≡ some (rawAt 0)) × (rawIndex (0 ∷ 2 ∷ []) (paddedAt 1) ≡ none) × (rawIndex (1 ∷ []) (paddedAt 0) ≡ none)
+  pub sum-largest : (paddedIndex (0 ∷ 18446744073709551614 ∷ []) (rawAt 1) ≡ some (paddedAt 18446744073709551615)) × (paddedIndex (0 ∷ 18446744073709551615 ∷ []) (rawAt 1) ≡ none)
+
+-- ---- "Numbers of refusal", the orders: an example named 3-14 has both faults and gets the first; one with a single number has that bound's two sides
+
+abbrev pub head : List Op → ℕ → Head
+head xs k = record { ops = xs; batches = k }
+
+-- two opcodes with one value, and a record that fails structure
+abbrev pub unequal : Arena
+unequal = arena (2 ∷ 2 ∷ []) (0 ∷ []) (recordsBytes (flagged (2 ∷ zeros 7) ∷ []))
+
+pub record OfOrders : Type 0 where
+  -- "Build: 3, 14, 12, 4, 13."
+  pub build-3-14 : built 8 [] (2 ∷ 2 ∷ []) (0 ∷ []) ample ≡ refused 3 0
+  pub build-3-12 : built 8 tableT [] (0 ∷ []) ample ≡ refused 3 0
+  pub build-14-12 : built 8 [] [] [] ample ≡ refused 14 0
+  pub build-14-4 : built 8 [] (4 ∷ []) (0 ∷ []) ample ≡ refused 14 0
+  pub build-12-13 : built 8 tableT [] [] (room 0 0 0) ≡ refused 12 0
+  pub build-12 : build [] ≡ refused 12 0
+  pub build-4-13 : built 8 tableT (2 ∷ 4 ∷ []) (0 ∷ 0 ∷ []) (room 0 0 0) ≡ refused 4 1
+  pub build-13 : (built 8 tableT (1 ∷ []) (5 ∷ []) (room 2 2 1) ≡ good p1) × (built 8 tableT (1 ∷ []) (5 ∷ []) (room 1 2 1) ≡ refused 13 0) × (built 8 tableT (1 ∷ []) (5 ∷ []) (room 2 1 1) ≡ refused 13 0) × (built 8 tableT (1 ∷ []) (5 ∷ []) (room 2 2 0) ≡ refused 13 0)
+  -- "Encode: 3, 14, 1, 15, 4, 13"
+  pub encode-3-14 : encoded 8 [] unequal 1000 0 ≡ refused 3 0
+  pub encode-size-14 : encoded 8 [] (lent p1) 1048577 0 ≡ refused 3 0
+  pub encode-14-1 : encoded 8 [] (lent p1) 20 21 ≡ refused 14 0
+  pub encode-1-15 : encoded 8 tableT (lent (block (twos 2) (single ∷ []))) 20 21 ≡ refused 1 0
+  pub encode-15-4 : encoded 8 tableT (lent (block (op 4 0 ∷ op 2 0 ∷ []) (single ∷ []))) 1000 0 ≡ refused 15 1
+  pub encode-15-later : encoded 8 tableT (lent (block (op 4 0 ∷ op 2 0 ∷ []) (single ∷ flagged (2 ∷ zeros 7) ∷ []))) 1000 0 ≡ refused 15 1
+  pub encode-4-13 : encoded 8 tableT (lent (block (op 2 0 ∷ op 4 0 ∷ []) (single ∷ single ∷ []))) 0 0 ≡ refused 4 1
+  pub encode-13 : (encoded 8 tableT (lent p1) 20 0 ≡ good p2) × (encoded 8 tableT (lent p1) 19 0 ≡ refused 13 0) × (encoded 8 tableT (lent p1) 25 5 ≡ good p2) × (encoded 8 tableT (lent p1) 24 5 ≡ refused 13 0)
+  pub encode-at-end : encoded 8 tableT (lent p1) 20 20 ≡ refused 13 0
+  -- encode does not look at numbers, padding or the count's power
+  pub encode-unseen : write (block (twos 1) (is (0 ∷ replicate 8 1) (1 ∷ zeros 7) (9 ∷ 9 ∷ zeros 6) 3 ∷ [])) ≡ good (laid 1 (2 ∷ []) 1 (low 1) (1 ∷ []))
+  -- "Decode: 3 (buffer), 14, 1, then count (2, 3, 13), operations in order (unassigned opcode 4 before missing value bytes 2)": 3 before 14 and 1 is `bytes-1048577`
+  pub decode-14-1 : decoded 8 [] p2 21 ample ≡ refused 14 0
+  pub decode-1 : read [] 1 ≡ refused 1 0
+  pub decode-3-13 : decoded 8 tableT (0xfe ∷ 0x01 ∷ []) 0 (room 0 0 0) ≡ refused 3 0
+  pub decode-2-13 : decoded 8 tableT [] 0 (room 0 0 0) ≡ refused 2 0
+  pub decode-13-4 : decoded 8 tableT (3 ∷ 4 ∷ []) 0 (room 0 0 0) ≡ refused 13 0
+  pub decode-4-2 : read (3 ∷ 4 ∷ []) 0 ≡ refused 4 0
+  pub decode-first : read (5 ∷ 1 ∷ (over ++ (4 ∷ []))) 0 ≡ refused 4 0
+  -- "batch count (2, 5, 3, 13), all nibbles, all flags, then batch by batch 7, 8 or 9, 10, and 11": 5 before 3, 3 before 13 are `five-first`, `read-16385`
+  pub decode-4-5 : decoded 8 tableT (3 ∷ 4 ∷ 9 ∷ 0 ∷ 0 ∷ 0 ∷ []) 0 (room 9 9 0) ≡ refused 4 0
+  pub decode-5-13 : decoded 8 tableT (1 ∷ 1 ∷ 0 ∷ 0 ∷ 0 ∷ []) 0 (room 9 9 0) ≡ refused 5 0
+  pub decode-13-6 : decoded 8 tableT (laid 0 [] 1 (low 10) (0 ∷ [])) 0 (room 9 9 0) ≡ refused 13 0
+  pub decode-6-7 : read (laid 1 (2 ∷ []) 2 (low 2 ++ low 10) (0 ∷ 0 ∷ [])) 0 ≡ refused 6 1
+  pub decode-7-8 : read (laid 1 push 1 (high 0x20) (0 ∷ [])) 0 ≡ refused 7 0
+  pub decode-8-10 : read (laid 1 push 1 (high 0x10) (0x80 ∷ [])) 0 ≡ refused 8 0
+  pub decode-9-10 : read (laid 2 (push ++ (2 ∷ [])) 1 (low 0x11) (1 ∷ [])) 0 ≡ refused 9 0
+  pub decode-8-7 : read (laid 1 push 2 (high 0x10 ++ low 1) (0 ∷ 0 ∷ [])) 0 ≡ refused 8 0
+  pub decode-10-7 : read (laid 1 (2 ∷ []) 2 (low 1 ++ low 1) (1 ∷ 0 ∷ [])) 0 ≡ refused 10 0
+  pub decode-10-9 : read (laid 3 (2 ∷ (push ++ (2 ∷ []))) 2 (low 1 ++ low 0x11) (1 ∷ 0 ∷ [])) 0 ≡ refused 10 0
+  pub decode-8-11 : read (laid 2 (push ++ (2 ∷ [])) 1 (high 0x10) (0 ∷ [])) 0 ≡ refused 8 0
+  pub decode-10-11 : read (laid 2 (2 ∷ 2 ∷ []) 1 (low 1) (1 ∷ [])) 0 ≡ refused 10 0
+  -- a reader's steps and a block's head: 3, 14, 1, then the item; the head has room for any block
+  pub count-3-1 : (s : List ℕ) → length s ≡ 1048577 → countHere s 1048578 ≡ refused 3 0
+  pub count-limit : (s : List ℕ) → length s ≡ 1048576 → countHere s 1048577 ≡ refused 1 0
+  pub count-here : (countHere p2 0 ≡ found 2 1) × (countHere p2 20 ≡ refused 2 20) × (countHere p2 21 ≡ refused 1 0)
+  pub op-3-14 : (s : List ℕ) → length s ≡ 1048577 → opHere [] s 1048578 0 ≡ refused 3 0
+  pub op-limit : (s : List ℕ) → length s ≡ 1048576 → opHere tableT s 1048577 0 ≡ refused 1 0
+  pub op-14-1 : opHere [] p2 21 0 ≡ refused 14 0
+  pub op-here : (opHere tableT p2 1 7 ≡ found (op 1 5) 10) × (opHere tableT p2 20 7 ≡ refused 2 20) × (opHere tableT p2 21 7 ≡ refused 1 0) × (opHere tableT (4 ∷ []) 0 7 ≡ refused 4 7) × (opHere tableT (2 ∷ []) 0 7 ≡ found (op 2 0) 1)
+  pub head-3-14 : (s : List ℕ) → length s ≡ 1048577 → headed [] s 1048578 ≡ refused 3 0
+  pub head-limit : (s : List ℕ) → length s ≡ 1048576 → headed tableT s 1048577 ≡ refused 1 0
+  pub head-14-1 : headed [] p2 21 ≡ refused 14 0
+  pub head-here : (headed tableT p2 0 ≡ found (head (p1 .ops) 1) 15) × (headed tableT p2 20 ≡ refused 2 20) × (headed tableT p2 21 ≡ refused 1 0)
+  pub head-65535 : headed tableT (0xfc ∷ 0xff ∷ 0x07 ∷ []) 0 ≡ refused 2 3
+  pub head-16384 : (s : List ℕ) → length s ≡ 81920 → headed tableT (1 ∷ 0x00 ∷ 0x40 ∷ 0 ∷ 0 ∷ s) 0 ≡ found (head [] 16384) 5
+  -- "Tables: 3, 15, 10, 13."
+  pub table-3-15 : (rawTabled 8 unequal 0 ≡ refused 3 0) × (paddedTabled 8 unequal 0 ≡ refused 3 0)
+  pub table-15-10 : rawTabled 8 (lent (block (twos 2) (flagged (1 ∷ zeros 7) ∷ []))) 0 ≡ refused 15 1
+  pub table-10-13 : rawTabled 8 (lent (block (twos 2) (single ∷ flagged (1 ∷ zeros 7) ∷ []))) 0 ≡ refused 10 1
+  -- "Checks: structure 3, 15; padding 3, 15, 10; commitment 3, 14, 15, 4, then batch by batch the first fault"
+  pub structure-3-15 : structureChecked 8 unequal ≡ refused 3 0
+  pub padding-3-15 : paddingChecked 8 unequal ≡ refused 3 0
+  pub padding-15-10 : padding (block (twos 2) (flagged (1 ∷ zeros 7) ∷ [])) ≡ refused 15 1
+  pub commitment-3-14 : commitmentChecked 8 [] unequal ≡ refused 3 0
+  pub commitment-14-15 : commitmentChecked 8 [] (lent (block (twos 2) (single ∷ []))) ≡ refused 14 0
+  pub commitment-15-4 : commitment (block (op 4 0 ∷ op 2 0 ∷ []) (single ∷ [])) ≡ refused 15 1
+  pub commitment-4-16 : commitment (block (op 2 0 ∷ op 4 0 ∷ []) (numbered (3 ∷ zeros 7) 1 ∷ single ∷ [])) ≡ refused 4 1
+
+-- ---- what is left in the lent outputs
+
+-- the bytes of P1's record
+abbrev pub p1record : List ℕ
+p1record = (0 ∷ replicate 8 2) ++ ((1 ∷ zeros 7) ++ ((1 ∷ zeros 7) ++ ((5 ∷ zeros 7) ++ (zeros 48 ++ (2 ∷ [])))))
+
+abbrev pub told : ℕ → ℕ → Totals
+told b n = record { batches = b; operations = n }
+
+pub record OfOutputs : Type 0 where
+  -- a record's 82 bytes
+  pub record-bytes :
+      recordsBytes (is (0 ∷ 1 ∷ 2 ∷ 3 ∷ 4 ∷ 5 ∷ 6 ∷ 7 ∷ 8 ∷ []) (1 ∷ 0 ∷ 1 ∷ 1 ∷ 0 ∷ 0 ∷ 0 ∷ 1 ∷ []) (258 ∷ 3 ∷ 4 ∷ 5 ∷ 6 ∷ 7 ∷ 8 ∷ 72623859790382856 ∷ []) 8 ∷ [])
+      ≡ (0 ∷ 1 ∷ 2 ∷ 3 ∷ 4 ∷ 5 ∷ 6 ∷ 7 ∷ 8 ∷ 1 ∷ 0 ∷ 1 ∷ 1 ∷ 0 ∷ 0 ∷ 0 ∷ 1 ∷ 2 ∷ 1 ∷ zeros 6) ++ ((3 ∷ zeros 7) ++ ((4 ∷ zeros 7) ++ ((5 ∷ zeros 7) ++ ((6 ∷ zeros 7) ++ ((7 ∷ zeros 7) ++ ((8 ∷ zeros 7) ++ (8 ∷ 7 ∷ 6 ∷ 5 ∷ 4 ∷ 3 ∷ 2 ∷ 1 ∷ 8 ∷ [])))))))
+  pub block-in : blockIn (lent p7more) ≡ p7more
+  -- room: only whole records count
+  pub room-in : roomIn (arena (zeros 3) (zeros 2) (zeros 163)) ≡ room 3 2 1
+  pub room-for-two : roomIn (arena [] [] (zeros 164)) ≡ room 0 0 2
+  pub room-for-none : roomIn (arena [] [] (zeros 81)) ≡ room 0 0 0
+  -- content, then zeros; bytes left over are zeroed too
+  pub build-leaves : filled (arena (replicate 3 7) (replicate 4 7) (replicate 85 7)) (blockLeft (build (op 1 5 ∷ []))) ≡ arena (1 ∷ 0 ∷ 0 ∷ []) (5 ∷ 0 ∷ 0 ∷ 0 ∷ []) (p1record ++ zeros 3)
+  pub build-refused : filled (arena (replicate 3 7) (replicate 4 7) (replicate 85 7)) (blockLeft (build (op 4 0 ∷ []))) ≡ arena (zeros 3) (zeros 4) (zeros 85)
+  pub decode-leaves : filled (arena (replicate 3 7) (replicate 4 7) (replicate 85 7)) (readLeft (read p2 0)) ≡ arena (1 ∷ 0 ∷ 0 ∷ []) (5 ∷ 0 ∷ 0 ∷ 0 ∷ []) (p1record ++ zeros 3)
+  pub decode-refused : filled (arena (replicate 3 7) (replicate 4 7) (replicate 85 7)) (readLeft (read p2 1)) ≡ arena (zeros 3) (zeros 4) (zeros 85)
+  pub table-leaves : tableLeft (replicate 4 7) (rawTabled 8 (lent p1) 4) ≡ 0 ∷ 1 ∷ 0 ∷ 0 ∷ []
+  pub table-refused : tableLeft (7 ∷ []) (rawTabled 8 (lent p1) 1) ≡ 0 ∷ []
+  -- the lengths and totals of a reply, 0 where it refuses
+  pub totals-told : (totals (blockLeft (build (pushes 8))) ≡ told 2 10) × (totals (blockLeft (build [])) ≡ told 0 0)
+  pub length-told : (lengthTold (write p1) ≡ 20) × (lengthTold (encoded 8 tableT (lent p1) 19 0) ≡ 0)
+  pub bytes-used : (used 2 (read ((7 ∷ 7 ∷ []) ++ (p2 ++ (7 ∷ []))) 2) ≡ 20) × (used 2 (read p2 2) ≡ 0)
+  -- encode writes only the block's bytes, and none where it refuses
+  pub encode-leaves : written (replicate 24 7) 3 (encoded 8 tableT (lent p1) 24 3) ≡ replicate 3 7 ++ (p2 ++ (7 ∷ []))
+  pub encode-refused : written (replicate 22 7) 3 (encoded 8 tableT (lent p1) 22 3) ≡ replicate 22 7
+
+-- ---- "Numbers to check": "proved of the rules, together as a single table under one claim"
 
 pub record Numbers : Type 0 where
   pub P1 : build (op 1 5 ∷ []) ≡ good p1
@@ -79,49 +554,32 @@ pub record Numbers : Type 0 where
   pub P2-within : read ((7 ∷ 7 ∷ []) ++ (p2 ++ (7 ∷ []))) 2 ≡ found p1 22
   pub P3-raw : rawTabled 8 (lent p1) 10 ≡ good (0 ∷ 1 ∷ [])
   pub P3-padded : paddedTabled 8 (lent p1) 10 ≡ good (0 ∷ 0 ∷ 1 ∷ [])
-  pub P4 : build (twos 9) ≡ good (block (twos 9) (is (0 ∷ replicate 8 9) (replicate 8 0) (145249953336295682 ∷ replicate 7 0) 1 ∷ []))
-  pub P5 : build (twos 19) ≡ good (block (twos 19 ++ (op 0 0 ∷ [])) (is (0 ∷ 9 ∷ 18 ∷ 19 ∷ replicate 5 20) (0 ∷ 0 ∷ 0 ∷ 1 ∷ replicate 4 0) (145249953336295682 ∷ 145249953336295682 ∷ 2 ∷ replicate 5 0) 4 ∷ []))
-  pub P6 : build (twos 8 ++ (op 1 5 ∷ [])) ≡ good (block (twos 8 ++ (op 1 5 ∷ op 0 0 ∷ op 0 0 ∷ [])) (is (0 ∷ 8 ∷ 10 ∷ 10 ∷ replicate 5 11) (0 ∷ 1 ∷ 0 ∷ 1 ∷ replicate 4 0) (1134765260439810 ∷ 1 ∷ 5 ∷ replicate 5 0) 4 ∷ []))
-  pub P7 : build (pushes 7) ≡ good (block (pushes 7 ++ (op 0 0 ∷ [])) (is (0 ∷ replicate 8 8) (1 ∷ replicate 7 0) (4432676798593 ∷ replicate 7 5) 8 ∷ []))
+  pub P4 : build (twos 9) ≡ good (block (twos 9) (is (0 ∷ replicate 8 9) (zeros 8) (145249953336295682 ∷ zeros 7) 1 ∷ []))
+  pub P5 : build (twos 19) ≡ good (block (twos 19 ++ (op 0 0 ∷ [])) (is (0 ∷ 9 ∷ 18 ∷ 19 ∷ replicate 5 20) (0 ∷ 0 ∷ 0 ∷ 1 ∷ zeros 4) (145249953336295682 ∷ 145249953336295682 ∷ 2 ∷ zeros 5) 4 ∷ []))
+  pub P6 : build (twos 8 ++ (op 1 5 ∷ [])) ≡ good p6
+  pub P7 : build (pushes 7) ≡ good (block (pushes 7 ++ (op 0 0 ∷ [])) (is (0 ∷ replicate 8 8) (1 ∷ zeros 7) (4432676798593 ∷ replicate 7 5) 8 ∷ []))
   pub P7-more : build (pushes 8) ≡ good p7more
   pub P8-127 : (countBytes 127 ≡ 0xff ∷ []) × (countAt (0xff ∷ []) 0 ≡ found 127 1)
   pub P8-128 : (countBytes 128 ≡ 0x02 ∷ 0x02 ∷ []) × (countAt (0x02 ∷ 0x02 ∷ []) 0 ≡ found 128 2)
   pub P8-16383 : (countBytes 16383 ≡ 0xfe ∷ 0xff ∷ []) × (countAt (0xfe ∷ 0xff ∷ []) 0 ≡ found 16383 2)
   pub P8-16384 : (countBytes 16384 ≡ 0x04 ∷ 0x00 ∷ 0x02 ∷ []) × (countAt (0x04 ∷ 0x00 ∷ 0x02 ∷ []) 0 ≡ found 16384 3)
-  pub P9-taken : read (bare 9 (9 ∷ 0 ∷ 0 ∷ 0 ∷ [])) 0 ≡ found (block (twos 9) (is (0 ∷ replicate 8 9) (replicate 8 0) (145249953336295682 ∷ replicate 7 0) 1 ∷ [])) 19
-  pub P9-refused : read (bare 10 (10 ∷ 0 ∷ 0 ∷ 0 ∷ [])) 0 ≡ refused 6 0
-  pub P10-taken : read (bare 0 (replicate 4 0)) 0 ≡ found (block [] (is (replicate 9 0) (replicate 8 0) (replicate 8 0) 0 ∷ [])) 10
-  pub P10-left-over : read (bare 1 (replicate 4 0)) 0 ≡ refused 11 0
+  pub P9-taken : read (bare 9 (low 9)) 0 ≡ found (block (twos 9) (is (0 ∷ replicate 8 9) (zeros 8) (145249953336295682 ∷ zeros 7) 1 ∷ [])) 19
+  pub P9-refused : read (bare 10 (low 10)) 0 ≡ refused 6 0
+  pub P10-taken : read (bare 0 (low 0)) 0 ≡ found (block [] (nothing ∷ [])) 10
+  pub P10-left-over : read (bare 1 (low 0)) 0 ≡ refused 11 0
   -- "Offset equal to the length: 2. One more: 1. Four bytes left and one batch: 5."
   pub at-end : read p2 20 ≡ refused 2 20
   pub past-end : read p2 21 ≡ refused 1 0
   pub four-left : read (1 ∷ 1 ∷ 0 ∷ 0 ∷ 0 ∷ 0 ∷ 0 ∷ 0 ∷ 0 ∷ []) 0 ≡ refused 5 0
-  -- what those leave open: the place of 2 where a value is cut short, the greedy rule's bounds, two batches' bytes, 5 before 3
-  pub value-cut : read (3 ∷ 1 ∷ 5 ∷ []) 0 ≡ refused 2 1
-  pub plain-72 : build (twos 72) ≡ good (block (twos 72) (is (0 ∷ 9 ∷ 18 ∷ 27 ∷ 36 ∷ 45 ∷ 54 ∷ 63 ∷ 72 ∷ []) (replicate 8 0) (replicate 8 145249953336295682) 8 ∷ []))
-  pub plain-73 : batchesIn (build (twos 73)) ≡ 2
-  pub seven-and-two : batchesIn (build (pushes 7 ++ twos 2)) ≡ 1
-  pub seven-and-three : batchesIn (build (pushes 7 ++ twos 3)) ≡ 2
-  pub two-batches :
-      write p7more ≡ good (0x15 ∷
-      ((1 ∷ 5 ∷ replicate 7 0) ++ ((1 ∷ 5 ∷ replicate 7 0) ++ ((1 ∷ 5 ∷ replicate 7 0) ++ ((1 ∷ 5 ∷ replicate 7 0) ++ ((1 ∷ 5 ∷ replicate 7 0) ++ ((1 ∷ 5 ∷ replicate 7 0) ++ ((1 ∷ 5 ∷ replicate 7 0) ++ (0 ∷
-      ((1 ∷ 5 ∷ replicate 7 0) ++ (0 ∷
-      2 ∷ 0 ∷ 0 ∷ 0 ∷
-      0x08 ∷ 0 ∷ 0 ∷ 0 ∷ 0x02 ∷ 0 ∷ 0 ∷ 0 ∷
-      1 ∷ 1 ∷ [])))))))))))
-  pub five-first : read (1 ∷ 0x01 ∷ 0x40 ∷ 0 ∷ 0 ∷ replicate 9 0) 0 ≡ refused 5 0
-  pub empty-block : (write (block [] []) ≡ good (1 ∷ 0 ∷ 0 ∷ 0 ∷ 0 ∷ [])) × (read (1 ∷ 0 ∷ 0 ∷ 0 ∷ 0 ∷ []) 0 ≡ found (block [] []) 5)
-  -- "Errors the rules must catch": a kind 2 value in a group, a caller's own Noop dropped, an empty batch in the middle refused
-  pub kind-two : build (op 3 7 ∷ []) ≡ good (block (op 3 7 ∷ []) (is (0 ∷ replicate 8 1) (replicate 8 0) (3 ∷ replicate 7 0) 1 ∷ []))
-  pub own-noop : build (op 2 0 ∷ op 0 0 ∷ []) ≡ good (block (op 2 0 ∷ op 0 0 ∷ []) (is (0 ∷ replicate 8 2) (replicate 8 0) (2 ∷ replicate 7 0) 1 ∷ []))
-  pub empty-between :
-      read (0x05 ∷ 2 ∷ 2 ∷ 3 ∷ 0 ∷ 0 ∷ 0 ∷ 1 ∷ 0 ∷ 0 ∷ 0 ∷ 0 ∷ 0 ∷ 0 ∷ 0 ∷ 1 ∷ 0 ∷ 0 ∷ 0 ∷ 0 ∷ 0 ∷ 0 ∷ []) 0
-      ≡ found (block (twos 2) (single ∷ is (replicate 9 0) (replicate 8 0) (replicate 8 0) 0 ∷ single ∷ [])) 22
-  -- what the checks are for: batch data that belongs to another operation list does not pass
-  pub passes : (structureChecked 8 (lent p1) ≡ good tt) × (paddingChecked 8 (lent p1) ≡ good tt) × (commitmentChecked 8 tableT (lent p1) ≡ good tt)
-  pub stale-value : commitmentChecked 8 tableT (lent (block (op 1 6 ∷ op 0 0 ∷ []) (p1 .records))) ≡ refused 16 0
-  pub stale-code : commitmentChecked 8 tableT (lent (block (op 2 0 ∷ op 0 0 ∷ []) (p1 .records))) ≡ refused 16 0
-  pub stale-length : structureChecked 8 (lent (block (op 1 5 ∷ op 0 0 ∷ op 2 0 ∷ []) (p1 .records))) ≡ refused 15 1
+  -- what those leave open
+  pub operations : OfOperations
+  pub batching : OfBatching
+  pub bytes : OfBytes
+  pub reading : OfReading
+  pub checks : OfChecks
+  pub lookups : OfLookups
+  pub orders : OfOrders
+  pub outputs : OfOutputs
 
 pub numbers : Numbers
 unfolding document
@@ -149,19 +607,326 @@ numbers =
       at-end = refl;
       past-end = refl;
       four-left = refl;
-      value-cut = refl;
-      plain-72 = refl;
-      plain-73 = refl;
-      seven-and-two = refl;
-      seven-and-three = refl;
-      two-batches = refl;
-      five-first = refl;
-      empty-block = (refl, refl);
-      kind-two = refl;
-      own-noop = refl;
-      empty-between = refl;
-      passes = (refl, refl, refl);
-      stale-value = refl;
-      stale-code = refl;
-      stale-length = refl;
+      operations = record {
+        table-127 = refl;
+        table-129 = refl;
+        kind-four = refl;
+        noop-one = refl;
+        noop-three = refl;
+        opcode-127 = refl;
+        opcode-128 = refl;
+        opcode-over = (refl, refl);
+        past-the-table = refl;
+        unassigned = refl;
+        valued-noop = refl;
+        largest-1 = refl;
+        largest-2 = refl;
+        field-1 = refl;
+        field-2 = refl;
+        list-16385 = λ cs vs h k. rw (h, k);
+        list-16384 = λ cs vs h k. rw (h, k);
+        fewer-values = refl;
+        more-values = refl;
+        block-65536 = λ cs vs h k. rw (h, k);
+        batches-16385 = λ rs h. rw h;
+        block-fewer = refl;
+        block-more = refl;
+        block-full = λ cs vs rs h k l. rw (h, k, l);
+        record-81 = refl;
+        record-83 = refl;
+        record-82 = refl;
+        records-164 = refl;
+        bytes-1048577 = λ s h. rw h;
+        bytes-1048576 = λ s h. rw h;
+        buffer-1048577 = refl;
+        buffer-1048576 = refl;
+      };
+      batching = record {
+        targets = refl;
+        plain-1 = refl;
+        plain-10 = refl;
+        plain-18 = refl;
+        plain-28 = refl;
+        plain-36 = refl;
+        plain-37 = refl;
+        plain-72 = refl;
+        plain-73 = refl;
+        seven-and-two = refl;
+        seven-and-three = refl;
+        six-and-four = refl;
+        seven-in-eight = refl;
+        six-of-eight = refl;
+        six-of-nine = refl;
+        five-of-eight = refl;
+        five-of-nine = refl;
+        noop-ninth = refl;
+        no-noop = refl;
+        but-last = (refl, refl);
+        kind-two = refl;
+        own-noop = refl;
+      };
+      bytes = record {
+        count-missing = refl;
+        count-cut-2 = refl;
+        count-cut-3 = refl;
+        three-zeros = refl;
+        all-zeros = refl;
+        long-127 = refl;
+        long-16383 = refl;
+        count-65535 = (refl, refl);
+        count-65536 = refl;
+        op-missing = refl;
+        op-missing-later = refl;
+        value-cut = refl;
+        value-cut-later = refl;
+        value-whole = refl;
+        opcode-unassigned = refl;
+        opcode-high = refl;
+        value-over-1 = refl;
+        value-over-2 = refl;
+        value-top = refl;
+        batches-missing = refl;
+        batches-cut = refl;
+        fourth-byte = refl;
+        nine-left = refl;
+        ten-left = refl;
+        left-from-here = refl;
+        five-first = refl;
+        read-16385 = λ s h. rw h;
+        read-16384 = λ s h. rw h;
+        nibbles = refl;
+        nibble-9-last = refl;
+        nibble-10-last = refl;
+        nibble-10-later = refl;
+        p6-bytes = (refl, refl);
+        two-batches = (refl, refl);
+        kind-2-bytes = refl;
+        empty-block = (refl, refl);
+      };
+      reading = record {
+        empty-group = refl;
+        groups-after = refl;
+        empty-first = refl;
+        slot-after = refl;
+        slot-then-empty = refl;
+        two-slots = refl;
+        slot-seven = refl;
+        kind-2-read = refl;
+        empty-between = refl;
+        runs-past = refl;
+        runs-past-by-two = refl;
+        runs-past-later = refl;
+        slot-eight = refl;
+        slot-eight-later = refl;
+        eight-slots = refl;
+        slot-taken = refl;
+        slot-taken-later = refl;
+        slot-taken-first = refl;
+        first-group-first = refl;
+        no-noop-flagged = refl;
+        noop-before-end = refl;
+        empty-flagged = refl;
+        immediate-flagged = refl;
+        flag-at-count = refl;
+        flag-last = refl;
+        flag-of-none = refl;
+        flag-later = refl;
+        flag-third = refl;
+        flag-right-later = refl;
+        flag-right = refl;
+        left-over = refl;
+        room-right = refl;
+        codes-short = refl;
+        values-short = refl;
+        records-short = refl;
+        width-nibble = refl;
+        width-flag = refl;
+        width-slot = refl;
+        width-four = refl;
+      };
+      checks = record {
+        passes = (refl, refl, refl);
+        passes-6 = (refl, refl, refl);
+        passes-7 = (refl, refl, refl);
+        stale-value = refl;
+        stale-code = refl;
+        stale-length = refl;
+        count-9 = refl;
+        count-8 = refl;
+        flag-2 = refl;
+        flag-2-last = refl;
+        first-start = refl;
+        falling = refl;
+        falling-last = refl;
+        ten-in-group = refl;
+        ten-in-last = refl;
+        nine-in-last = refl;
+        count-short = refl;
+        later-batch = refl;
+        sum-less = refl;
+        sum-more = refl;
+        batch-before-sum = refl;
+        no-batches = refl;
+        no-operations = refl;
+        not-noop = refl;
+        noop-not-last = refl;
+        noop-last = refl;
+        empty-flagged = refl;
+        flag-at-count = refl;
+        flag-last = refl;
+        padding-later = refl;
+        number-wrong = refl;
+        number-less = refl;
+        number-later = refl;
+        second-number = refl;
+        slot-at-count = refl;
+        slot-at-eight = refl;
+        slot-later = refl;
+        slot-taken = refl;
+        slot-taken-later = refl;
+        values-right = refl;
+        value-top = refl;
+        second-value = refl;
+        value-later = refl;
+        empty-0 = refl;
+        empty-then-slot = refl;
+        two-slots = refl;
+        empty-not-0 = refl;
+        second-empty-not-0 = refl;
+        empty-first-not-0 = refl;
+        empty-after-slot = refl;
+        empty-after-next = refl;
+        empty-later = refl;
+        from-count-on = refl;
+        flags-unseen = refl;
+        kind-2-unseen = refl;
+        number-before-slot = refl;
+        slot-before-value = refl;
+        taken-before-value = refl;
+        taken-before-next = refl;
+        value-before-next = refl;
+        slot-before-empty = refl;
+        empty-before-next = refl;
+      };
+      lookups = record {
+        group-0 = refl;
+        group-7 = refl;
+        group-8 = refl;
+        group-9 = refl;
+        group-10 = refl;
+        group-end = refl;
+        group-largest = refl;
+        group-last = refl;
+        group-past = refl;
+        group-of-none = refl;
+        next-0 = refl;
+        next-1 = refl;
+        next-2 = refl;
+        next-3 = refl;
+        next-6 = refl;
+        next-7 = refl;
+        next-largest = refl;
+        next-of-none = refl;
+        under-the-count = refl;
+        count-9 = (refl, refl);
+        flag-2 = (refl, refl);
+        first-start = (refl, refl);
+        falling = (refl, refl);
+        ten = (refl, refl);
+        count-short = (refl, refl);
+        raw-7 = refl;
+        padded-7 = refl;
+        raw-6 = refl;
+        padded-6 = refl;
+        raw-own = refl;
+        raw-empty = refl;
+        padded-empty = refl;
+        raw-short = refl;
+        padded-short = refl;
+        no-room = (refl, refl);
+        to-padded = (refl, refl, refl, refl);
+        to-raw = (refl, refl, refl, refl);
+        entry-greater = (refl, refl, refl);
+        sum-largest = (refl, refl);
+      };
+      orders = record {
+        build-3-14 = refl;
+        build-3-12 = refl;
+        build-14-12 = refl;
+        build-14-4 = refl;
+        build-12-13 = refl;
+        build-12 = refl;
+        build-4-13 = refl;
+        build-13 = (refl, refl, refl, refl);
+        encode-3-14 = refl;
+        encode-size-14 = refl;
+        encode-14-1 = refl;
+        encode-1-15 = refl;
+        encode-15-4 = refl;
+        encode-15-later = refl;
+        encode-4-13 = refl;
+        encode-13 = (refl, refl, refl, refl);
+        encode-at-end = refl;
+        encode-unseen = refl;
+        decode-14-1 = refl;
+        decode-1 = refl;
+        decode-3-13 = refl;
+        decode-2-13 = refl;
+        decode-13-4 = refl;
+        decode-4-2 = refl;
+        decode-first = refl;
+        decode-4-5 = refl;
+        decode-5-13 = refl;
+        decode-13-6 = refl;
+        decode-6-7 = refl;
+        decode-7-8 = refl;
+        decode-8-10 = refl;
+        decode-9-10 = refl;
+        decode-8-7 = refl;
+        decode-10-7 = refl;
+        decode-10-9 = refl;
+        decode-8-11 = refl;
+        decode-10-11 = refl;
+        count-3-1 = λ s h. rw h;
+        count-limit = λ s h. rw h;
+        count-here = (refl, refl, refl);
+        op-3-14 = λ s h. rw h;
+        op-limit = λ s h. rw h;
+        op-14-1 = refl;
+        op-here = (refl, refl, refl, refl, refl);
+        head-3-14 = λ s h. rw h;
+        head-limit = λ s h. rw h;
+        head-14-1 = refl;
+        head-here = (refl, refl, refl);
+        head-65535 = refl;
+        head-16384 = λ s h. rw h;
+        table-3-15 = (refl, refl);
+        table-15-10 = refl;
+        table-10-13 = refl;
+        structure-3-15 = refl;
+        padding-3-15 = refl;
+        padding-15-10 = refl;
+        commitment-3-14 = refl;
+        commitment-14-15 = refl;
+        commitment-15-4 = refl;
+        commitment-4-16 = refl;
+      };
+      outputs = record {
+        record-bytes = refl;
+        block-in = refl;
+        room-in = refl;
+        room-for-two = refl;
+        room-for-none = refl;
+        build-leaves = refl;
+        build-refused = refl;
+        decode-leaves = refl;
+        decode-refused = refl;
+        table-leaves = refl;
+        table-refused = refl;
+        totals-told = (refl, refl);
+        length-told = (refl, refl);
+        bytes-used = (refl, refl);
+        encode-leaves = refl;
+        encode-refused = refl;
+      };
     }
