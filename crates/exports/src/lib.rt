@@ -459,7 +459,9 @@ pub extern "C" fn oli_next_group(run: &[u8], group: usize) -> NextReply
 // ---- the same functions with runs of 64-bit numbers as little-endian bytes, eight to a number
 //
 // An input that is not whole numbers is refused with 3, and a lookup in one finds nothing. Of an output only whole numbers are room; the bytes left
-// over are zeroed too. Numbers go through work space on the stack, as much of it as their number asks for.
+// over are zeroed too. Numbers go through work space on the stack, as much of it as their number asks for:
+// `.._in` takes the space that it is lent, or else calls itself once more with the middle one, or hands on to `.._large`. The large space is in a function
+// of its own, so that a call with few numbers does not reach so far down the stack.
 
 fn clear(out_codes: &mut [u8], out_values: &mut [u8], records: &mut [u8])
     ensures { λ _. ⌜ arena (now («out_codes» .exit)) (now («out_values» .exit)) (now (records .exit)) ≡ filledBytes (arena (now («out_codes» .entry)) (now («out_values» .entry)) (now (records .entry))) noBlock ⌝ }
@@ -571,6 +573,45 @@ fn encode_through(
     oli_encode(table, codes, work, records, out, at)
 }
 
+fn encode_large(
+    table: &[u8],
+    codes: &[u8],
+    values: &[u8],
+    records: &[u8],
+    out: &mut [u8],
+    at: usize,
+) -> EncodeReply
+    requires { ⌜ fewWords (now values) ≡ true ⌝ }
+    ensures { λ r. ⌜ Writes (encoded 8 (now (table .entry)) (arena (now (codes .entry)) (wordsIn (now (values .entry))) (now (records .entry))) (length (now (out .entry))) at) at r (now (out .entry)) (now (out .exit)) ⌝ }
+{
+    let n = values.len() / 8;
+    let mut work = crossing::room();
+    encode_through(table, codes, values, &mut work[..n], records, out, at)
+}
+
+fn encode_in(
+    table: &[u8],
+    codes: &[u8],
+    values: &[u8],
+    work: &mut [u64],
+    records: &[u8],
+    out: &mut [u8],
+    at: usize,
+) -> EncodeReply
+    requires { ⌜ fewWords (now values) ≡ true ⌝ }
+    ensures { λ r. ⌜ Writes (encoded 8 (now (table .entry)) (arena (now (codes .entry)) (wordsIn (now (values .entry))) (now (records .entry))) (length (now (out .entry))) at) at r (now (out .entry)) (now (out .exit)) ⌝ }
+{
+    let n = values.len() / 8;
+    if n <= work.len() {
+        return encode_through(table, codes, values, &mut work[..n], records, out, at);
+    }
+    if n <= crossing::MIDDLE {
+        let mut more = crossing::middle_room();
+        return encode_in(table, codes, values, &mut more, records, out, at);
+    }
+    encode_large(table, codes, values, records, out, at)
+}
+
 #[no_mangle]
 pub extern "C" fn oli_encode_le(
     table: &[u8],
@@ -589,17 +630,8 @@ pub extern "C" fn oli_encode_le(
             length: 0,
         };
     }
-    let n = values.len() / 8;
-    if n <= crossing::SMALL {
-        let mut work = crossing::small_room();
-        return encode_through(table, codes, values, &mut work[..n], records, out, at);
-    }
-    if n <= crossing::MIDDLE {
-        let mut work = crossing::middle_room();
-        return encode_through(table, codes, values, &mut work[..n], records, out, at);
-    }
-    let mut work = crossing::room();
-    encode_through(table, codes, values, &mut work[..n], records, out, at)
+    let mut work = crossing::small_room();
+    encode_in(table, codes, values, &mut work, records, out, at)
 }
 
 // The values go through `work`, as long as what the lent bytes have room for.
@@ -620,8 +652,7 @@ fn decode_through(
     r
 }
 
-#[no_mangle]
-pub extern "C" fn oli_decode_le(
+fn decode_large(
     table: &[u8],
     bytes: &[u8],
     at: usize,
@@ -632,8 +663,31 @@ pub extern "C" fn oli_decode_le(
     ensures { λ r. ⌜ ReadsBytes (decoded 8 (now (table .entry)) (now (bytes .entry)) at) at r (arena (now («out_codes» .entry)) (now («out_values» .entry)) (now (records .entry))) (arena (now («out_codes» .exit)) (now («out_values» .exit)) (now (records .exit))) ⌝ }
 {
     let n = crossing::lent(out_values.len());
-    if n <= crossing::SMALL {
-        let mut work = crossing::small_room();
+    let mut work = crossing::room();
+    decode_through(
+        table,
+        bytes,
+        at,
+        out_codes,
+        &mut work[..n],
+        out_values,
+        records,
+    )
+}
+
+fn decode_in(
+    table: &[u8],
+    bytes: &[u8],
+    at: usize,
+    out_codes: &mut [u8],
+    work: &mut [u64],
+    out_values: &mut [u8],
+    records: &mut [u8],
+) -> DecodeReply
+    ensures { λ r. ⌜ ReadsBytes (decoded 8 (now (table .entry)) (now (bytes .entry)) at) at r (arena (now («out_codes» .entry)) (now («out_values» .entry)) (now (records .entry))) (arena (now («out_codes» .exit)) (now («out_values» .exit)) (now (records .exit))) ⌝ }
+{
+    let n = crossing::lent(out_values.len());
+    if n <= work.len() {
         return decode_through(
             table,
             bytes,
@@ -645,27 +699,25 @@ pub extern "C" fn oli_decode_le(
         );
     }
     if n <= crossing::MIDDLE {
-        let mut work = crossing::middle_room();
-        return decode_through(
-            table,
-            bytes,
-            at,
-            out_codes,
-            &mut work[..n],
-            out_values,
-            records,
-        );
+        let mut more = crossing::middle_room();
+        return decode_in(table, bytes, at, out_codes, &mut more, out_values, records);
     }
-    let mut work = crossing::room();
-    decode_through(
-        table,
-        bytes,
-        at,
-        out_codes,
-        &mut work[..n],
-        out_values,
-        records,
-    )
+    decode_large(table, bytes, at, out_codes, out_values, records)
+}
+
+#[no_mangle]
+pub extern "C" fn oli_decode_le(
+    table: &[u8],
+    bytes: &[u8],
+    at: usize,
+    out_codes: &mut [u8],
+    out_values: &mut [u8],
+    records: &mut [u8],
+) -> DecodeReply
+    ensures { λ r. ⌜ ReadsBytes (decoded 8 (now (table .entry)) (now (bytes .entry)) at) at r (arena (now («out_codes» .entry)) (now («out_values» .entry)) (now (records .entry))) (arena (now («out_codes» .exit)) (now («out_values» .exit)) (now (records .exit))) ⌝ }
+{
+    let mut work = crossing::small_room();
+    decode_in(table, bytes, at, out_codes, &mut work, out_values, records)
 }
 
 #[no_mangle]
@@ -715,6 +767,36 @@ fn commitment_through(
     oli_commitment(table, codes, work, records)
 }
 
+fn commitment_large(table: &[u8], codes: &[u8], values: &[u8], records: &[u8]) -> CheckReply
+    requires { ⌜ fewWords (now values) ≡ true ⌝ }
+    ensures { λ r. ⌜ r ≡ checkReply (commitmentChecked 8 (now (table .entry)) (arena (now (codes .entry)) (wordsIn (now (values .entry))) (now (records .entry)))) ⌝ }
+{
+    let n = values.len() / 8;
+    let mut work = crossing::room();
+    commitment_through(table, codes, values, &mut work[..n], records)
+}
+
+fn commitment_in(
+    table: &[u8],
+    codes: &[u8],
+    values: &[u8],
+    work: &mut [u64],
+    records: &[u8],
+) -> CheckReply
+    requires { ⌜ fewWords (now values) ≡ true ⌝ }
+    ensures { λ r. ⌜ r ≡ checkReply (commitmentChecked 8 (now (table .entry)) (arena (now (codes .entry)) (wordsIn (now (values .entry))) (now (records .entry)))) ⌝ }
+{
+    let n = values.len() / 8;
+    if n <= work.len() {
+        return commitment_through(table, codes, values, &mut work[..n], records);
+    }
+    if n <= crossing::MIDDLE {
+        let mut more = crossing::middle_room();
+        return commitment_in(table, codes, values, &mut more, records);
+    }
+    commitment_large(table, codes, values, records)
+}
+
 #[no_mangle]
 pub extern "C" fn oli_commitment_le(
     table: &[u8],
@@ -730,17 +812,8 @@ pub extern "C" fn oli_commitment_le(
             place: 0,
         };
     }
-    let n = values.len() / 8;
-    if n <= crossing::SMALL {
-        let mut work = crossing::small_room();
-        return commitment_through(table, codes, values, &mut work[..n], records);
-    }
-    if n <= crossing::MIDDLE {
-        let mut work = crossing::middle_room();
-        return commitment_through(table, codes, values, &mut work[..n], records);
-    }
-    let mut work = crossing::room();
-    commitment_through(table, codes, values, &mut work[..n], records)
+    let mut work = crossing::small_room();
+    commitment_in(table, codes, values, &mut work, records)
 }
 
 // The values go through `numbers`, and the entries through `work`, as long as what the lent bytes have room for.
