@@ -23,5 +23,5 @@ pub record OneAnswer : Type 1 where
   pub build-le : (answer : Room → Answer Block) (before : Arena) → One (λ r x. BuildsBytes answer r before x)
   pub decode-le : (answer : Room → Read Block) (at : ℕ) (before : Arena) → One (λ r x. ReadsBytes answer at r before x)
   pub table-le : (answer : Answer (List ℕ)) (before : List ℕ) → One (λ r x. TablesBytes answer r before x)
-  -- the checks and all lookups, over numbers and over bytes: the reply equals an expression of the inputs, and there is no output
+  -- the head, the checks and all lookups, over numbers and over bytes: the reply equals an expression of the inputs, and there is no output
   pub others : {A : Type 0} (answer r q : A) → r ≡ answer → q ≡ answer → r ≡ q

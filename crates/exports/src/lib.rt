@@ -491,6 +491,78 @@ fn build_through(
     r
 }
 
+fn build_large(
+    table: &[u8],
+    codes: &[u8],
+    values: &[u8],
+    out_codes: &mut [u8],
+    out_values: &mut [u8],
+    records: &mut [u8],
+) -> BuildReply
+    requires { ⌜ fewWords (now values) ≡ true ⌝ }
+    ensures { λ r. ⌜ BuildsBytes (λ (room : Room). wholeWords (now (values .entry)) (built 8 (now (table .entry)) (now (codes .entry)) (wordsIn (now (values .entry))) room)) r (arena (now («out_codes» .entry)) (now («out_values» .entry)) (now (records .entry))) (arena (now («out_codes» .exit)) (now («out_values» .exit)) (now (records .exit))) ⌝ }
+{
+    let n = values.len() / 8;
+    let m = crossing::lent(out_values.len());
+    let mut numbers = crossing::room();
+    let mut work = crossing::room();
+    build_through(
+        table,
+        codes,
+        values,
+        &mut numbers[..n],
+        out_codes,
+        &mut work[..m],
+        out_values,
+        records,
+    )
+}
+
+fn build_in(
+    table: &[u8],
+    codes: &[u8],
+    values: &[u8],
+    numbers: &mut [u64],
+    out_codes: &mut [u8],
+    work: &mut [u64],
+    out_values: &mut [u8],
+    records: &mut [u8],
+) -> BuildReply
+    requires { ⌜ fewWords (now values) ≡ true ⌝ }
+    ensures { λ r. ⌜ BuildsBytes (λ (room : Room). wholeWords (now (values .entry)) (built 8 (now (table .entry)) (now (codes .entry)) (wordsIn (now (values .entry))) room)) r (arena (now («out_codes» .entry)) (now («out_values» .entry)) (now (records .entry))) (arena (now («out_codes» .exit)) (now («out_values» .exit)) (now (records .exit))) ⌝ }
+{
+    let n = values.len() / 8;
+    let m = crossing::lent(out_values.len());
+    let k = crossing::larger(n, m);
+    if k <= crossing::smaller(numbers.len(), work.len()) {
+        return build_through(
+            table,
+            codes,
+            values,
+            &mut numbers[..n],
+            out_codes,
+            &mut work[..m],
+            out_values,
+            records,
+        );
+    }
+    if k <= crossing::MIDDLE {
+        let mut more_numbers = crossing::middle_room();
+        let mut more = crossing::middle_room();
+        return build_in(
+            table,
+            codes,
+            values,
+            &mut more_numbers,
+            out_codes,
+            &mut more,
+            out_values,
+            records,
+        );
+    }
+    build_large(table, codes, values, out_codes, out_values, records)
+}
+
 #[no_mangle]
 pub extern "C" fn oli_build_le(
     table: &[u8],
@@ -511,46 +583,15 @@ pub extern "C" fn oli_build_le(
             operations: 0,
         };
     }
-    let n = values.len() / 8;
-    let m = crossing::lent(out_values.len());
-    let k = crossing::larger(n, m);
-    if k <= crossing::SMALL {
-        let mut numbers = crossing::small_room();
-        let mut work = crossing::small_room();
-        return build_through(
-            table,
-            codes,
-            values,
-            &mut numbers[..n],
-            out_codes,
-            &mut work[..m],
-            out_values,
-            records,
-        );
-    }
-    if k <= crossing::MIDDLE {
-        let mut numbers = crossing::middle_room();
-        let mut work = crossing::middle_room();
-        return build_through(
-            table,
-            codes,
-            values,
-            &mut numbers[..n],
-            out_codes,
-            &mut work[..m],
-            out_values,
-            records,
-        );
-    }
-    let mut numbers = crossing::room();
-    let mut work = crossing::room();
-    build_through(
+    let mut numbers = crossing::small_room();
+    let mut work = crossing::small_room();
+    build_in(
         table,
         codes,
         values,
-        &mut numbers[..n],
+        &mut numbers,
         out_codes,
-        &mut work[..m],
+        &mut work,
         out_values,
         records,
     )
@@ -835,46 +876,18 @@ fn table_through(
     flat_tabled(r)
 }
 
-fn table_le(codes: &[u8], values: &[u8], records: &[u8], padded: bool, out: &mut [u8]) -> TableReply
+fn table_large(
+    codes: &[u8],
+    values: &[u8],
+    records: &[u8],
+    padded: bool,
+    out: &mut [u8],
+) -> TableReply
+    requires { ⌜ fewWords (now values) ≡ true ⌝ }
     ensures { λ r. ⌜ TablesBytes (wholeWords (now (values .entry)) (tableOf (tableBy padded) 8 (arena (now (codes .entry)) (wordsIn (now (values .entry))) (now (records .entry))) (length (now (out .entry)) / 8))) r (now (out .entry)) (now (out .exit)) ⌝ }
 {
-    if !crossing::few_words(values) {
-        word::zero_bytes(out, 0);
-        return TableReply {
-            number: 3,
-            place: 0,
-            entries: 0,
-        };
-    }
     let n = values.len() / 8;
     let m = crossing::lent(out.len());
-    let k = crossing::larger(n, m);
-    if k <= crossing::SMALL {
-        let mut numbers = crossing::small_room();
-        let mut work = crossing::small_room();
-        return table_through(
-            codes,
-            values,
-            &mut numbers[..n],
-            records,
-            padded,
-            &mut work[..m],
-            out,
-        );
-    }
-    if k <= crossing::MIDDLE {
-        let mut numbers = crossing::middle_room();
-        let mut work = crossing::middle_room();
-        return table_through(
-            codes,
-            values,
-            &mut numbers[..n],
-            records,
-            padded,
-            &mut work[..m],
-            out,
-        );
-    }
     let mut numbers = crossing::room();
     let mut work = crossing::room();
     table_through(
@@ -886,6 +899,64 @@ fn table_le(codes: &[u8], values: &[u8], records: &[u8], padded: bool, out: &mut
         &mut work[..m],
         out,
     )
+}
+
+fn table_in(
+    codes: &[u8],
+    values: &[u8],
+    numbers: &mut [u64],
+    records: &[u8],
+    padded: bool,
+    work: &mut [u64],
+    out: &mut [u8],
+) -> TableReply
+    requires { ⌜ fewWords (now values) ≡ true ⌝ }
+    ensures { λ r. ⌜ TablesBytes (wholeWords (now (values .entry)) (tableOf (tableBy padded) 8 (arena (now (codes .entry)) (wordsIn (now (values .entry))) (now (records .entry))) (length (now (out .entry)) / 8))) r (now (out .entry)) (now (out .exit)) ⌝ }
+{
+    let n = values.len() / 8;
+    let m = crossing::lent(out.len());
+    let k = crossing::larger(n, m);
+    if k <= crossing::smaller(numbers.len(), work.len()) {
+        return table_through(
+            codes,
+            values,
+            &mut numbers[..n],
+            records,
+            padded,
+            &mut work[..m],
+            out,
+        );
+    }
+    if k <= crossing::MIDDLE {
+        let mut more_numbers = crossing::middle_room();
+        let mut more = crossing::middle_room();
+        return table_in(
+            codes,
+            values,
+            &mut more_numbers,
+            records,
+            padded,
+            &mut more,
+            out,
+        );
+    }
+    table_large(codes, values, records, padded, out)
+}
+
+fn table_le(codes: &[u8], values: &[u8], records: &[u8], padded: bool, out: &mut [u8]) -> TableReply
+    ensures { λ r. ⌜ TablesBytes (wholeWords (now (values .entry)) (tableOf (tableBy padded) 8 (arena (now (codes .entry)) (wordsIn (now (values .entry))) (now (records .entry))) (length (now (out .entry)) / 8))) r (now (out .entry)) (now (out .exit)) ⌝ }
+{
+    if !crossing::few_words(values) {
+        word::zero_bytes(out, 0);
+        return TableReply {
+            number: 3,
+            place: 0,
+            entries: 0,
+        };
+    }
+    let mut numbers = crossing::small_room();
+    let mut work = crossing::small_room();
+    table_in(codes, values, &mut numbers, records, padded, &mut work, out)
 }
 
 #[no_mangle]
