@@ -43,6 +43,15 @@ pub fn larger(n: usize, m: usize) -> usize
     n
 }
 
+pub fn smaller(n: usize, m: usize) -> usize
+    ensures { λ r. ⌜ r ≡ min n m ⌝ }
+{
+    if n < m {
+        return n;
+    }
+    m
+}
+
 pub fn few_words(s: &[u8]) -> bool
     ensures { λ r. ⌜ r ≡ fewWords (now (s .entry)) ⌝ }
 {

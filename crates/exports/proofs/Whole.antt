@@ -1,8 +1,8 @@
 -- Inputs that cross as bytes: refused where the numbers are not whole or too many, and otherwise the numbers that were copied. Assumes nothing.
-use mathlib.Core.Path.{_≡_, refl, sym, _∙_}
+use mathlib.Core.Path.{_≡_, refl, sym, ap, _∙_}
 use mathlib.Core.Bool.{Bool, true, false, not, _&&_, _||_}
 use mathlib.Core.List.{List}
-use Prim.Native.Nat.{ℕ, _/_, _%_, _≤_, _<_}
+use Prim.Native.Nat.{ℕ, _-_, _/_, _%_, _≤_, _<_, min, max}
 use native.Mathlib.Omega.{arith}
 use borrow.Author.Tests.{lt-leb, eqb-true, leb-true, leb-false}
 use lib.ListN.{length, take}
@@ -58,3 +58,12 @@ front w n k e h = sym (length-take-le n w (omega arith))
 
 pub all-in : (w s : List ℕ) → length w ≡ length s / 8 → take (length s / 8) w ≡ wordsIn s → w ≡ wordsIn s
 all-in w s e h = sym (take-all (length s / 8) w (omega arith)) ∙ h
+
+-- two runs of numbers want less than is there, once there is room for the larger
+fewer : (k l a b t : ℕ) → l < k → k ≤ 2048 → 2048 ≡ a → 2048 ≡ b → k - l ≡ t → k - min a b < t
+fewer k l a b t h j x y e = omega arith
+
+pub falls-to : (n m k c d l a b t M : ℕ) → k ≡ max n m → l ≡ min c d → m ≡ M → 2048 ≡ a → 2048 ≡ b → l < k → k ≤ 2048 → max n M - min c d ≡ t → max n M - min a b < t
+falls-to n m k c d l a b t M x y z u v h j e =
+    let w : max n M ≡ k = ap (max n) (sym z) ∙ sym x in
+    rw w (fewer k l a b t h j u v (ap (λ (i : ℕ). k - i) y ∙ ap (λ (i : ℕ). i - min c d) (sym w) ∙ e))

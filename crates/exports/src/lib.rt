@@ -459,7 +459,9 @@ pub extern "C" fn oli_next_group(run: &[u8], group: usize) -> NextReply
 // ---- the same functions with runs of 64-bit numbers as little-endian bytes, eight to a number
 //
 // An input that is not whole numbers is refused with 3, and a lookup in one finds nothing. Of an output only whole numbers are room; the bytes left
-// over are zeroed too. Numbers go through work space on the stack, as much of it as their number asks for.
+// over are zeroed too. Numbers go through work space on the stack, as much of it as their number asks for:
+// `.._in` takes the space that it is lent, or else calls itself once more with the middle one, or hands on to `.._large`. The large space is in a function
+// of its own, so that a call with few numbers does not reach so far down the stack.
 
 fn clear(out_codes: &mut [u8], out_values: &mut [u8], records: &mut [u8])
     ensures { λ _. ⌜ arena (now («out_codes» .exit)) (now («out_values» .exit)) (now (records .exit)) ≡ filledBytes (arena (now («out_codes» .entry)) (now («out_values» .entry)) (now (records .entry))) noBlock ⌝ }
@@ -489,6 +491,78 @@ fn build_through(
     r
 }
 
+fn build_large(
+    table: &[u8],
+    codes: &[u8],
+    values: &[u8],
+    out_codes: &mut [u8],
+    out_values: &mut [u8],
+    records: &mut [u8],
+) -> BuildReply
+    requires { ⌜ fewWords (now values) ≡ true ⌝ }
+    ensures { λ r. ⌜ BuildsBytes (λ (room : Room). wholeWords (now (values .entry)) (built 8 (now (table .entry)) (now (codes .entry)) (wordsIn (now (values .entry))) room)) r (arena (now («out_codes» .entry)) (now («out_values» .entry)) (now (records .entry))) (arena (now («out_codes» .exit)) (now («out_values» .exit)) (now (records .exit))) ⌝ }
+{
+    let n = values.len() / 8;
+    let m = crossing::lent(out_values.len());
+    let mut numbers = crossing::room();
+    let mut work = crossing::room();
+    build_through(
+        table,
+        codes,
+        values,
+        &mut numbers[..n],
+        out_codes,
+        &mut work[..m],
+        out_values,
+        records,
+    )
+}
+
+fn build_in(
+    table: &[u8],
+    codes: &[u8],
+    values: &[u8],
+    numbers: &mut [u64],
+    out_codes: &mut [u8],
+    work: &mut [u64],
+    out_values: &mut [u8],
+    records: &mut [u8],
+) -> BuildReply
+    requires { ⌜ fewWords (now values) ≡ true ⌝ }
+    ensures { λ r. ⌜ BuildsBytes (λ (room : Room). wholeWords (now (values .entry)) (built 8 (now (table .entry)) (now (codes .entry)) (wordsIn (now (values .entry))) room)) r (arena (now («out_codes» .entry)) (now («out_values» .entry)) (now (records .entry))) (arena (now («out_codes» .exit)) (now («out_values» .exit)) (now (records .exit))) ⌝ }
+{
+    let n = values.len() / 8;
+    let m = crossing::lent(out_values.len());
+    let k = crossing::larger(n, m);
+    if k <= crossing::smaller(numbers.len(), work.len()) {
+        return build_through(
+            table,
+            codes,
+            values,
+            &mut numbers[..n],
+            out_codes,
+            &mut work[..m],
+            out_values,
+            records,
+        );
+    }
+    if k <= crossing::MIDDLE {
+        let mut more_numbers = crossing::middle_room();
+        let mut more = crossing::middle_room();
+        return build_in(
+            table,
+            codes,
+            values,
+            &mut more_numbers,
+            out_codes,
+            &mut more,
+            out_values,
+            records,
+        );
+    }
+    build_large(table, codes, values, out_codes, out_values, records)
+}
+
 #[no_mangle]
 pub extern "C" fn oli_build_le(
     table: &[u8],
@@ -509,46 +583,15 @@ pub extern "C" fn oli_build_le(
             operations: 0,
         };
     }
-    let n = values.len() / 8;
-    let m = crossing::lent(out_values.len());
-    let k = crossing::larger(n, m);
-    if k <= crossing::SMALL {
-        let mut numbers = crossing::small_room();
-        let mut work = crossing::small_room();
-        return build_through(
-            table,
-            codes,
-            values,
-            &mut numbers[..n],
-            out_codes,
-            &mut work[..m],
-            out_values,
-            records,
-        );
-    }
-    if k <= crossing::MIDDLE {
-        let mut numbers = crossing::middle_room();
-        let mut work = crossing::middle_room();
-        return build_through(
-            table,
-            codes,
-            values,
-            &mut numbers[..n],
-            out_codes,
-            &mut work[..m],
-            out_values,
-            records,
-        );
-    }
-    let mut numbers = crossing::room();
-    let mut work = crossing::room();
-    build_through(
+    let mut numbers = crossing::small_room();
+    let mut work = crossing::small_room();
+    build_in(
         table,
         codes,
         values,
-        &mut numbers[..n],
+        &mut numbers,
         out_codes,
-        &mut work[..m],
+        &mut work,
         out_values,
         records,
     )
@@ -571,6 +614,45 @@ fn encode_through(
     oli_encode(table, codes, work, records, out, at)
 }
 
+fn encode_large(
+    table: &[u8],
+    codes: &[u8],
+    values: &[u8],
+    records: &[u8],
+    out: &mut [u8],
+    at: usize,
+) -> EncodeReply
+    requires { ⌜ fewWords (now values) ≡ true ⌝ }
+    ensures { λ r. ⌜ Writes (encoded 8 (now (table .entry)) (arena (now (codes .entry)) (wordsIn (now (values .entry))) (now (records .entry))) (length (now (out .entry))) at) at r (now (out .entry)) (now (out .exit)) ⌝ }
+{
+    let n = values.len() / 8;
+    let mut work = crossing::room();
+    encode_through(table, codes, values, &mut work[..n], records, out, at)
+}
+
+fn encode_in(
+    table: &[u8],
+    codes: &[u8],
+    values: &[u8],
+    work: &mut [u64],
+    records: &[u8],
+    out: &mut [u8],
+    at: usize,
+) -> EncodeReply
+    requires { ⌜ fewWords (now values) ≡ true ⌝ }
+    ensures { λ r. ⌜ Writes (encoded 8 (now (table .entry)) (arena (now (codes .entry)) (wordsIn (now (values .entry))) (now (records .entry))) (length (now (out .entry))) at) at r (now (out .entry)) (now (out .exit)) ⌝ }
+{
+    let n = values.len() / 8;
+    if n <= work.len() {
+        return encode_through(table, codes, values, &mut work[..n], records, out, at);
+    }
+    if n <= crossing::MIDDLE {
+        let mut more = crossing::middle_room();
+        return encode_in(table, codes, values, &mut more, records, out, at);
+    }
+    encode_large(table, codes, values, records, out, at)
+}
+
 #[no_mangle]
 pub extern "C" fn oli_encode_le(
     table: &[u8],
@@ -589,17 +671,8 @@ pub extern "C" fn oli_encode_le(
             length: 0,
         };
     }
-    let n = values.len() / 8;
-    if n <= crossing::SMALL {
-        let mut work = crossing::small_room();
-        return encode_through(table, codes, values, &mut work[..n], records, out, at);
-    }
-    if n <= crossing::MIDDLE {
-        let mut work = crossing::middle_room();
-        return encode_through(table, codes, values, &mut work[..n], records, out, at);
-    }
-    let mut work = crossing::room();
-    encode_through(table, codes, values, &mut work[..n], records, out, at)
+    let mut work = crossing::small_room();
+    encode_in(table, codes, values, &mut work, records, out, at)
 }
 
 // The values go through `work`, as long as what the lent bytes have room for.
@@ -620,8 +693,7 @@ fn decode_through(
     r
 }
 
-#[no_mangle]
-pub extern "C" fn oli_decode_le(
+fn decode_large(
     table: &[u8],
     bytes: &[u8],
     at: usize,
@@ -632,8 +704,31 @@ pub extern "C" fn oli_decode_le(
     ensures { λ r. ⌜ ReadsBytes (decoded 8 (now (table .entry)) (now (bytes .entry)) at) at r (arena (now («out_codes» .entry)) (now («out_values» .entry)) (now (records .entry))) (arena (now («out_codes» .exit)) (now («out_values» .exit)) (now (records .exit))) ⌝ }
 {
     let n = crossing::lent(out_values.len());
-    if n <= crossing::SMALL {
-        let mut work = crossing::small_room();
+    let mut work = crossing::room();
+    decode_through(
+        table,
+        bytes,
+        at,
+        out_codes,
+        &mut work[..n],
+        out_values,
+        records,
+    )
+}
+
+fn decode_in(
+    table: &[u8],
+    bytes: &[u8],
+    at: usize,
+    out_codes: &mut [u8],
+    work: &mut [u64],
+    out_values: &mut [u8],
+    records: &mut [u8],
+) -> DecodeReply
+    ensures { λ r. ⌜ ReadsBytes (decoded 8 (now (table .entry)) (now (bytes .entry)) at) at r (arena (now («out_codes» .entry)) (now («out_values» .entry)) (now (records .entry))) (arena (now («out_codes» .exit)) (now («out_values» .exit)) (now (records .exit))) ⌝ }
+{
+    let n = crossing::lent(out_values.len());
+    if n <= work.len() {
         return decode_through(
             table,
             bytes,
@@ -645,27 +740,25 @@ pub extern "C" fn oli_decode_le(
         );
     }
     if n <= crossing::MIDDLE {
-        let mut work = crossing::middle_room();
-        return decode_through(
-            table,
-            bytes,
-            at,
-            out_codes,
-            &mut work[..n],
-            out_values,
-            records,
-        );
+        let mut more = crossing::middle_room();
+        return decode_in(table, bytes, at, out_codes, &mut more, out_values, records);
     }
-    let mut work = crossing::room();
-    decode_through(
-        table,
-        bytes,
-        at,
-        out_codes,
-        &mut work[..n],
-        out_values,
-        records,
-    )
+    decode_large(table, bytes, at, out_codes, out_values, records)
+}
+
+#[no_mangle]
+pub extern "C" fn oli_decode_le(
+    table: &[u8],
+    bytes: &[u8],
+    at: usize,
+    out_codes: &mut [u8],
+    out_values: &mut [u8],
+    records: &mut [u8],
+) -> DecodeReply
+    ensures { λ r. ⌜ ReadsBytes (decoded 8 (now (table .entry)) (now (bytes .entry)) at) at r (arena (now («out_codes» .entry)) (now («out_values» .entry)) (now (records .entry))) (arena (now («out_codes» .exit)) (now («out_values» .exit)) (now (records .exit))) ⌝ }
+{
+    let mut work = crossing::small_room();
+    decode_in(table, bytes, at, out_codes, &mut work, out_values, records)
 }
 
 #[no_mangle]
@@ -715,6 +808,36 @@ fn commitment_through(
     oli_commitment(table, codes, work, records)
 }
 
+fn commitment_large(table: &[u8], codes: &[u8], values: &[u8], records: &[u8]) -> CheckReply
+    requires { ⌜ fewWords (now values) ≡ true ⌝ }
+    ensures { λ r. ⌜ r ≡ checkReply (commitmentChecked 8 (now (table .entry)) (arena (now (codes .entry)) (wordsIn (now (values .entry))) (now (records .entry)))) ⌝ }
+{
+    let n = values.len() / 8;
+    let mut work = crossing::room();
+    commitment_through(table, codes, values, &mut work[..n], records)
+}
+
+fn commitment_in(
+    table: &[u8],
+    codes: &[u8],
+    values: &[u8],
+    work: &mut [u64],
+    records: &[u8],
+) -> CheckReply
+    requires { ⌜ fewWords (now values) ≡ true ⌝ }
+    ensures { λ r. ⌜ r ≡ checkReply (commitmentChecked 8 (now (table .entry)) (arena (now (codes .entry)) (wordsIn (now (values .entry))) (now (records .entry)))) ⌝ }
+{
+    let n = values.len() / 8;
+    if n <= work.len() {
+        return commitment_through(table, codes, values, &mut work[..n], records);
+    }
+    if n <= crossing::MIDDLE {
+        let mut more = crossing::middle_room();
+        return commitment_in(table, codes, values, &mut more, records);
+    }
+    commitment_large(table, codes, values, records)
+}
+
 #[no_mangle]
 pub extern "C" fn oli_commitment_le(
     table: &[u8],
@@ -730,17 +853,8 @@ pub extern "C" fn oli_commitment_le(
             place: 0,
         };
     }
-    let n = values.len() / 8;
-    if n <= crossing::SMALL {
-        let mut work = crossing::small_room();
-        return commitment_through(table, codes, values, &mut work[..n], records);
-    }
-    if n <= crossing::MIDDLE {
-        let mut work = crossing::middle_room();
-        return commitment_through(table, codes, values, &mut work[..n], records);
-    }
-    let mut work = crossing::room();
-    commitment_through(table, codes, values, &mut work[..n], records)
+    let mut work = crossing::small_room();
+    commitment_in(table, codes, values, &mut work, records)
 }
 
 // The values go through `numbers`, and the entries through `work`, as long as what the lent bytes have room for.
@@ -762,46 +876,18 @@ fn table_through(
     flat_tabled(r)
 }
 
-fn table_le(codes: &[u8], values: &[u8], records: &[u8], padded: bool, out: &mut [u8]) -> TableReply
+fn table_large(
+    codes: &[u8],
+    values: &[u8],
+    records: &[u8],
+    padded: bool,
+    out: &mut [u8],
+) -> TableReply
+    requires { ⌜ fewWords (now values) ≡ true ⌝ }
     ensures { λ r. ⌜ TablesBytes (wholeWords (now (values .entry)) (tableOf (tableBy padded) 8 (arena (now (codes .entry)) (wordsIn (now (values .entry))) (now (records .entry))) (length (now (out .entry)) / 8))) r (now (out .entry)) (now (out .exit)) ⌝ }
 {
-    if !crossing::few_words(values) {
-        word::zero_bytes(out, 0);
-        return TableReply {
-            number: 3,
-            place: 0,
-            entries: 0,
-        };
-    }
     let n = values.len() / 8;
     let m = crossing::lent(out.len());
-    let k = crossing::larger(n, m);
-    if k <= crossing::SMALL {
-        let mut numbers = crossing::small_room();
-        let mut work = crossing::small_room();
-        return table_through(
-            codes,
-            values,
-            &mut numbers[..n],
-            records,
-            padded,
-            &mut work[..m],
-            out,
-        );
-    }
-    if k <= crossing::MIDDLE {
-        let mut numbers = crossing::middle_room();
-        let mut work = crossing::middle_room();
-        return table_through(
-            codes,
-            values,
-            &mut numbers[..n],
-            records,
-            padded,
-            &mut work[..m],
-            out,
-        );
-    }
     let mut numbers = crossing::room();
     let mut work = crossing::room();
     table_through(
@@ -813,6 +899,64 @@ fn table_le(codes: &[u8], values: &[u8], records: &[u8], padded: bool, out: &mut
         &mut work[..m],
         out,
     )
+}
+
+fn table_in(
+    codes: &[u8],
+    values: &[u8],
+    numbers: &mut [u64],
+    records: &[u8],
+    padded: bool,
+    work: &mut [u64],
+    out: &mut [u8],
+) -> TableReply
+    requires { ⌜ fewWords (now values) ≡ true ⌝ }
+    ensures { λ r. ⌜ TablesBytes (wholeWords (now (values .entry)) (tableOf (tableBy padded) 8 (arena (now (codes .entry)) (wordsIn (now (values .entry))) (now (records .entry))) (length (now (out .entry)) / 8))) r (now (out .entry)) (now (out .exit)) ⌝ }
+{
+    let n = values.len() / 8;
+    let m = crossing::lent(out.len());
+    let k = crossing::larger(n, m);
+    if k <= crossing::smaller(numbers.len(), work.len()) {
+        return table_through(
+            codes,
+            values,
+            &mut numbers[..n],
+            records,
+            padded,
+            &mut work[..m],
+            out,
+        );
+    }
+    if k <= crossing::MIDDLE {
+        let mut more_numbers = crossing::middle_room();
+        let mut more = crossing::middle_room();
+        return table_in(
+            codes,
+            values,
+            &mut more_numbers,
+            records,
+            padded,
+            &mut more,
+            out,
+        );
+    }
+    table_large(codes, values, records, padded, out)
+}
+
+fn table_le(codes: &[u8], values: &[u8], records: &[u8], padded: bool, out: &mut [u8]) -> TableReply
+    ensures { λ r. ⌜ TablesBytes (wholeWords (now (values .entry)) (tableOf (tableBy padded) 8 (arena (now (codes .entry)) (wordsIn (now (values .entry))) (now (records .entry))) (length (now (out .entry)) / 8))) r (now (out .entry)) (now (out .exit)) ⌝ }
+{
+    if !crossing::few_words(values) {
+        word::zero_bytes(out, 0);
+        return TableReply {
+            number: 3,
+            place: 0,
+            entries: 0,
+        };
+    }
+    let mut numbers = crossing::small_room();
+    let mut work = crossing::small_room();
+    table_in(codes, values, &mut numbers, records, padded, &mut work, out)
 }
 
 #[no_mangle]

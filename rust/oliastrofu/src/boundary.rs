@@ -259,7 +259,7 @@ impl New {
 ///
 /// An input that is not whole numbers is refused with 3, and an index lookup in one finds nothing.
 /// Of an output only whole numbers are room; bytes left over are zeroed too. Numbers go through work
-/// space on the stack: STACK
+/// space on the stack, as [`le`](crate::le) says.
 ///
 /// ```
 /// use oliastrofu::boundary::{IndexReply, le};

@@ -2,8 +2,11 @@
 //! to a number: only numbers and byte slices.
 //!
 //! An input that is not whole numbers is refused with 3, and an index lookup in one finds nothing.
-//! Of an output only whole numbers are room; bytes left over are zeroed too. All but [`structure`]
-//! and the index lookups want stack: 512 KiB for work space; [`build`] and the tables 1 MiB.
+//! Of an output only whole numbers are room; bytes left over are zeroed too.
+//!
+//! Numbers go through work space on the stack: in [`encode`], [`decode`] and [`commitment`] 512 KiB,
+//! and 20 KiB if they are 2,048 or fewer; in [`build`] and the tables always 1 MiB and 40 KiB;
+//! none in [`structure`], [`padding`] and the index lookups.
 
 use crate::{
     PaddedIndex, RawIndex, Refusal,

@@ -29,6 +29,10 @@ fn cut<T>(run: &mut Vec<T>, length: usize) {
     run.shrink_to_fit();
 }
 
+fn of_records(batches: usize) -> usize {
+    batches.saturating_mul(RECORD)
+}
+
 /// How many operations and batches a list of so many operations, so many of them with an
 /// immediate, gets at most.
 ///
@@ -67,22 +71,12 @@ pub fn build(table: &[u8], codes: &[u8], values: &[u64]) -> Result<Block, Refusa
     } else {
         codes.len()
     };
-    let placed: [bool; 256] =
-        core::array::from_fn(|code| table.get(code).is_some_and(|&kind| kind == 1));
-    let immediates = codes.iter().take(listed).filter(|&&code| {
-        let known = placed.get(usize::from(code));
-        known.is_some_and(|&placed| placed)
-    });
-    let (operations, batches) = most(listed, immediates.count());
-    let made = |operations, batches| {
-        New::build(
-            table,
-            codes,
-            values,
-            operations,
-            RECORD.saturating_mul(batches),
-        )
-    };
+    let immediates = (codes.iter().take(listed))
+        .filter(|&&code| table.get(usize::from(code)) == Some(&1))
+        .count();
+    let (operations, batches) = most(listed, immediates);
+    let made =
+        |operations, batches| New::build(table, codes, values, operations, of_records(batches));
     let (mut reply, mut new) = made(operations, batches);
     if Cause::of_number(reply.number) == Cause::Room {
         // It does not come to this, as far as we know. No list gets more.
@@ -92,7 +86,7 @@ pub fn build(table: &[u8], codes: &[u8], values: &[u64]) -> Result<Block, Refusa
     let mut block = Block::from(new);
     cut(&mut block.codes, built.operations);
     cut(&mut block.values, built.operations);
-    cut(&mut block.records, built.batches.saturating_mul(RECORD));
+    cut(&mut block.records, of_records(built.batches));
     Ok(block)
 }
 
@@ -123,8 +117,7 @@ pub fn encode(table: &[u8], block: &Block) -> Result<Vec<u8>, Refusal> {
 /// The block that begins at a place in the bytes, and how many of them it takes. What comes after
 /// it is not read.
 ///
-/// Room is made for just what the block needs ([`head`] says it), so it is never refused for want
-/// of room.
+/// The block keeps just the room that it needs, and is not refused for want of room.
 ///
 /// ```
 /// let mut table = [3; 128];
@@ -139,11 +132,42 @@ pub fn encode(table: &[u8], block: &Block) -> Result<Vec<u8>, Refusal> {
 /// # Ok::<(), oliastrofu::Refusal>(())
 /// ```
 pub fn decode(table: &[u8], bytes: &[u8], at: usize) -> Result<(Block, usize), Refusal> {
-    let head = head(table, bytes, at)?;
-    let records = head.batches.saturating_mul(RECORD);
-    let (reply, new) = New::decode(table, bytes, at, head.operations, records);
+    let (operations, batches) = likely(bytes, at).unwrap_or((0, 0));
+    let (mut reply, mut new) = New::decode(table, bytes, at, operations, of_records(batches));
+    if Cause::of_number(reply.number) == Cause::Room {
+        let head = head(table, bytes, at)?;
+        let records = of_records(head.batches);
+        (reply, new) = New::decode(table, bytes, at, head.operations, records);
+    }
     let read = lent::decoded(reply)?;
-    Ok((new.into(), read.used))
+    let mut block = Block::from(new);
+    cut(&mut block.codes, read.operations);
+    cut(&mut block.values, read.operations);
+    cut(&mut block.records, of_records(read.batches));
+    Ok((block, read.used))
+}
+
+/// What the block at a place is likely to need: as many operations as its count says (how a count
+/// is written, document 01 says), and batches of eight operations or more, as far as the bytes that
+/// are left can hold them. It is only a guess, and spares a walk over the operations: where it is
+/// too small decode says so, and [`head`] is asked.
+fn likely(bytes: &[u8], at: usize) -> Option<(usize, usize)> {
+    let left = bytes.get(at..)?;
+    let zeros = left.first()?.trailing_zeros();
+    let length = usize::try_from(zeros).ok()?.checked_add(1)?;
+    if length > 3 {
+        return None;
+    }
+    let number = (left.get(..length)?.iter().rev())
+        .fold(0u32, |number, &byte| number << 8 | u32::from(byte));
+    let operations = usize::try_from(number >> length).ok()?.min(MOST_PADDED);
+    let rest = left
+        .len()
+        .checked_sub(length)?
+        .checked_sub(operations)?
+        .checked_sub(4)?;
+    let batches = (operations / 8).saturating_add(1).min(rest / 5);
+    Some((operations, batches))
 }
 
 /// How many operations and batches the block at a place in the bytes has; see [`lent::head`].

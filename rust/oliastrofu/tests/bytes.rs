@@ -187,7 +187,10 @@ fn within<T: Send>(stack: usize, call: impl FnOnce() -> T + Send) -> T {
 
 #[test]
 fn stack() {
+    // For one run of numbers, for one that is not long, and for two.
     const ONE: usize = 524_288;
+    const FEW: usize = 20_480;
+    const TWO: usize = 2 * ONE + 40_960;
     let block = block();
     let coded = encode(&VM_TABLE, &block).expect("a good block");
     let values = bytes(&block.values);
@@ -208,23 +211,28 @@ fn stack() {
         used,
     };
     assert_eq!(
-        within(ONE, || le::decode(&VM_TABLE, &coded, 0, out.bytes())),
+        within(FEW, || le::decode(&VM_TABLE, &coded, 0, out.bytes())),
         Ok(read)
     );
     assert_eq!(
-        within(ONE, || le::encode(&VM_TABLE, lent, &mut buffer, 0)),
+        within(FEW, || le::encode(&VM_TABLE, lent, &mut buffer, 0)),
         Ok(used)
     );
     assert_eq!(buffer, coded);
     assert_eq!(within(0, || le::padding(lent)), Ok(()));
-    assert_eq!(within(ONE, || le::commitment(&VM_TABLE, lent)), Ok(()));
-    let made = within(2 * ONE, || {
+    assert_eq!(within(FEW, || le::commitment(&VM_TABLE, lent)), Ok(()));
+    let made = within(TWO, || {
         le::build(&VM_TABLE, lent.codes, lent.values, built.bytes())
     });
     assert!(matches!(made, Ok(Built { .. })));
     for table in [le::raw_table, le::padded_table] {
-        assert!(within(2 * ONE, || table(lent, &mut built.bytes)).is_ok());
+        assert!(within(TWO, || table(lent, &mut built.bytes)).is_ok());
     }
+    let mut long = Filled::new(65_535, 0);
+    assert_eq!(
+        within(ONE, || le::decode(&VM_TABLE, &coded, 0, long.bytes())),
+        Ok(read)
+    );
     assert_eq!(within(0, || le::structure(lent)), Ok(()));
     assert_eq!(
         within(0, || le::raw_index(&values[..8], PaddedIndex(0))),

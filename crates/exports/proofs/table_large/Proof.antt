@@ -1,0 +1,56 @@
+use Rattle.exports.proofs.Whole.{few, front}
+use mathlib.Core.Path.{sym, _∙_}
+use native.Mathlib.Omega.{arith}
+use borrow.Author.Needs.{needs}
+use Rattle.exports.proofs.table_large.Statement.{statement}
+use Rattle.exports.proofs.table_large.Tie as tie
+use Rattle.exports.proofs.table_large.Reads as reads
+use Rattle.exports.proofs.table_large.Lts as lts
+use Rattle.crossing.proofs.lent.Reads as lent-reads
+use Rattle.crossing.proofs.room.Reads as room-reads
+use Rattle.exports.proofs.table_through.Reads as table-through-reads
+
+lent-requires : tie.Need-lent-requires
+lent-requires c κs = search needs
+
+room-requires : tie.Need-room-requires
+room-requires c κs = search needs
+
+room-requires-2 : tie.Need-room-requires-2
+room-requires-2 c κs = search needs
+
+array-borrow-prefix-numbers : tie.Need-array-borrow-prefix-numbers
+array-borrow-prefix-numbers c = omega (arith, c .before .room .ensures, few (c .before .before .before .before .before .before .before .args .values .now) (c .before .before .before .before .before .before .before .pre))
+
+slice-aggregate-table-through : tie.Need-slice-aggregate-table-through
+slice-aggregate-table-through c = front _ _ _ (c .before .before .room .ensures) (omega (arith, few (c .before .before .before .before .before .before .before .before .args .values .now) (c .before .before .before .before .before .before .before .before .pre)))
+
+array-borrow-prefix-work : tie.Need-array-borrow-prefix-work
+array-borrow-prefix-work c = search needs
+
+slice-aggregate-table-through-2 : tie.Need-slice-aggregate-table-through-2
+slice-aggregate-table-through-2 c = front _ _ _ (c .before .before .room2 .ensures) (omega (arith, c .before .before .before .before .lent .ensures))
+
+table-through-requires : tie.Need-table-through-requires
+table-through-requires c κs = (c .before .before .before .before .before .before .before .before .before .before .pre, sym (front _ _ _ (c .before .before .before .before .room .ensures) (omega (arith, few (c .before .before .before .before .before .before .before .before .before .before .args .values .now) (c .before .before .before .before .before .before .before .before .before .before .pre)))), sym (front _ _ _ (c .before .before .before .room2 .ensures) (omega (arith, c .before .before .before .before .before .lent .ensures))) ∙ c .before .before .before .before .before .lent .ensures)
+
+same-length : tie.Need-same-length
+same-length c = search needs
+
+returns : tie.Need-returns
+returns c = search needs
+
+pub table-large-spec : {M : Type 1} → statement M
+table-large-spec =
+    tie.close
+    (tie.spec
+    lent-requires
+    room-requires
+    room-requires-2
+    array-borrow-prefix-numbers
+    slice-aggregate-table-through
+    array-borrow-prefix-work
+    slice-aggregate-table-through-2
+    table-through-requires
+    same-length
+    returns)
