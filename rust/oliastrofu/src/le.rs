@@ -4,9 +4,10 @@
 //! An input that is not whole numbers is refused with 3, and an index lookup in one finds nothing.
 //! Of an output only whole numbers are room; bytes left over are zeroed too.
 //!
-//! Numbers go through work space on the stack: in [`encode`], [`decode`] and [`commitment`] 512 KiB,
-//! and 20 KiB if they are 2,048 or fewer; in [`build`] and the tables always 1 MiB and 40 KiB;
-//! none in [`structure`], [`padding`] and the index lookups.
+//! Numbers go through work space on the stack, as much of it as their number asks for. In
+//! [`encode`], [`decode`] and [`commitment`] 20 KiB are enough for at most 64 numbers, 36 KiB for at
+//! most 2,048, and 532 KiB for any number; in [`build`] and the tables, which read and fill numbers,
+//! twice as much. [`structure`], [`padding`] and the index lookups want none.
 
 use crate::{
     PaddedIndex, RawIndex, Refusal,

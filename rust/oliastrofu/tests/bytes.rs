@@ -187,10 +187,9 @@ fn within<T: Send>(stack: usize, call: impl FnOnce() -> T + Send) -> T {
 
 #[test]
 fn stack() {
-    // For one run of numbers, for one that is not long, and for two.
-    const ONE: usize = 524_288;
-    const FEW: usize = 20_480;
-    const TWO: usize = 2 * ONE + 40_960;
+    // For a run of any length, and for one that is not long.
+    const ANY: usize = 532 * 1_024;
+    const FEW: usize = 36 * 1_024;
     let block = block();
     let coded = encode(&VM_TABLE, &block).expect("a good block");
     let values = bytes(&block.values);
@@ -221,18 +220,25 @@ fn stack() {
     assert_eq!(buffer, coded);
     assert_eq!(within(0, || le::padding(lent)), Ok(()));
     assert_eq!(within(FEW, || le::commitment(&VM_TABLE, lent)), Ok(()));
-    let made = within(TWO, || {
+    let made = within(2 * FEW, || {
         le::build(&VM_TABLE, lent.codes, lent.values, built.bytes())
     });
     assert!(matches!(made, Ok(Built { .. })));
     for table in [le::raw_table, le::padded_table] {
-        assert!(within(TWO, || table(lent, &mut built.bytes)).is_ok());
+        assert!(within(2 * FEW, || table(lent, &mut built.bytes)).is_ok());
     }
     let mut long = Filled::new(65_535, 0);
     assert_eq!(
-        within(ONE, || le::decode(&VM_TABLE, &coded, 0, long.bytes())),
+        within(ANY, || le::decode(&VM_TABLE, &coded, 0, long.bytes())),
         Ok(read)
     );
+    let made = within(2 * ANY, || {
+        le::build(&VM_TABLE, lent.codes, lent.values, long.bytes())
+    });
+    assert!(matches!(made, Ok(Built { .. })));
+    for table in [le::raw_table, le::padded_table] {
+        assert!(within(2 * ANY, || table(lent, &mut long.bytes)).is_ok());
+    }
     assert_eq!(within(0, || le::structure(lent)), Ok(()));
     assert_eq!(
         within(0, || le::raw_index(&values[..8], PaddedIndex(0))),
