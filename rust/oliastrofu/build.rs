@@ -21,6 +21,7 @@ const NAME: &str = "oliastrofu_exports";
 fn main() {
     println!("cargo::rerun-if-changed=build.rs");
     println!("cargo::rerun-if-env-changed=OLIASTROFU_LIB");
+    println!("cargo::rerun-if-env-changed=PATH");
     if env::var_os("CARGO_FEATURE_MODEL_SHIM").is_some() {
         return;
     }

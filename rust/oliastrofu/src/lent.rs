@@ -102,8 +102,9 @@ pub fn encode(
 }
 
 /// How many operations and batches the block at a place in the bytes has: with room for them
-/// [`decode`] never gives 13. Only the count, the operations and the batch count are read, so
-/// decode may still refuse the block; what is refused here decode refuses in the same way.
+/// [`decode`] answers as with any more. Only the count, the operations and the batch count are
+/// read, so decode may still refuse the block; what is refused here, decode with room for every
+/// block refuses in the same way. 13 is never given.
 ///
 /// ```
 /// use oliastrofu::lent::{self, Head};

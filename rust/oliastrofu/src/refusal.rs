@@ -94,7 +94,8 @@ impl Cause {
         }
     }
 
-    /// The one place of these sentences; crates/listing prints the same.
+    /// The one place of these sentences. The programs print them too (crates/listing), shorter where
+    /// a program can't meet the rest.
     const fn words(self) -> &'static str {
         match self {
             Self::PastEnd => "the offset or write position is past the end of the bytes",
