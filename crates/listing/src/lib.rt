@@ -332,12 +332,15 @@ pub fn print_block(
 // What a number of refusal means (document 01, "Numbers of refusal"), in the words of rust/oliastrofu.
 fn print_meaning(page: &mut [u8], refusal: u8) {
     match refusal {
-        1 => say(page, b"the offset is past the end"),
+        1 => say(page, b"the place to begin at is past the end of the bytes"),
         2 => say(
             page,
             b"the bytes end inside the count, an operation or the batch count",
         ),
-        3 => say(page, b"a count has a wrong form or is over a limit"),
+        3 => say(
+            page,
+            b"a count has a wrong form or is over a limit, or lengths do not match",
+        ),
         4 => say(
             page,
             b"an operation is not admissible: its opcode is unassigned or its value out of range",

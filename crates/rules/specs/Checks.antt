@@ -71,7 +71,8 @@ paddingFaults b = map paddingFault (held b)
 
 -- ---- commitment
 
--- "immediates placed under 8 and under the count in empty groups": what becomes of k immediates in the groups under the count that come next
+-- "immediates placed under 8 and under the count in empty groups": what becomes of k immediates in the groups that come next, which are those under the
+-- count here and those under 8 where a batch is decoded
 unfoldable pub placingFault : ℕ → List (List Op) → ℕ
 placingFault zero gs = 0
 placingFault (suc k) [] = 8

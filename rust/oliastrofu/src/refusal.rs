@@ -94,14 +94,13 @@ impl Cause {
         }
     }
 
-    /// The one place of these sentences. The programs print them too (crates/listing), shorter where
-    /// a program can't meet the rest.
+    /// The one place of these sentences in Rust. The programs print the same (crates/listing).
     const fn words(self) -> &'static str {
         match self {
-            Self::PastEnd => "the offset or write position is past the end of the bytes",
+            Self::PastEnd => "the place to begin at is past the end of the bytes",
             Self::BytesEnd => "the bytes end inside the count, an operation or the batch count",
             Self::Limit => {
-                "a count has a wrong form or is over a limit, or lists have unequal lengths"
+                "a count has a wrong form or is over a limit, or lengths do not match"
             }
             Self::Operation => {
                 "an operation is not admissible: its opcode is unassigned or its value out of range"
