@@ -417,7 +417,18 @@ fn cases(s: &[u8], table: &mut [u8], codes: &mut [u8], values: &mut [u64], runs:
     }
 }
 
+fn help() {
+    console::print(b"usage: check_cases < CASES\n");
+    console::print(
+        b"Runs each line's check, table or lookup and prints the reply; it takes no arguments.\n",
+    );
+}
+
 fn main() {
+    if 1 < os::arg_count() {
+        help();
+        return;
+    }
     let mut space = io::large_buffer();
     let got = console::fill(0, &mut space);
     if got.failed {

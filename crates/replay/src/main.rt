@@ -848,9 +848,26 @@ fn files(count: usize, counts: &mut [u64]) {
     }
 }
 
+fn help() {
+    say(b"usage: replay FILE..\n");
+    say(
+        b"Runs the cases of each file (rust/README.md) on the exported functions, and says where a reply or an output is not the file's.\n",
+    );
+}
+
+fn asked_for_help() -> bool {
+    let mut word = io::buffer();
+    let n = os::arg(1, &mut word);
+    check::same(&word[..n], b"--help")
+}
+
 fn main() {
     if os::arg_count() < 2 {
-        console::tell(b"usage: replay FILE..\n");
+        console::tell(b"usage: replay FILE.. (replay --help says more)\n");
+        return;
+    }
+    if asked_for_help() {
+        help();
         return;
     }
     let mut counts = [0u64; 16];
