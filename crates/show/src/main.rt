@@ -211,7 +211,7 @@ fn offset() -> Number {
 
 fn help() {
     console::print(
-        b"show FILE [OFFSET]: prints the batches of the block that starts at byte OFFSET of FILE (0 where none is given), under the virtual machine's\nown table; or says on standard error, in one line, what is wrong: the number of the refusal, what it means, and where.\nFor a group it prints its number, the index of its first operation in the block, and the byte of the file where that operation starts.\nThe file may have any size: the 1048576 bytes from OFFSET on are read, and no block is longer than 671742.\nWhat is printed was read from a whole block: one that is cut short is refused. Batch data of another list that fits these operations, or a\nchanged byte that leaves a good block, is not noticed: only batching the list again would show it.\n",
+        b"show FILE [OFFSET]: prints the batches of the block that starts at byte OFFSET of FILE (0 where none is given), under the virtual machine's\nown table; or says on standard error, in one line, what is wrong: the number of the refusal, what it means, and where.\nFor a group it prints its number, the index of its first operation in the block, and the byte of the file where that operation starts.\nThe file may have any size: the 1048576 bytes from OFFSET on are read, and no block is longer than 671742.\nWhat is printed was read from a whole block: one that is cut short is refused. Not noticed: batch data of another list that\nfits these operations, which batching the list again would show; and a changed byte that leaves a good block, which a checksum would show.\n",
     );
 }
 
