@@ -18,14 +18,10 @@ use Rattle.rules.proofs.Answer.{clash, passed, first-append}
 use Rattle.rules.proofs.Operations.{true-left, true-right, length-operations}
 use Rattle.claims.specs.Shape.{All}
 use Rattle.claims.specs.Sizes.{NineAndEight}
-use Rattle.rules.proofs.Slots.{total-split}
+use Rattle.rules.proofs.Slots.{total-split, or-first}
 use Rattle.claims.proofs.Again.{start-at, take-total}
 use Rattle.rules.proofs.Sizes.{length-bytesAt, length-wordsAt}
 use Rattle.claims.proofs.Lists.{all-map}
-
-pub or-first : (m n : ℕ) → orElse m n ≡ 0 → (m ≡ 0) × (n ≡ 0)
-or-first zero n h = (refl, h)
-or-first (suc m) n h = absurd (omega arith)
 
 pub no-cond : (b : Bool) (n : ℕ) → cond b 0 (suc n) ≡ 0 → b ≡ true
 no-cond true n h = refl

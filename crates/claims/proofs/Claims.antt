@@ -1,9 +1,7 @@
 -- All claims, gathered. Assumes nothing.
 use Prim.Native.Nat.{ℕ}
-use Rattle.rules.specs.Operations.{Op}
 use Rattle.rules.specs.Batching.{batchesOf}
-use Rattle.rules.specs.Record.{Block, blockOf}
-use Rattle.rules.specs.Block.{Room}
+use Rattle.rules.specs.Record.{blockOf}
 use Rattle.claims.specs.Claims.{Claims}
 use Rattle.claims.proofs.Right.{Width, width-8, width-4}
 use Rattle.claims.proofs.Ended.{ended-count}

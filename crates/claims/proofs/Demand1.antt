@@ -23,7 +23,7 @@ use Rattle.rules.specs.Functions.{Arena, arena, blockIn, within, filled, roomFo
 use Rattle.rules.proofs.Answer.{first-append}
 use Rattle.rules.proofs.Runs.{zeros-fitted}
 use Rattle.claims.proofs.Again.{count-limit, batchCount-limit}
-use Rattle.claims.specs.Demand1.{Refusal, _of_, OneOf, Replies, zeros, ops, batches, buildRefusals, encodeRefusals, decodeRefusals, headRefusals, told, toldBatches, countRefusals, opRefusals, structureRefusals, paddingRefusals, commitmentRefusals, tableRefusals, lookupRefusals, Demand1}
+use Rattle.claims.specs.Demand1.{Refusal, OneOf, Replies, zeros, ops, batches, buildRefusals, encodeRefusals, decodeRefusals, headRefusals, told, toldBatches, countRefusals, opRefusals, structureRefusals, paddingRefusals, commitmentRefusals, tableRefusals, lookupRefusals, Demand1}
 
 -- ---- answers whose results have one property, and whose refusals another
 

@@ -2,19 +2,17 @@
 use mathlib.Core.Path.{_≡_, refl, sym, ap, _∙_}
 use mathlib.Core.List.{List, [], _∷_, _++_, append-assoc, append-nil, map}
 use mathlib.Core.Bool.{Bool, true, false, cond, not}
-use Prim.Native.Nat.{ℕ, suc, _+_, _-_, _*_, _≤_, _<_}
+use Prim.Native.Nat.{ℕ, _+_, _-_, _*_, _≤_}
 use native.Mathlib.Omega.{arith}
 use borrow.Author.Tests.{le-ltb, eq-eqb, ne-eqb}
-use lib.ListN.{length, getD, length-append, length-map, take, drop}
+use lib.ListN.{length, length-append, length-map, take, drop}
 use lib.Seq.{take-append-seam, drop-append-seam}
 use lib.Dec.{ltb, eqb}
 use Rattle.rules.specs.Lists.{total, every, butLast}
-use Rattle.rules.specs.Digits.{leBytes}
 use Rattle.rules.specs.Answer.{Answer, good, found, refuse, refuseFirst}
-use Rattle.rules.specs.Operations.{Op, codes, values, noop, hasImmediate, goodTable, valued, admissible, opFault}
+use Rattle.rules.specs.Operations.{Op, codes, values, noop, hasImmediate, goodTable, admissible, opFault}
 use Rattle.rules.specs.Batching.{Group, ops, imm, ended, Work, start, endBatch, steps, batchesOf}
 use Rattle.rules.specs.Record.{Record, Block, opsIn, opsOf, paddedOf, recordOf, blockOf}
-use Rattle.rules.specs.Bytes.{more, opBytes, opsBytes}
 use Rattle.rules.specs.Block.{Room, blockBytes}
 use Rattle.rules.specs.Checks.{ninth, recordRight, structureFaults}
 use Rattle.rules.specs.Functions.{Arena, blockIn, within, roomFor, built, encoded, decoded}
@@ -22,7 +20,6 @@ use Rattle.rules.specs.Examples.{tableT, op}
 use Rattle.rules.specs.Open.{document}
 use Rattle.rules.proofs.Answer.{first-turn, first-append, first-done}
 use Rattle.rules.proofs.Operations.{Admissible, to-admissible, fault-none, noop-kind, noop-plain, codes-back, true-left, true-right}
-use Rattle.rules.proofs.Digits.{length-digits}
 use Rattle.claims.specs.Shape.{All, EndsInNoop, PowerOfTwo, is1, is2, is4, is8}
 use Rattle.claims.proofs.Shape.{rawIn, raw, raws, RightGroup, RightBatch, RightBatches}
 use Rattle.claims.specs.Finished.{Bytes}
@@ -37,7 +34,7 @@ use Rattle.claims.proofs.Once.{block-taken}
 use Rattle.claims.proofs.Arena.{block-in, lent-within, roomed, front-lent}
 use Rattle.claims.proofs.Again.{Encodable, encodable}
 use Rattle.claims.proofs.Back.{Writable, block-back}
-use Rattle.rules.proofs.Sizes.{length-codes, length-values, length-count, length-nibbles, length-flags}
+use Rattle.rules.proofs.Sizes.{length-codes, length-values}
 
 noop-admissible : (t : List ℕ) → goodTable t ≡ true → Admissible t noop
 unfolding noop

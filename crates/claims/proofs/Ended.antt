@@ -9,7 +9,7 @@ use lib.ListN.{length, length-append, length-map}
 use lib.Dec.{leb}
 use Rattle.rules.specs.Batching.{Batch, nextFree, groups, turned, target, turnedTimes, ended}
 use Rattle.claims.specs.Shape.{PowerOfTwo, is1, is2, is4, is8}
-use Rattle.claims.specs.Sizes.{Least, EndedCount}
+use Rattle.claims.specs.Sizes.{EndedCount}
 
 -- ---- the target
 

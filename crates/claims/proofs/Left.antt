@@ -17,6 +17,7 @@ use Rattle.rules.specs.Checks.{Held, heldFrom, held, ninth}
 use Rattle.rules.specs.Lookups.{marksIn, marksOf, marks}
 use Rattle.rules.proofs.Operations.{noop-plain}
 use Rattle.rules.proofs.Runs.{fitted-length, fitted-zeros}
+use Rattle.rules.proofs.Sizes.{marks-in}
 use Rattle.claims.specs.Shape.{All}
 use Rattle.claims.proofs.Shape.{rawIn, raw, raws, RightGroup, Follow, RightBatch, RightBatches}
 use Rattle.claims.specs.Left.{unmarked, Counts, endsInImmediate, LeftGroup, Flagged, plain, padding, AllFlagged, together, allHeld, LeftBatch, Left}
@@ -26,11 +27,6 @@ use Rattle.claims.proofs.Back.{differences-starts, fitted-is, part-at, 
 use Rattle.claims.proofs.Again.{start-at}
 
 -- ---- marks
-
-marks-in : (n f : ℕ) → length (marksIn n f) ≡ n
-unfolding marksIn
-marks-in zero f = refl
-marks-in (suc n) f = length-append (replicate n false) (eqb f 1 ∷ []) ∙ omega (arith, length-replicate {A = Bool} n false)
 
 none-marked : (xs : List Op) → unmarked (marksIn (length xs) 0) xs ≡ xs
 unfolding marksIn

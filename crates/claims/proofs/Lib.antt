@@ -1,3 +1,4 @@
+pub mod One
 pub mod Shape
 pub mod Lists
 pub mod Stands

@@ -16,13 +16,13 @@ use Rattle.rules.specs.Checks.{ninth, recordRight, heldFrom, held, begins, grou
 use Rattle.rules.specs.Functions.{Arena, blockIn}
 use Rattle.rules.proofs.Operations.{Admissible, to-admissible, true-left, true-right}
 use Rattle.rules.proofs.Sizes.{length-codes}
+use Rattle.rules.proofs.Slots.{or-first, part-some}
 use Rattle.claims.specs.Shape.{All}
 use Rattle.claims.specs.Sizes.{NineAndEight}
 use Rattle.claims.specs.OneList.{SameOp, SameOps, OneList}
 use Rattle.claims.proofs.Bytes.{digits-number}
 use Rattle.claims.proofs.Again.{codes-below, part-allowed}
-use Rattle.claims.proofs.Checked.{or-first, group-right, made, facts, shaped-in}
-use Rattle.claims.proofs.Passes.{part-some}
+use Rattle.claims.proofs.Checked.{group-right, made, facts, shaped-in}
 
 false-true : _≡_ {A = Bool} false true → ⊥
 false-true h = let z : _≡_ {A = ℕ} 1 0 = ap (λ (b : Bool). cond b 0 1) h in omega arith

@@ -14,7 +14,7 @@ use Rattle.rules.specs.Operations.{Op, opFault, admissible}
 use Rattle.rules.specs.Batching.{batchesOf}
 use Rattle.rules.specs.Record.{Record, Block, differences, codesNumber, recordBy, blockOf, part, cut, immediates}
 use Rattle.rules.specs.Block.{Room, blockBytes, batchAt, batchesAt}
-use Rattle.rules.proofs.Slots.{emptyBefore, slots, batchBy, batch-is, total-split, cut-front}
+use Rattle.rules.proofs.Slots.{emptyBefore, slots, batchBy, batch-is, total-split, cut-front, part-some}
 use Rattle.rules.specs.Checks.{Held, heldFrom, held, paddingFault, paddingFaults, placingFault, begins, groupsFault, emptyZero, commitmentFault, commitmentFaults, paddingRight}
 use Rattle.rules.specs.Functions.{roomFor, decoded, structureChecked, paddingChecked, commitmentChecked}
 use Rattle.rules.proofs.Answer.{settle}
@@ -30,10 +30,6 @@ use Rattle.claims.proofs.Demand3.{none-first, ops-pass, structure-passe
 use Rattle.claims.proofs.Lists.{all-map}
 
 -- ---- the numbers that the walk over the slots finds are those that the check wants
-
--- a group that lies within the operations is not empty
-pub part-some : (n : ℕ) (xs : List Op) (at : ℕ) → at + suc n ≤ length xs → 1 ≤ length (part (suc n) xs at)
-part-some n xs at h = omega (arith, length-take (suc n) (drop at xs), length-drop at xs)
 
 begins-same : (v : ℕ) (vs : List ℕ) (ns : List ℕ) → begins ns vs ≡ true → begins (v ∷ ns) (v ∷ vs) ≡ true
 unfolding begins

@@ -5,12 +5,12 @@ use mathlib.Core.Bool.{Bool, true, false, cond}
 use Prim.Native.Nat.{ℕ, zero, suc, _+_, _-_, _≤_}
 use native.Mathlib.Omega.{arith}
 use borrow.Author.Tests.{lt-ltb, le-ltb, le-leb, lt-leb, ltb-true, ltb-false, leb-true}
-use lib.ListN.{length, length-append, length-map}
+use lib.ListN.{length, length-append}
 use lib.Dec.{leb, ltb}
 use Rattle.rules.specs.Operations.{Op, hasImmediate, noop}
 use Rattle.rules.specs.Batching.{Group, ops, imm, Batch, empty, nextFree, fits, wantsNoop, closeGroup, groups, turned, full, ready, joined, added, target, turnedTimes, ended, Work, start, endBatch, room, step, steps, batchesOf}
 use Rattle.rules.specs.Record.{immediates}
-use Rattle.claims.specs.Shape.{All, EndsInNoop, PowerOfTwo, is1, is2, is4, is8}
+use Rattle.claims.specs.Shape.{All, EndsInNoop}
 use Rattle.claims.proofs.Shape.{raw, RightGroup, Follow, RightBatch, RightBatches}
 use Rattle.claims.proofs.Lists.{all-append, split}
 use Rattle.claims.proofs.Batching.{raw-groups, raw-ended}

@@ -15,7 +15,7 @@ use Rattle.rules.specs.Operations.{Op}
 use Rattle.rules.specs.Record.{Record, Block, differences, codesNumber, recordBy, part, cut, immediates}
 use Rattle.rules.specs.Bytes.{upTo}
 use Rattle.rules.specs.Block.{countFrom, blockBytes, batchAt, batchesAt}
-use Rattle.rules.proofs.Slots.{emptyBefore, slots, before, counted, counted-most, found-counts, batchBy, batch-is, total-split, length-cut}
+use Rattle.rules.proofs.Slots.{emptyBefore, slots, before, counted, counted-most, found-counts, batchBy, batch-is, total-split, length-cut, before-is, or-first, part-some}
 use Rattle.rules.specs.Checks.{ninth, recordRight, heldFrom, held, paddingFault, placingFault, begins, groupsFault, emptyZero, commitmentFault, endsInNoop, paddingRight}
 use Rattle.rules.specs.Functions.{Arena, blockIn, paddingChecked, commitmentChecked}
 use Rattle.rules.specs.Open.{document}
@@ -27,8 +27,8 @@ use Rattle.claims.proofs.Back.{sizesOf, Wire, read-back}
 use Rattle.claims.proofs.Arena.{roomed}
 use Rattle.claims.proofs.Demand3.{written-in}
 use Rattle.claims.proofs.Again.{laid, laid-front}
-use Rattle.claims.proofs.Checked.{or-first, no-cond, group-right, Made, made, Facts, facts, no-padding-fault, limits, shaped-in}
-use Rattle.claims.proofs.Passes.{part-some, Right, here}
+use Rattle.claims.proofs.Checked.{no-cond, group-right, Made, made, Facts, facts, no-padding-fault, limits, shaped-in}
+use Rattle.claims.proofs.Passes.{Right, here}
 use Rattle.claims.proofs.Lists.{all-map}
 
 -- ---- the slots that the commitment check found right are those that decoding takes
@@ -46,12 +46,6 @@ module _ (t : List ℕ) (b : ℕ) where
   no-slots [] xs at h = refl
   no-slots (zero ∷ ns) xs at h = rw (no-slots ns xs at (omega arith))
   no-slots (suc n ∷ ns) xs at h = absurd (omega arith)
-
-  before-is : (k : ℕ) (vs : List ℕ) → k ≤ length vs → emptyBefore (take k vs) ≡ take (before k) (0 ∷ vs)
-  unfolding emptyBefore
-  before-is zero vs h = refl
-  before-is (suc k) [] h = absurd (omega arith)
-  before-is (suc k) (v ∷ vs) h = refl
 
   -- a check that passed, taken apart one group further on
 

@@ -4,11 +4,10 @@
 use mathlib.Core.Path.{_≡_}
 use mathlib.Core.Bool.{true}
 use mathlib.Core.List.{List, [], _∷_, _++_, map}
-use Prim.Native.Nat.{ℕ, zero, suc, _+_, _≤_}
+use Prim.Native.Nat.{ℕ, _+_, _≤_}
 use lib.ListN.{length, take, drop, replicate}
 use Rattle.rules.specs.Answer.{good, found}
-use Rattle.rules.specs.Operations.{Op}
-use Rattle.rules.specs.Record.{Record, Block, differences, recordBy, immediates}
+use Rattle.rules.specs.Record.{Record, Block, differences, recordBy}
 use Rattle.rules.specs.Block.{Room, countFrom, blockBytes}
 use Rattle.rules.specs.Checks.{Held, held}
 use Rattle.rules.specs.Functions.{Arena, blockIn, roomFor, encoded, decoded, paddingChecked, commitmentChecked}

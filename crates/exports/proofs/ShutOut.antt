@@ -2,11 +2,11 @@
 use mathlib.Core.Path.{refl}
 use Rattle.rules.specs.Open.{document}
 use Rattle.crossing.specs.Words.{wordsIn}
-use Rattle.exports.specs.Replies.{roomBytes, filledBytes, inWhole, oneRecord}
+use Rattle.exports.specs.Replies.{roomBytes, filledBytes, inWhole, wholeWords, oneRecord}
 use Rattle.exports.specs.ShutOut.{ShutOut}
 
 pub shut-out : ShutOut
-unfolding document roomBytes filledBytes inWhole oneRecord wordsIn
+unfolding document roomBytes filledBytes inWhole wholeWords oneRecord wordsIn
 shut-out =
     record {
       oli-build = λ r after h. (h .reply, h .runs);
@@ -16,15 +16,21 @@ shut-out =
       oli-padded-table = λ r after h. (h .reply, h .left);
       oli-build-le = λ r after h. (h .reply, h .runs);
       oli-decode-le = λ r after h. (h .reply, h .runs);
+      oli-encode-le = λ r after h. (h .reply, h .bytes);
+      oli-raw-table-le = λ r after h. (h .reply, h .left);
       oli-padded-table-le = λ r after h. (h .reply, h .left);
       oli-head = (refl, refl);
       passed = (refl, refl, refl);
       oli-structure = refl;
       oli-padding = refl;
       oli-commitment = refl;
+      oli-structure-le = refl;
+      oli-padding-le = refl;
+      oli-commitment-le = refl;
       oli-padded-index = (refl, refl);
       oli-raw-index = (refl, refl);
       oli-padded-index-le = refl;
+      oli-raw-index-le = refl;
       oli-group = refl;
       oli-next-group = refl;
     }

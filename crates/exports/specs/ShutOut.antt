@@ -5,7 +5,6 @@ use mathlib.Core.List.{List, [], _∷_, _++_}
 use Prim.Native.Nat.{ℕ}
 use lib.ListN.{replicate}
 use Rattle.rules.specs.Record.{recordAt, recordsBytes, recordBytes, wordBytes}
-use Rattle.rules.specs.Block.{Room}
 use Rattle.rules.specs.Lookups.{rawAt, paddedAt, paddedIndex, rawIndex}
 use Rattle.rules.specs.Functions.{Arena, arena, built, encoded, decoded, headed, structureChecked, paddingChecked, commitmentChecked, rawTabled, paddedTabled, groupLookup, nextLookup}
 use Rattle.rules.specs.Examples.{tableT, is, lent, p1, p2}
@@ -14,7 +13,7 @@ use Rattle.exports.specs.declared.BuildReply.{BuildReply}
 use Rattle.exports.specs.declared.EncodeReply.{EncodeReply}
 use Rattle.exports.specs.declared.DecodeReply.{DecodeReply}
 use Rattle.exports.specs.declared.TableReply.{TableReply}
-use Rattle.exports.specs.Replies.{Builds, Writes, Reads, Tables, BuildsBytes, ReadsBytes, TablesBytes, headReply, checkReply, paddedReply, rawReply, oneRecord, inWhole, groupReply, nextReply}
+use Rattle.exports.specs.Replies.{Builds, Writes, Reads, Tables, BuildsBytes, ReadsBytes, TablesBytes, headReply, checkReply, paddedReply, rawReply, oneRecord, wholeWords, inWhole, groupReply, nextReply}
 
 abbrev pub nines : ℕ → List ℕ
 nines n = replicate n 9
@@ -57,6 +56,11 @@ pub record ShutOut : Type 0 where
       → (r ≡ record { number = 0; place = 0; batches = 1; operations = 2 }) × (after ≡ arena codesLeft (5 ∷ replicate 24 0) recordsLeft)
   pub oli-decode-le : (r : DecodeReply) (after : Arena) → ReadsBytes (decoded 8 tableT p2 0) 0 r bytes after
       → (r ≡ record { number = 0; place = 0; batches = 1; operations = 2; used = 20 }) × (after ≡ arena codesLeft (5 ∷ replicate 24 0) recordsLeft)
+  pub oli-encode-le : (r : EncodeReply) (after : List ℕ)
+      → Writes (wholeWords (wordBytes (5 ∷ 0 ∷ [])) (encoded 8 tableT (arena (1 ∷ 0 ∷ []) (wordsIn (wordBytes (5 ∷ 0 ∷ []))) (recordsBytes (p1 .records))) 30 3)) 3 r (nines 30) after
+      → (r ≡ record { number = 0; place = 0; length = 20 }) × (after ≡ nines 3 ++ (p2 ++ nines 7))
+  pub oli-raw-table-le : (r : TableReply) (after : List ℕ) → TablesBytes (rawTabled 8 (lent p1) 4) r (nines 33) after
+      → (r ≡ record { number = 0; place = 0; entries = 2 }) × (after ≡ wordBytes (0 ∷ 1 ∷ 0 ∷ 0 ∷ []) ++ (0 ∷ []))
   pub oli-padded-table-le : (r : TableReply) (after : List ℕ) → TablesBytes (paddedTabled 8 (lent p1) 4) r (nines 33) after
       → (r ≡ record { number = 0; place = 0; entries = 3 }) × (after ≡ wordBytes (0 ∷ 0 ∷ 1 ∷ 0 ∷ []) ++ (0 ∷ []))
   pub oli-head : (headReply (headed tableT p2 0) ≡ record { number = 0; place = 0; batches = 1; operations = 2 }) × (headReply (headed tableT p2 20) ≡ record { number = 2; place = 20; batches = 0; operations = 0 })
@@ -67,9 +71,14 @@ pub record ShutOut : Type 0 where
   pub oli-structure : checkReply (structureChecked 8 (second (replicate 8 0) (2 ∷ replicate 7 0) 9)) ≡ record { number = 15; place = 1 }
   pub oli-padding : checkReply (paddingChecked 8 (second (1 ∷ replicate 7 0) (2 ∷ replicate 7 0) 1)) ≡ record { number = 10; place = 1 }
   pub oli-commitment : checkReply (commitmentChecked 8 tableT (second (replicate 8 0) (3 ∷ replicate 7 0) 1)) ≡ record { number = 16; place = 1 }
+  -- over bytes, where values that are not whole numbers are refused first
+  pub oli-structure-le : checkReply (wholeWords (nines 9) (structureChecked 8 (lent p1))) ≡ record { number = 3; place = 0 }
+  pub oli-padding-le : checkReply (wholeWords (nines 24) (paddingChecked 8 (second (1 ∷ replicate 7 0) (2 ∷ replicate 7 0) 1))) ≡ record { number = 10; place = 1 }
+  pub oli-commitment-le : checkReply (wholeWords (nines 24) (commitmentChecked 8 tableT (second (replicate 8 0) (3 ∷ replicate 7 0) 1))) ≡ record { number = 16; place = 1 }
   -- lookups in P1's tables, over numbers and over bytes, and in one batch
   pub oli-padded-index : (paddedReply (paddedIndex (0 ∷ 1 ∷ []) (rawAt 1)) ≡ record { found = 1; index = 2 }) × (paddedReply (paddedIndex (0 ∷ 1 ∷ []) (rawAt 2)) ≡ record { found = 0; index = 0 })
   pub oli-raw-index : (rawReply (rawIndex (0 ∷ 0 ∷ 1 ∷ []) (paddedAt 2)) ≡ record { found = 1; index = 1 }) × (rawReply (rawIndex (0 ∷ 0 ∷ 1 ∷ []) (paddedAt 3)) ≡ record { found = 0; index = 0 })
   pub oli-padded-index-le : paddedReply (inWhole (wordBytes (0 ∷ 1 ∷ [])) (paddedIndex (wordsIn (wordBytes (0 ∷ 1 ∷ []))) (rawAt 1))) ≡ record { found = 1; index = 2 }
+  pub oli-raw-index-le : rawReply (inWhole (wordBytes (0 ∷ 0 ∷ 1 ∷ [])) (rawIndex (wordsIn (wordBytes (0 ∷ 0 ∷ 1 ∷ []))) (paddedAt 2))) ≡ record { found = 1; index = 1 }
   pub oli-group : groupReply (oneRecord threeGroups (groupLookup 8 (recordAt threeGroups 0) 9)) ≡ record { number = 0; place = 0; found = 1; group = 2; position = 0 }
   pub oli-next-group : nextReply (oneRecord threeGroups (nextLookup 8 (recordAt threeGroups 0) 0)) ≡ record { number = 0; place = 0; found = 1; group = 2 }

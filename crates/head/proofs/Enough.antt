@@ -11,11 +11,10 @@ use lib.Count.{trailingZeros}
 use Rattle.rules.specs.Digits.{leAt}
 use Rattle.rules.specs.Answer.{Answer, good, refused, refuse, Read, found, _then_}
 use Rattle.rules.specs.Operations.{Op, goodTable, assigned, valued, field}
-use Rattle.rules.specs.Record.{Block}
 use Rattle.rules.specs.Bytes.{least, countBy, countAt, valueAt, opAt, opsAt, batchCountAt}
 use Rattle.rules.specs.Block.{Room, Head, headAt, blockAt}
 use Rattle.rules.specs.Functions.{most, decoded, headed}
-use Rattle.rules.proofs.Answer.{clash, passed, came, item}
+use Rattle.rules.proofs.Answer.{passed, came, item}
 use Rattle.decoder.specs.Stages.{IfFound}
 use Rattle.decoder.proofs.Stages.{if-then, held}
 use Rattle.head.specs.Enough.{Enough}

@@ -19,11 +19,12 @@ use Rattle.rules.specs.Functions.{Arena, blockIn, within, structureChecked, tab
 use Rattle.rules.proofs.Answer.{passed, value, no-fault, all-passed}
 use Rattle.rules.proofs.Operations.{length-operations}
 use Rattle.rules.proofs.Runs.{fitted-front}
+use Rattle.rules.proofs.Sizes.{marks-in}
 use Rattle.op_batch.proofs.Right.{Sound, sound, rise, starts-length, flags-length}
 use Rattle.checks.proofs.Walk.{equal-lengths, few-codes}
 use Rattle.checks.proofs.Passed.{checked}
 use Rattle.prefix.specs.Tables.{marksAt, tabledOf, Answered}
-use Rattle.prefix.specs.declared.Tabled.the-variants.{Made, Refused}
+use Rattle.prefix.specs.declared.Tabled.the-variants.{Made}
 use Rattle.prefix.specs.Claims.{raws, placeOf, TablesLead, AllMarked, TablesLeft}
 use Rattle.prefix.proofs.Entries.{marks-turn, marks-end}
 
@@ -145,11 +146,6 @@ tables-lead b l =
     }
 
 -- ---- each operation has a mark
-
-marks-in : (n f : ℕ) → length (marksIn n f) ≡ n
-unfolding marksIn
-marks-in zero f = refl
-marks-in (suc n) f = omega (arith, length-append (replicate n false) (eqb f 1 ∷ []), length-replicate {A = Bool} n false)
 
 module _ (r : Record) (s : length (r .starts) ≡ 9) (f : length (r .flags) ≡ 8) (x : Sound 8 r) where
   batch-marks : (k g : ℕ) → g + k ≡ 8 → length (marksAt r g) + getD (r .starts) g 0 ≡ ninth r

@@ -1,13 +1,16 @@
 -- How long the parts of a block are. Assumes nothing.
 use mathlib.Core.Path.{_≡_, refl, ap, _∙_}
+use mathlib.Core.Bool.{Bool, false}
 use mathlib.Core.List.{List, [], _∷_}
 use Prim.Native.Nat.{ℕ, zero, suc, _+_, _*_, _^_, _≤_, _<_}
 use native.Mathlib.Omega.{arith}
 use borrow.Author.Tests.{lt-ltb, le-ltb}
-use lib.ListN.{length, length-append, length-map}
+use lib.ListN.{length, replicate, length-append, length-map, length-replicate}
+use lib.Dec.{eqb}
 use Rattle.rules.specs.Digits.{number, leBytes}
 use Rattle.rules.specs.Operations.{Op, codes, values}
 use Rattle.rules.specs.Record.{Record, startsFrom, differences, wordBytes, bytesAt, wordsAt}
+use Rattle.rules.specs.Lookups.{marksIn}
 use Rattle.rules.specs.Bytes.{more, countBytes, nibbleBytes, flagBytes}
 use Rattle.rules.proofs.Digits.{length-leBytes}
 
@@ -70,3 +73,10 @@ pub length-flags : (rs : List Record) → length (flagBytes rs) ≡ length rs
 unfolding flagBytes
 length-flags [] = refl
 length-flags (r ∷ rs) = ap suc (length-flags rs)
+
+-- ---- marks: one for each operation of a group
+
+pub marks-in : (n f : ℕ) → length (marksIn n f) ≡ n
+unfolding marksIn
+marks-in zero f = refl
+marks-in (suc n) f = omega (arith, length-append (replicate n false) (eqb f 1 ∷ []), length-replicate {A = Bool} n false)

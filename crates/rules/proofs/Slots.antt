@@ -10,7 +10,7 @@ use borrow.Author.Tests.{le-ltb, lt-ltb}
 use lib.ListN.{length, take, drop, replicate, length-take, length-drop}
 use lib.Dec.{ltb}
 use Rattle.rules.specs.Lists.{fitted, total}
-use Rattle.rules.specs.Answer.{Answer, good, refused, Read, found, refuse, refuseFirst, _then_}
+use Rattle.rules.specs.Answer.{Answer, refused, Read, found, refuse, refuseFirst, _then_}
 use Rattle.rules.specs.Operations.{Op}
 use Rattle.rules.specs.Record.{Record, part, cut, immediates, codesNumber, recordBy}
 use Rattle.rules.specs.Checks.{orElse, placingFault, paddingRight}
@@ -41,12 +41,27 @@ batchBy w t xs at b ns fs =
     refuse (not (paddingRight (take (length vs) (cut ns xs at)) fs)) 10 b
     (found (recordBy ns fs vs) end))
 
+-- where neither of two is at fault
+pub or-first : (m n : ℕ) → orElse m n ≡ 0 → (m ≡ 0) × (n ≡ 0)
+or-first zero n h = (refl, h)
+or-first (suc m) n h = absurd (omega arith)
+
+-- a group that lies within the operations is not empty
+pub part-some : (n : ℕ) (xs : List Op) (at : ℕ) → at + suc n ≤ length xs → 1 ≤ length (part (suc n) xs at)
+part-some n xs at h = omega (arith, length-take (suc n) (drop at xs), length-drop at xs)
+
 -- ---- the count, group by group
 
 -- one more than a count, unless nothing counts
 abbrev pub before : ℕ → ℕ
 before zero = zero
 before (suc n) = suc (suc n)
+
+pub before-is : (k : ℕ) (vs : List ℕ) → k ≤ length vs → emptyBefore (take k vs) ≡ take (before k) (0 ∷ vs)
+unfolding emptyBefore
+before-is zero vs h = refl
+before-is (suc k) [] h = absurd (omega arith)
+before-is (suc k) (v ∷ vs) h = refl
 
 -- of groups whose first k hold immediates
 unfoldable pub counted : List ℕ → ℕ → List (List Op) → ℕ
@@ -77,10 +92,6 @@ module _ (t : List ℕ) where
   placed-count (suc k) ([] ∷ gs) h = omega (arith, placed-count k gs h)
   placed-count (suc k) ((x ∷ xs) ∷ gs) h = absurd (omega arith)
 
-  or-zero : (m n : ℕ) → orElse m n ≡ 0 → (m ≡ 0) × (n ≡ 0)
-  or-zero zero n h = (refl, h)
-  or-zero (suc m) n h = absurd (omega arith)
-
   Due : ℕ → ℕ → ℕ → Type 0
   Due n i zero = Unit {0}
   Due n i (suc k) = n ≡ i + suc k
@@ -103,7 +114,7 @@ module _ (t : List ℕ) where
       down (suc k) e = e
   count-reach ((x ∷ xs) ∷ gs) i n zero d h z =
       let m = length (immediates t (x ∷ xs)) in
-      let q = or-zero (placingFault m gs) (placingsFault t gs) z in
+      let q = or-first (placingFault m gs) (placingsFault t gs) z in
       count-reach gs (i + 1) (i + 1 + m) m (due-from (i + 1) m) (q .0) (q .1) ∙ reach-one (i + 1 + m) i m (counted t m gs) refl (placed-count m gs (q .0))
   count-reach ((x ∷ xs) ∷ gs) i n (suc k) d h z = absurd (omega arith)
 
@@ -141,15 +152,9 @@ module _ (t : List ℕ) where
   abbrev under : List ℕ → List (List Op) → List ℕ
   under due gs = take (counted t (length due) gs) (numbersFrom t due gs)
 
-  gap-is : (c : ℕ) (vs : List ℕ) → c ≤ length vs → take (before c) (0 ∷ vs) ≡ emptyBefore (take c vs)
-  unfolding emptyBefore
-  gap-is zero vs h = refl
-  gap-is (suc c) [] h = absurd (omega arith)
-  gap-is (suc c) (v ∷ vs) h = refl
-
   under-gap : (gs : List (List Op)) → under [] ([] ∷ gs) ≡ emptyBefore (under [] gs)
   unfolding numbersFrom counted
-  under-gap gs = gap-is (counted t 0 gs) (numbersFrom t [] gs) (omega (arith, counted-most 0 gs, length-numbers [] gs))
+  under-gap gs = sym (before-is (counted t 0 gs) (numbersFrom t [] gs) (omega (arith, counted-most 0 gs, length-numbers [] gs)))
 
   -- a list, and zeros after it
   record Zeros (short long : List ℕ) : Type 0 where
@@ -187,10 +192,6 @@ module _ (t : List ℕ) where
   faulted-then b zero a e f = refl
   faulted-then b (suc n) a e f = refl
 
-  -- a group that lies within the operations is not empty
-  some : (n : ℕ) (xs : List Op) (at : ℕ) → at + suc n ≤ length xs → 1 ≤ length (part (suc n) xs at)
-  some n xs at h = omega (arith, length-take (suc n) (drop at xs), length-drop at xs)
-
   fault-group : (k : ℕ) (g : List Op) (gs : List (List Op)) → 1 ≤ length g → placingFault (suc k) (g ∷ gs) ≡ 9
   unfolding placingFault
   fault-group k [] gs h = absurd (omega arith)
@@ -218,9 +219,9 @@ module _ (t : List ℕ) where
         let g = part (suc n) xs at in
         let gs = cut ns xs (at + suc n) in
         let e : at + (suc n + total ns) ≡ at + suc n + total ns = omega arith in
-        rw (e, under-group g gs (some n xs at (omega arith)), slots-are ns (immediates t g) xs (at + suc n) (omega arith))
+        rw (e, under-group g gs (part-some n xs at (omega arith)), slots-are ns (immediates t g) xs (at + suc n) (omega arith))
         (faulted-then b (orElse (placingFault (length (immediates t g)) gs) (placingsFault t gs)) (under (immediates t g) gs) (at + suc n + total ns) _)
-    slots-are (suc n ∷ ns) (v ∷ due) xs at h = rw (fault-group (length due) (part (suc n) xs at) (cut ns xs (at + suc n)) (some n xs at (omega arith)))
+    slots-are (suc n ∷ ns) (v ∷ due) xs at h = rw (fault-group (length due) (part (suc n) xs at) (cut ns xs (at + suc n)) (part-some n xs at (omega arith)))
 
     -- where the walk finds numbers, the count is as document 01 says it
     pub found-counts : (ns : List ℕ) (xs : List Op) (at : ℕ) (vs : List ℕ) (end : ℕ) → at + total ns ≤ length xs → slots t b ns [] xs at ≡ found vs end

@@ -3,7 +3,7 @@ use mathlib.Core.Path.{_≡_, ap}
 use mathlib.Core.List.{List}
 use Prim.Native.Nat.{ℕ, suc}
 use native.Mathlib.Omega.{arith}
-use lib.ListN.{getD, replicate}
+use lib.ListN.{getD}
 use Rattle.rules.specs.Open.{document}
 use Rattle.op_batch.specs.declared.Lookup.{Lookup}
 use Rattle.op_batch.specs.declared.Lookup.the-variants as place
@@ -21,7 +21,7 @@ use Rattle.wire.specs.declared.CountRead.{CountRead}
 use Rattle.wire.specs.declared.CountRead.the-variants as count
 use Rattle.wire.specs.declared.OpRead.{OpRead}
 use Rattle.wire.specs.declared.OpRead.the-variants as one
-use Rattle.tight.specs.Lookups.{RawTable, PaddedTable, ToPadded, ToRaw, GroupOf, NextOf, HeadOf, CountOf, OpOf, threeGroups, wrongCount, ShutOut}
+use Rattle.tight.specs.Lookups.{ShutOut}
 
 -- ---- a reply by numbers: 0 where it refuses or finds nothing, one more than the number that it tells
 

@@ -1,11 +1,7 @@
 -- One answer for each input. Assumes nothing.
-use mathlib.Core.Path.{_≡_, sym, _∙_}
-use Rattle.claims.specs.One.{Only}
+use mathlib.Core.Path.{sym, _∙_}
+use Rattle.claims.proofs.One.{equal}
 use Rattle.tight.specs.OneAnswer.{OneAnswer}
-
--- a contract that says what the reply equals
-equal : {A : Type 0} (answer : A) → Only (λ r. r ≡ answer)
-equal answer r q h k = h ∙ sym k
 
 pub one-answer : OneAnswer
 one-answer =

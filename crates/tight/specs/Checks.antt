@@ -1,11 +1,11 @@
 -- Wrong checks that the contracts of `structure`, `padding` and `commitment` shut out, each at a named input.
 use mathlib.Core.Path.{_≡_}
-use mathlib.Core.List.{List, [], _∷_, _++_}
+use mathlib.Core.List.{[], _∷_}
 use Prim.Native.Nat.{ℕ}
 use lib.ListN.{replicate}
 use Rattle.rules.specs.Record.{Record, Block}
 use Rattle.rules.specs.Functions.{structureChecked, paddingChecked, commitmentChecked}
-use Rattle.rules.specs.Examples.{tableT, op, is, block, lent, p1, p7more, pushes}
+use Rattle.rules.specs.Examples.{tableT, is, block, lent, p1, p7more}
 use Rattle.operation.specs.declared.Verdict.{Verdict}
 use Rattle.operation.specs.declared.Verdict.the-variants.{Passed, Refused}
 use Rattle.operation.specs.Verdict.{verdictOf}
