@@ -12,8 +12,8 @@ use Rattle.rules.specs.Lists.{total}
 use Rattle.rules.specs.Answer.{Answer, good, refused, refuse, refuseFirst}
 use Rattle.rules.specs.Operations.{operations, goodTable, opFault}
 use Rattle.rules.specs.Record.{Record, recordAt, recordsFrom, recordsIn}
-use Rattle.rules.specs.Checks.{ninth, recordRight, structureFaults, paddingFaults, commitmentFaults}
-use Rattle.rules.specs.Functions.{Arena, arena, blockIn, within, structureChecked, paddingChecked, commitmentChecked}
+use Rattle.rules.specs.Checks.{ninth, recordRight, structureFaults, paddingFaults}
+use Rattle.rules.specs.Functions.{Arena, arena, blockIn, within, structureChecked, paddingChecked}
 use Rattle.rules.proofs.Answer.{clash, passed, no-fault}
 use Rattle.rules.proofs.Operations.{op, admitted, table-128}
 use Rattle.checks.specs.Batch.{Apt}
@@ -132,21 +132,10 @@ small t (c ∷ cs) (v ∷ vs) e f (suc k) h = small t cs vs (omega arith) (λ j 
 pub apt : (t cs vs : List ℕ) → goodTable t ≡ true → length cs ≡ length vs → _≡_ {A = Answer Unit} (refuseFirst 0 (map (opFault t) (operations cs vs)) (good tt)) (good tt) → Apt t cs
 apt t cs vs g e h = record { table = table-128 t g; codes = small t cs vs e (no-fault 0 (map (opFault t) (operations cs vs)) (good tt) tt h .0) }
 
--- ---- the stages of the commitment check, past its two guards
+-- ---- the structure check and the admissible operations as stages
 
 abbrev pub structureStage : Arena → Answer Unit
 structureStage a = refuseFirst 0 (structureFaults 8 (blockIn a)) (good tt)
 
 abbrev pub admissibleStage : List ℕ → Arena → Answer Unit
 admissibleStage t a = refuseFirst 0 (map (opFault t) (operations (a .codes) (a .values))) (good tt)
-
-abbrev pub commitmentStage : List ℕ → Arena → Answer Unit
-commitmentStage t a = refuseFirst 0 (commitmentFaults t (blockIn a)) (good tt)
-
-pub stages : (t : List ℕ) (a : Arena) → within a ≡ true → goodTable t ≡ true
-    → commitmentChecked 8 t a ≡ andThen (structureStage a) (andThen (admissibleStage t a) (commitmentStage t a))
-unfolding commitmentChecked blockIn
-stages t a h g =
-    rw (h, g)
-    (ap (refuseFirst 0 (structureFaults 8 (blockIn a))) (first-then 0 (map (opFault t) (operations (a .codes) (a .values))) (good tt) (commitmentStage t a))
-    ∙ first-then 0 (structureFaults 8 (blockIn a)) (good tt) (andThen (admissibleStage t a) (commitmentStage t a)))

@@ -10,7 +10,6 @@ use lib.ListN.{length}
 use lib.Dec.{leb, eqb}
 use Rattle.rules.specs.Lists.{total}
 use Rattle.rules.specs.Answer.{Answer, good, refused, refuseFirst}
-use Rattle.rules.specs.Operations.{operations}
 use Rattle.rules.specs.Record.{Record, recordAt, recordsFrom, recordsIn}
 use Rattle.rules.specs.Checks.{ninth, recordRight, structureFaults}
 use Rattle.rules.specs.Functions.{arena, blockIn, within}
