@@ -1,12 +1,14 @@
 // Two checks of a block in a lent arena: structure and padding (document 01, "Checks").
 ghost use mathlib.Core.Path.{_≡_};
+ghost use Prim.Native.Nat.{_≤_};
 ghost use lib.ListN.{length};
 ghost use Rattle.rules.specs.Answer.{good, refuseFirst};
 ghost use Rattle.rules.specs.Checks.{structureFaults, paddingFault, paddingFaults};
 ghost use Rattle.rules.specs.Functions.{arena, blockIn, within, structureChecked, paddingChecked};
 ghost use Rattle.operation.specs.Verdict.{verdictOf};
-ghost use Rattle.checks.specs.Batch.{heldAt, Lies};
+ghost use Rattle.checks.specs.Batch.{heldAt, Structured, Lies};
 use op_batch::RECORD;
+use op_batch::WIDTH;
 use operation::Verdict;
 
 // "3": lists of equal length, at most 65,535 operations, whole records and at most 16,384 of them.
@@ -28,15 +30,15 @@ pub fn within(codes: &[u8], values: &[u64], records: &[u8]) -> bool
 // ---- structure
 
 // The first record that fails the structure test, or their sum: for callers that made sure of equal lengths themselves.
-pub fn structure_fault(codes: &[u8], values: &[u64], records: &[u8]) -> Verdict
-    requires { ⌜ length (now codes) ≡ length (now values) ⌝ }
-    ensures { λ r. ⌜ r ≡ verdictOf (refuseFirst 0 (structureFaults 8 (blockIn (arena (now (codes .entry)) (now (values .entry)) (now (records .entry))))) (good tt)) ⌝ }
+pub fn structure_fault(width: usize, codes: &[u8], values: &[u64], records: &[u8]) -> Verdict
+    requires { ⌜ (width ≤ 8) × (length (now codes) ≡ length (now values)) ⌝ }
+    ensures { λ r. ⌜ r ≡ verdictOf (refuseFirst 0 (structureFaults width (blockIn (arena (now (codes .entry)) (now (values .entry)) (now (records .entry))))) (good tt)) ⌝ }
 {
     let n = records.len() / RECORD;
     let mut sum: usize = 0;
     let mut b: usize = 0;
     while b < n {
-        if !op_batch::record_right(op_batch::WIDTH, records, b) {
+        if !op_batch::record_right(width, records, b) {
             return Verdict::Refused {
                 number: 15,
                 place: b,
@@ -64,7 +66,7 @@ pub fn structure(codes: &[u8], values: &[u64], records: &[u8]) -> Verdict
             place: 0,
         };
     }
-    structure_fault(codes, values, records)
+    structure_fault(WIDTH, codes, values, records)
 }
 
 // ---- padding
@@ -100,7 +102,7 @@ fn batch_padding(codes: &[u8], values: &[u64], records: &[u8], b: usize, from: u
 
 // The first batch with a padding fault, where the arena passed the structure check.
 fn padding_fault(codes: &[u8], values: &[u64], records: &[u8]) -> Verdict
-    requires { ⌜ structureChecked 8 (arena (now codes) (now values) (now records)) ≡ good tt ⌝ }
+    requires { ⌜ Structured (arena (now codes) (now values) (now records)) ⌝ }
     ensures { λ r. ⌜ r ≡ verdictOf (refuseFirst 0 (paddingFaults (blockIn (arena (now (codes .entry)) (now (values .entry)) (now (records .entry))))) (good tt)) ⌝ }
 {
     let n = records.len() / RECORD;

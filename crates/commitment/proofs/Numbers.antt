@@ -65,7 +65,7 @@ module _ (r : Record) (cs vs : List ℕ) (from : ℕ) (x : Lying r cs vs from) (
     pub slot-taken : (getD (r .starts) j 0 ≡ getD (r .starts) (j + 1) 0 → ⊥) → placingFault n (under r (operations cs vs) from j) ≡ 9
     unfolding placingFault
     slot-taken d =
-        let i : j < 8 = omega (arith, x .sound .count) in
+        let i : j < 8 = omega (arith, x .count) in
         let o = in-order r cs vs from x j i in
         let l = within-codes r cs vs from x (j + 1) (omega arith) in
         rw (under-turn r cs vs from x j h, span-turn (from + getD (r .starts) j 0) (from + getD (r .starts) (j + 1) 0) cs vs (omega arith) l (x .equal), one-more)
@@ -130,7 +130,7 @@ module _ (t : List ℕ) (r : Record) (cs vs : List ℕ) (from : ℕ) (x : Lying 
     ahead = rw (a, z) (under-turn r cs vs from x g h)
 
     number-ahead : drop g (r .numbers) ≡ getD (r .numbers) g 0 ∷ drop (g + 1) (r .numbers)
-    number-ahead = rw (add-one g) (drop-cons (r .numbers) g 0 (omega (arith, x .numbers, x .sound .count)))
+    number-ahead = rw (add-one g) (drop-cons (r .numbers) g 0 (omega (arith, x .numbers, x .count)))
 
     module _ (e : i ≡ to) where
       none : span (operations cs vs) i to ≡ []
@@ -160,7 +160,7 @@ module _ (t : List ℕ) (r : Record) (cs vs : List ℕ) (from : ℕ) (x : Lying 
 
       some : span (operations cs vs) i to ≡ op (getD cs i 0) (getD vs i 0) ∷ more
       some =
-          let j : g < 8 = omega (arith, x .sound .count) in
+          let j : g < 8 = omega (arith, x .count) in
           span-turn i to cs vs (omega (arith, in-order r cs vs from x g j)) (omega (arith, within-codes r cs vs from x (g + 1) (omega arith))) (x .equal)
 
       pub empty-skip : (k m : ℕ) → m ≡ length (immediates t (span (operations cs vs) i to)) → emptyLeft t r (operations cs vs) from m (g + 1) ≡ emptyLeft t r (operations cs vs) from k g

@@ -67,7 +67,7 @@ module _ (t : List ℕ) (r : Record) (cs vs : List ℕ) (from : ℕ) (x : Lying 
           → getD (r .numbers) g 0 ≡ codesNumber (span (operations cs vs) i to) → Gone t r cs vs from next (g + 1)
       unfolding owed
       gone-full f p next d l n =
-          let j : g < 8 = omega (arith, x .sound .count) in
+          let j : g < 8 = omega (arith, x .count) in
           let w = all-right t cs vs (r .numbers) (x .equal) (x .numbers) i to (g + 1) (omega (arith, in-order r cs vs from x g j)) (omega (arith, within-codes r cs vs from x (g + 1) (omega arith))) (omega arith) (omega arith) in
           let m : next - (g + 1) ≡ length (immediates t (span (operations cs vs) i to)) = omega (arith, w .next) in
           record {

@@ -12,10 +12,11 @@ use Rattle.checks.proofs.Passed.{andThen, first-then, structureStage, admissibl
 abbrev pub commitmentStage : List ℕ → Arena → Answer Unit
 commitmentStage t a = refuseFirst 0 (commitmentFaults t (blockIn a)) (good tt)
 
-pub stages : (t : List ℕ) (a : Arena) → within a ≡ true → goodTable t ≡ true
-    → commitmentChecked 8 t a ≡ andThen (structureStage a) (andThen (admissibleStage t a) (commitmentStage t a))
+pub stages : (w : ℕ) (t : List ℕ) (a : Arena) → within a ≡ true → goodTable t ≡ true
+    → commitmentChecked w t a ≡ andThen (structureStage w a) (andThen (admissibleStage t a) (commitmentStage t a))
 unfolding commitmentChecked blockIn
-stages t a h g =
+stages w t a h g =
+    let s = structureFaults w (blockIn a) in
     rw (h, g)
-    (ap (refuseFirst 0 (structureFaults 8 (blockIn a))) (first-then 0 (map (opFault t) (operations (a .codes) (a .values))) (good tt) (commitmentStage t a))
-    ∙ first-then 0 (structureFaults 8 (blockIn a)) (good tt) (andThen (admissibleStage t a) (commitmentStage t a)))
+    (ap (refuseFirst 0 s) (first-then 0 (map (opFault t) (operations (a .codes) (a .values))) (good tt) (commitmentStage t a))
+    ∙ first-then 0 s (good tt) (andThen (admissibleStage t a) (commitmentStage t a)))

@@ -7,13 +7,14 @@ ghost use lib.ListN.{length, getD, drop};
 ghost use lib.Dec.{eqb};
 ghost use Rattle.rules.specs.Answer.{good, refuseFirst};
 ghost use Rattle.rules.specs.Operations.{operations, kindOf};
-ghost use Rattle.rules.specs.Record.{recordAt, codesNumber, immediates};
+ghost use Rattle.rules.specs.Record.{recordSize, recordAt, codesNumber, immediates};
 ghost use Rattle.rules.specs.Checks.{underCount, placingFault, begins, groupsFault, emptyZero, commitmentFault, commitmentFaults};
-ghost use Rattle.rules.specs.Functions.{arena, blockIn, structureChecked, commitmentChecked};
+ghost use Rattle.rules.specs.Functions.{arena, blockIn, commitmentChecked};
 ghost use Rattle.operation.specs.Verdict.{verdictOf};
-ghost use Rattle.checks.specs.Batch.{heldAt, Lies, Apt, under, span};
+ghost use Rattle.checks.specs.Batch.{heldAt, Structured, Lies, Apt, under, span};
 ghost use Rattle.commitment.specs.Walk.{slotAfter, slotsAfter, AllRight, BatchRight};
 use op_batch::RECORD;
+use op_batch::WIDTH;
 use operation::Verdict;
 
 // ---- the first fault
@@ -100,7 +101,7 @@ fn values_right(
     to: usize,
 ) -> bool
     requires { ⌜ (length (now codes) ≡ length (now values)) × (to ≤ length (now codes)) × Apt (now table) (now codes) ⌝ }
-    requires { ⌜ (82 * b + 82 ≤ length (now records)) × (g ≤ 8) ⌝ }
+    requires { ⌜ (recordSize * b + recordSize ≤ length (now records)) × (g ≤ 8) ⌝ }
     ensures { λ r. ⌜ r ≡ begins (drop g (recordAt (now (records .entry)) b .numbers)) (immediates (now (table .entry)) (span (operations (now (codes .entry)) (now (values .entry))) from to)) ⌝ }
 {
     let mut j = g;
@@ -218,7 +219,7 @@ fn batch_commitment(
 
 // The first batch with a fault, where the arena passed the structure check and the table has a kind for each opcode.
 fn commitment_fault(table: &[u8], codes: &[u8], values: &[u64], records: &[u8]) -> Verdict
-    requires { ⌜ (structureChecked 8 (arena (now codes) (now values) (now records)) ≡ good tt) × Apt (now table) (now codes) ⌝ }
+    requires { ⌜ Structured (arena (now codes) (now values) (now records)) × Apt (now table) (now codes) ⌝ }
     ensures { λ r. ⌜ r ≡ verdictOf (refuseFirst 0 (commitmentFaults (now (table .entry)) (blockIn (arena (now (codes .entry)) (now (values .entry)) (now (records .entry))))) (good tt)) ⌝ }
 {
     let n = records.len() / RECORD;
@@ -246,7 +247,7 @@ struct Walked {
 // The group after an operation's immediate, which belongs in the j-th: j where the operation has none, 9 where it is not admissible or the group's
 // number is another.
 fn slot_after(kind: u8, v: u64, records: &[u8], b: usize, j: usize) -> usize
-    requires { ⌜ (82 * b + 82 ≤ length (now records)) × (j ≤ 8) ⌝ }
+    requires { ⌜ (recordSize * b + recordSize ≤ length (now records)) × (j ≤ 8) ⌝ }
     ensures { λ r. ⌜ r ≡ slotAfter kind v (recordAt (now (records .entry)) b .numbers) j ⌝ }
 {
     if kind == 0 {
@@ -285,7 +286,7 @@ fn walk_group(
     to: usize,
 ) -> Walked
     requires { ⌜ (length (now codes) ≡ length (now values)) × (to ≤ length (now codes)) × (from ≤ to) × (to ≤ from + 9) × (length (now table) ≡ 128) ⌝ }
-    requires { ⌜ (82 * b + 82 ≤ length (now records)) × (g ≤ 8) ⌝ }
+    requires { ⌜ (recordSize * b + recordSize ≤ length (now records)) × (g ≤ 8) ⌝ }
     ensures { λ r. ⌜ r .next ≡ slotsAfter (now (table .entry)) (span (operations (now (codes .entry)) (now (values .entry))) from to) (recordAt (now (records .entry)) b .numbers) g ⌝ }
     ensures { λ r. ⌜ (r .next ≤ 8 → r .number ≡ codesNumber (span (operations (now (codes .entry)) (now (values .entry))) from to)) ⌝ }
 {
@@ -358,7 +359,7 @@ fn batch_right(
 
 // Whether every operation is admissible and no batch has a fault, where the arena passed the structure check.
 fn all_right(table: &[u8], codes: &[u8], values: &[u64], records: &[u8]) -> bool
-    requires { ⌜ (structureChecked 8 (arena (now codes) (now values) (now records)) ≡ good tt) × (length (now table) ≡ 128) ⌝ }
+    requires { ⌜ Structured (arena (now codes) (now values) (now records)) × (length (now table) ≡ 128) ⌝ }
     ensures { λ r. ⌜ (r ≡ true → AllRight (now (table .entry)) (arena (now (codes .entry)) (now (values .entry)) (now (records .entry)))) ⌝ }
 {
     let n = records.len() / RECORD;
@@ -392,7 +393,7 @@ pub fn commitment(table: &[u8], codes: &[u8], values: &[u64], records: &[u8]) ->
             place: 0,
         };
     }
-    let structure = checks::structure_fault(codes, values, records);
+    let structure = checks::structure_fault(WIDTH, codes, values, records);
     let Verdict::Passed = structure else {
         return structure;
     };

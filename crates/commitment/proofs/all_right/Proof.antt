@@ -1,6 +1,7 @@
 use Rattle.checks.proofs.Batches.{rest, rest-turn, rest-none, rest-all, lies, faultFrom, turn, done, begin}
 use Rattle.commitment.specs.Walk.{admissibleFrom}
 use Rattle.operation.proofs.Scan as scan
+use Rattle.rules.specs.Record.{recordSize}
 use Rattle.rules.specs.Functions.{arena}
 use Rattle.rules.specs.Checks.{commitmentFault, commitmentFaults}
 use lib.ListN.{length}
@@ -18,7 +19,7 @@ use Rattle.op_batch.proofs.start.Reads as start-reads
 
 abbrev Inv-loop : tie.InvT-loop
 Inv-loop table codes values records n from₀ b₀ from b =
-    (n ≡ length records / 82) × (from + rest (length records / 82) records b ≡ length codes) × (faultFrom (commitmentFault table) (length records / 82) (arena codes values records) b from ≡ faultFrom (commitmentFault table) (length records / 82) (arena codes values records) 0 0) × (admissibleFrom table codes values from ≡ admissibleFrom table codes values 0)
+    (n ≡ length records / recordSize) × (from + rest (length records / recordSize) records b ≡ length codes) × (faultFrom (commitmentFault table) (length records / recordSize) (arena codes values records) b from ≡ faultFrom (commitmentFault table) (length records / recordSize) (arena codes values records) 0 0) × (admissibleFrom table codes values from ≡ admissibleFrom table codes values 0)
 
 abbrev μ-loop : tie.MeasureT-loop
 μ-loop table codes values records n from₀ b₀ from b = n - b
@@ -41,7 +42,7 @@ start-requires c κs = omega arith
 add-from : tie.Need-add-from Inv-loop μ-loop
 add-from c =
     let s = c .before .before .before .before .before .before .before .before .before .args .records .now in
-    omega (arith, rest-turn (length s / 82) s (c .before .before .before .before .loop .b) (omega arith))
+    omega (arith, rest-turn (length s / recordSize) s (c .before .before .before .before .loop .b) (omega arith))
 
 add-b : tie.Need-add-b Inv-loop μ-loop
 add-b c = search needs
@@ -55,7 +56,7 @@ loop-again c =
     let l = c .before .before .before .before .loop in
     let n = arena (a .codes .now) (a .values .now) (a .records .now) in
     let r = c .before .before .batch-right .ensures (not-false _ (c .before .if1 .left)) in
-    (l .inv .0, omega (arith, rest-turn (length (a .records .now) / 82) (a .records .now) (l .b) (omega arith)), rw (c .start .ensures .0) (turn (commitmentFault (a .table .now)) _ n (l .b) (l .from) (omega arith) (r .fault)) ∙ l .inv .2, rw (c .start .ensures .0) (r .scan) ∙ l .inv .3)
+    (l .inv .0, omega (arith, rest-turn (length (a .records .now) / recordSize) (a .records .now) (l .b) (omega arith)), rw (c .start .ensures .0) (turn (commitmentFault (a .table .now)) _ n (l .b) (l .from) (omega arith) (r .fault)) ∙ l .inv .2, rw (c .start .ensures .0) (r .scan) ∙ l .inv .3)
 
 returns-2 : tie.Need-returns-2 Inv-loop μ-loop
 unfolding commitmentFaults
@@ -66,7 +67,7 @@ returns-2 c =
     let f = commitmentFault (a .table .now) in
     λ e.
     record {
-      admissible = sym (l .inv .3) ∙ scan.done (a .table .now) (a .codes .now) (a .values .now) (l .from) (omega (arith, rest-none (length (a .records .now) / 82) (a .records .now) (l .b) (omega arith)));
+      admissible = sym (l .inv .3) ∙ scan.done (a .table .now) (a .codes .now) (a .values .now) (l .from) (omega (arith, rest-none (length (a .records .now) / recordSize) (a .records .now) (l .b) (omega arith)));
       commitment = sym (begin f n) ∙ sym (l .inv .2) ∙ done f _ n (l .b) (l .from) (omega arith);
     }
 

@@ -34,13 +34,13 @@ start-requires : tie.Need-start-requires Inv-loop μ-loop
 start-requires c κs =
     let a = c .before .before .before .before .before .before .before .args in
     let x = lying (arena (a .codes .now) (a .values .now) (a .records .now)) (a .b) (a .from) (c .before .before .before .before .before .before .before .pre .0) in
-    omega (arith, x .sound .count, c .before .before .count .ensures .0)
+    omega (arith, x .count, c .before .before .count .ensures .0)
 
 add-start : tie.Need-add-start Inv-loop μ-loop
 add-start c =
     let a = c .before .before .before .before .before .before .before .before .args in
     let x = lying (arena (a .codes .now) (a .values .now) (a .records .now)) (a .b) (a .from) (c .before .before .before .before .before .before .before .before .pre .0) in
-    omega (arith, x .sound .count, c .before .before .before .count .ensures .0, within-codes _ _ _ _ x (c .before .before .loop .g) (omega (arith, x .sound .count, c .before .before .before .count .ensures .0)), c .start .ensures .0)
+    omega (arith, x .count, c .before .before .before .count .ensures .0, within-codes _ _ _ _ x (c .before .before .loop .g) (omega (arith, x .count, c .before .before .before .count .ensures .0)), c .start .ensures .0)
 
 add-start-2 : tie.Need-add-start-2 Inv-loop μ-loop
 add-start-2 c = search needs
@@ -49,19 +49,19 @@ start-requires-2 : tie.Need-start-requires-2 Inv-loop μ-loop
 start-requires-2 c κs =
     let a = c .before .before .before .before .before .before .before .before .args in
     let x = lying (arena (a .codes .now) (a .values .now) (a .records .now)) (a .b) (a .from) (c .before .before .before .before .before .before .before .before .pre .0) in
-    omega (arith, x .sound .count, c .before .before .before .count .ensures .0)
+    omega (arith, x .count, c .before .before .before .count .ensures .0)
 
 add-end : tie.Need-add-end Inv-loop μ-loop
 add-end c =
     let a = c .before .before .before .before .before .before .before .before .before .args in
     let x = lying (arena (a .codes .now) (a .values .now) (a .records .now)) (a .b) (a .from) (c .before .before .before .before .before .before .before .before .before .pre .0) in
-    omega (arith, within-codes _ _ _ _ x (c .before .before .before .loop .g + 1) (omega (arith, x .sound .count, c .before .before .before .before .count .ensures .0)), c .start2 .ensures .0)
+    omega (arith, within-codes _ _ _ _ x (c .before .before .before .loop .g + 1) (omega (arith, x .count, c .before .before .before .before .count .ensures .0)), c .start2 .ensures .0)
 
 number-requires : tie.Need-number-requires Inv-loop μ-loop
 number-requires c κs =
     let a = c .before .before .before .before .before .before .before .before .before .args in
     let x = lying (arena (a .codes .now) (a .values .now) (a .records .now)) (a .b) (a .from) (c .before .before .before .before .before .before .before .before .before .pre .0) in
-    omega (arith, x .sound .count, c .before .before .before .before .count .ensures .0)
+    omega (arith, x .count, c .before .before .before .before .count .ensures .0)
 
 add-g : tie.Need-add-g Inv-loop μ-loop
 add-g c = search needs
@@ -109,7 +109,7 @@ walk-group-requires c κs =
     let a = c .before .before .before .before .before .before .before .before .before .before .before .before .args in
     let x = lying (arena (a .codes .now) (a .values .now) (a .records .now)) (a .b) (a .from) (c .before .before .before .before .before .before .before .before .before .before .before .before .pre .0) in
     let l = c .before .before .before .before .before .before .loop in
-    let h : l .g < 8 = omega (arith, x .sound .count, c .before .before .before .before .before .before .before .count .ensures .0) in
+    let h : l .g < 8 = omega (arith, x .count, c .before .before .before .before .before .before .before .count .ensures .0) in
     (omega (arith, x .equal, c .before .before .before .before .before .before .before .before .before .before .before .before .pre .1, in-order _ _ _ _ x (l .g) h, at-most-9 _ _ _ _ x (l .g) h, within-codes _ _ _ _ x (l .g + 1) (omega arith), c .before .before .before .start2 .ensures .0, c .before .before .before .before .start .ensures .0), omega arith)
 
 returns-3 : tie.Need-returns-3 Inv-loop μ-loop
@@ -134,7 +134,7 @@ loop-again-3 c =
     let i = ap (λ (k : ℕ). a .from + k) (c .before .before .before .before .before .before .before .before .start .ensures .0) in
     let z = ap (λ (k : ℕ). a .from + k) (c .before .before .before .before .before .before .before .start2 .ensures .0) in
     let w = c .before .before .before .walk-group in
-    let low : w .result .next ≤ 8 = omega (arith, n, x .sound .count, c .before .before .if5 .left) in
+    let low : w .result .next ≤ 8 = omega (arith, n, x .count, c .before .before .if5 .left) in
     (omega arith, omega (arith, n), gone-full _ _ _ _ _ x (l .held) (l .g) (l .inv .2) h _ _ i z (c .before .before .before .before .before .if1 .left) (c .before .before .before .before .if4 .left) (w .result .next) (w .ensures .0) low (sym (c .before .before .before .before .before .before .number .ensures) ∙ sym (c .if6 .left) ∙ w .ensures .1 low))
 
 returns-5 : tie.Need-returns-5 Inv-loop μ-loop

@@ -6,6 +6,7 @@ use Rattle.operation.specs.Verdict.{verdictOf}
 use Rattle.rules.specs.Functions.{arena, structureChecked, commitmentChecked}
 use borrow.Author.Tests.{not-true, not-false}
 use mathlib.Core.Path.{sym, ap, _∙_}
+use native.Mathlib.Omega.{arith}
 use borrow.Author.Needs.{needs}
 use Rattle.commitment.proofs.commitment.Statement.{statement}
 use Rattle.commitment.proofs.commitment.Tie as tie
@@ -35,7 +36,7 @@ returns-2 c = rw (sym (c .before .before .before .within .ensures) ∙ not-false
 structure-fault-requires : tie.Need-structure-fault-requires
 structure-fault-requires c κs =
     let a = c .before .before .before .before .before .before .before .before .args in
-    equal-lengths (a .codes .now) (a .values .now) (a .records .now) (sym (c .before .before .before .within .ensures) ∙ not-false _ (c .before .before .if1 .left))
+    (omega arith, equal-lengths (a .codes .now) (a .values .now) (a .records .now) (sym (c .before .before .before .within .ensures) ∙ not-false _ (c .before .before .if1 .left)))
 
 enum-told : tie.Need-enum-told
 enum-told c = search needs
@@ -51,7 +52,7 @@ returns-3 c =
     let h = sym (c .before .before .before .before .before .before .within .ensures) ∙ not-false _ (c .before .before .before .before .before .if1 .left) in
     let k = sym (c .before .before .before .before .good-table .ensures) ∙ not-false _ (c .before .before .before .if2 .left) in
     let e = c .before .before .structure-fault .ensures in
-    e ∙ sym (ap verdictOf (stages t n h k) ∙ handed-on (structureStage n) (andThen (admissibleStage t n) (commitmentStage t n)) _ _ (sym e ∙ c .enum-told2 .given .1))
+    e ∙ sym (ap verdictOf (stages 8 t n h k) ∙ handed-on (structureStage 8 n) (andThen (admissibleStage t n) (commitmentStage t n)) _ _ (sym e ∙ c .enum-told2 .given .1))
 
 all-right-requires : tie.Need-all-right-requires
 unfolding structureChecked
@@ -59,8 +60,8 @@ all-right-requires c κs =
     let a = c .before .before .before .before .before .before .before .before .before .before .before .args in
     let h = sym (c .before .before .before .before .before .before .within .ensures) ∙ not-false _ (c .before .before .before .before .before .if1 .left) in
     let k = sym (c .before .before .before .before .good-table .ensures) ∙ not-false _ (c .before .before .before .if2 .left) in
-    let g = was-good (structureStage (arena (a .codes .now) (a .values .now) (a .records .now))) (sym (c .before .before .structure-fault .ensures) ∙ c .enum-told .given .1) in
-    (rw h g, table-128 (a .table .now) k)
+    let g = was-good (structureStage 8 (arena (a .codes .now) (a .values .now) (a .records .now))) (sym (c .before .before .structure-fault .ensures) ∙ c .enum-told .given .1) in
+    (record { width = 8; room = omega arith; passed = rw h g }, table-128 (a .table .now) k)
 
 returns-4 : tie.Need-returns-4
 returns-4 c =
@@ -69,9 +70,9 @@ returns-4 c =
     let n = arena (a .codes .now) (a .values .now) (a .records .now) in
     let h = sym (c .before .before .before .before .before .before .before .before .within .ensures) ∙ not-false _ (c .before .before .before .before .before .before .before .if1 .left) in
     let k = sym (c .before .before .before .before .before .before .good-table .ensures) ∙ not-false _ (c .before .before .before .before .before .if2 .left) in
-    let g = was-good (structureStage n) (sym (c .before .before .before .before .structure-fault .ensures) ∙ c .before .before .enum-told .given .1) in
+    let g = was-good (structureStage 8 n) (sym (c .before .before .before .before .structure-fault .ensures) ∙ c .before .before .enum-told .given .1) in
     let r = c .before .all-right .ensures (c .if3 .taken) in
-    sym (ap verdictOf (stages t n h k ∙ went-on (structureStage n) (andThen (admissibleStage t n) (commitmentStage t n)) g ∙ went-on (admissibleStage t n) (commitmentStage t n) (r .admissible) ∙ r .commitment))
+    sym (ap verdictOf (stages 8 t n h k ∙ went-on (structureStage 8 n) (andThen (admissibleStage t n) (commitmentStage t n)) g ∙ went-on (admissibleStage t n) (commitmentStage t n) (r .admissible) ∙ r .commitment))
 
 first-fault-requires : tie.Need-first-fault-requires
 first-fault-requires c κs =
@@ -93,9 +94,9 @@ returns-5 c =
     let n = arena (a .codes .now) (a .values .now) (a .records .now) in
     let h = sym (c .before .before .before .before .before .before .before .before .before .before .before .within .ensures) ∙ not-false _ (c .before .before .before .before .before .before .before .before .before .before .if1 .left) in
     let k = sym (c .before .before .before .before .before .before .before .before .before .good-table .ensures) ∙ not-false _ (c .before .before .before .before .before .before .before .before .if2 .left) in
-    let g = was-good (structureStage n) (sym (c .before .before .before .before .before .before .before .structure-fault .ensures) ∙ c .before .before .before .before .before .enum-told .given .1) in
+    let g = was-good (structureStage 8 n) (sym (c .before .before .before .before .before .before .before .structure-fault .ensures) ∙ c .before .before .before .before .before .enum-told .given .1) in
     let e = c .before .before .first-fault .ensures in
-    e ∙ sym (ap verdictOf (stages t n h k ∙ went-on (structureStage n) (andThen (admissibleStage t n) (commitmentStage t n)) g) ∙ handed-on (admissibleStage t n) (commitmentStage t n) _ _ (sym e ∙ c .enum-told4 .given .1))
+    e ∙ sym (ap verdictOf (stages 8 t n h k ∙ went-on (structureStage 8 n) (andThen (admissibleStage t n) (commitmentStage t n)) g) ∙ handed-on (admissibleStage t n) (commitmentStage t n) _ _ (sym e ∙ c .enum-told4 .given .1))
 
 commitment-fault-requires : tie.Need-commitment-fault-requires
 unfolding structureChecked
@@ -105,9 +106,9 @@ commitment-fault-requires c κs =
     let n = arena (a .codes .now) (a .values .now) (a .records .now) in
     let h = sym (c .before .before .before .before .before .before .before .before .before .before .before .within .ensures) ∙ not-false _ (c .before .before .before .before .before .before .before .before .before .before .if1 .left) in
     let k = sym (c .before .before .before .before .before .before .before .before .before .good-table .ensures) ∙ not-false _ (c .before .before .before .before .before .before .before .before .if2 .left) in
-    let g = was-good (structureStage n) (sym (c .before .before .before .before .before .before .before .structure-fault .ensures) ∙ c .before .before .before .before .before .enum-told .given .1) in
+    let g = was-good (structureStage 8 n) (sym (c .before .before .before .before .before .before .before .structure-fault .ensures) ∙ c .before .before .before .before .before .enum-told .given .1) in
     let f = was-good (admissibleStage t n) (sym (c .before .before .first-fault .ensures) ∙ c .enum-told3 .given .1) in
-    (rw h g, apt t (a .codes .now) (a .values .now) k (equal-lengths (a .codes .now) (a .values .now) (a .records .now) h) f)
+    (record { width = 8; room = omega arith; passed = rw h g }, apt t (a .codes .now) (a .values .now) k (equal-lengths (a .codes .now) (a .values .now) (a .records .now) h) f)
 
 returns-6 : tie.Need-returns-6
 returns-6 c =
@@ -116,10 +117,10 @@ returns-6 c =
     let n = arena (a .codes .now) (a .values .now) (a .records .now) in
     let h = sym (c .before .before .before .before .before .before .before .before .before .before .before .before .within .ensures) ∙ not-false _ (c .before .before .before .before .before .before .before .before .before .before .before .if1 .left) in
     let k = sym (c .before .before .before .before .before .before .before .before .before .before .good-table .ensures) ∙ not-false _ (c .before .before .before .before .before .before .before .before .before .if2 .left) in
-    let g = was-good (structureStage n) (sym (c .before .before .before .before .before .before .before .before .structure-fault .ensures) ∙ c .before .before .before .before .before .before .enum-told .given .1) in
+    let g = was-good (structureStage 8 n) (sym (c .before .before .before .before .before .before .before .before .structure-fault .ensures) ∙ c .before .before .before .before .before .before .enum-told .given .1) in
     let f = was-good (admissibleStage t n) (sym (c .before .before .before .first-fault .ensures) ∙ c .before .enum-told3 .given .1) in
     c .commitment-fault .ensures
-    ∙ sym (ap verdictOf (stages t n h k ∙ went-on (structureStage n) (andThen (admissibleStage t n) (commitmentStage t n)) g ∙ went-on (admissibleStage t n) (commitmentStage t n) f))
+    ∙ sym (ap verdictOf (stages 8 t n h k ∙ went-on (structureStage 8 n) (andThen (admissibleStage t n) (commitmentStage t n)) g ∙ went-on (admissibleStage t n) (commitmentStage t n) f))
 
 pub commitment-spec : {M : Type 1} → statement M
 commitment-spec =

@@ -33,14 +33,14 @@ start-requires : tie.Need-start-requires Inv-loop μ-loop
 start-requires c κs =
     let a = c .before .before .before .before .before .before .before .args in
     let x = lying (arena (a .codes .now) (a .values .now) (a .records .now)) (a .b) (a .from) (c .before .before .before .before .before .before .before .pre .0) in
-    omega (arith, x .sound .count, c .before .before .count .ensures .0)
+    omega (arith, x .count, c .before .before .count .ensures .0)
 
 add-start : tie.Need-add-start Inv-loop μ-loop
 add-start c =
     let a = c .before .before .before .before .before .before .before .before .args in
     let x = lying (arena (a .codes .now) (a .values .now) (a .records .now)) (a .b) (a .from) (c .before .before .before .before .before .before .before .before .pre .0) in
     let l = c .before .before .loop in
-    omega (arith, x .sound .count, c .before .before .before .count .ensures .0, within-codes _ _ _ _ x (l .g) (omega (arith, x .sound .count, c .before .before .before .count .ensures .0)), c .start .ensures .0)
+    omega (arith, x .count, c .before .before .before .count .ensures .0, within-codes _ _ _ _ x (l .g) (omega (arith, x .count, c .before .before .before .count .ensures .0)), c .start .ensures .0)
 
 add-start-2 : tie.Need-add-start-2 Inv-loop μ-loop
 add-start-2 c = search needs
@@ -49,21 +49,21 @@ start-requires-2 : tie.Need-start-requires-2 Inv-loop μ-loop
 start-requires-2 c κs =
     let a = c .before .before .before .before .before .before .before .before .args in
     let x = lying (arena (a .codes .now) (a .values .now) (a .records .now)) (a .b) (a .from) (c .before .before .before .before .before .before .before .before .pre .0) in
-    omega (arith, x .sound .count, c .before .before .before .count .ensures .0)
+    omega (arith, x .count, c .before .before .before .count .ensures .0)
 
 add-end : tie.Need-add-end Inv-loop μ-loop
 add-end c =
     let a = c .before .before .before .before .before .before .before .before .before .args in
     let x = lying (arena (a .codes .now) (a .values .now) (a .records .now)) (a .b) (a .from) (c .before .before .before .before .before .before .before .before .before .pre .0) in
     let l = c .before .before .before .loop in
-    omega (arith, within-codes _ _ _ _ x (l .g + 1) (omega (arith, x .sound .count, c .before .before .before .before .count .ensures .0)), c .start2 .ensures .0)
+    omega (arith, within-codes _ _ _ _ x (l .g + 1) (omega (arith, x .count, c .before .before .before .before .count .ensures .0)), c .start2 .ensures .0)
 
 count-immediates-requires : tie.Need-count-immediates-requires Inv-loop μ-loop
 count-immediates-requires c κs =
     let a = c .before .before .before .before .before .before .before .before .before .before .args in
     let x = lying (arena (a .codes .now) (a .values .now) (a .records .now)) (a .b) (a .from) (c .before .before .before .before .before .before .before .before .before .before .pre .0) in
     let l = c .before .before .before .before .loop in
-    let h : l .g < 8 = omega (arith, x .sound .count, c .before .before .before .before .before .count .ensures .0) in
+    let h : l .g < 8 = omega (arith, x .count, c .before .before .before .before .before .count .ensures .0) in
     (x .equal, omega (arith, within-codes _ _ _ _ x (l .g + 1) (omega arith), c .before .start2 .ensures .0), c .before .before .before .before .before .before .before .before .before .before .pre .1)
 
 add-g : tie.Need-add-g Inv-loop μ-loop
@@ -80,7 +80,7 @@ loop-again c =
     let h : l .g < recordAt (a .records .now) (a .b) .count = omega (arith, c .before .before .before .before .before .before .count .ensures .0, c .before .before .before .before .loop-test .taken) in
     let i = ap (λ (k : ℕ). a .from + k) (c .before .before .before .start .ensures .0) in
     let z = ap (λ (k : ℕ). a .from + k) (c .before .before .start2 .ensures .0) in
-    (omega (arith, x .sound .count), empty-skip _ _ _ _ _ x (l .g) h _ _ i z (c .before .if1 .taken) (l .held) _ (c .count-immediates .ensures) ∙ l .inv .1)
+    (omega (arith, x .count), empty-skip _ _ _ _ _ x (l .g) h _ _ i z (c .before .if1 .taken) (l .held) _ (c .count-immediates .ensures) ∙ l .inv .1)
 
 sub-held : tie.Need-sub-held Inv-loop μ-loop
 sub-held c = search needs
@@ -99,13 +99,13 @@ loop-again-2 c =
     let h : l .g < recordAt (a .records .now) (a .b) .count = omega (arith, c .before .before .before .before .before .before .count .ensures .0, c .before .before .before .before .loop-test .taken) in
     let i = ap (λ (k : ℕ). a .from + k) (c .before .before .before .start .ensures .0) in
     let z = ap (λ (k : ℕ). a .from + k) (c .before .before .start2 .ensures .0) in
-    (omega (arith, x .sound .count), empty-held _ _ _ _ _ x (l .g) h _ _ i z (c .before .if1 .left) (l .held) (c .if2 .taken) ∙ l .inv .1)
+    (omega (arith, x .count), empty-held _ _ _ _ _ x (l .g) h _ _ i z (c .before .if1 .left) (l .held) (c .if2 .taken) ∙ l .inv .1)
 
 number-requires : tie.Need-number-requires Inv-loop μ-loop
 number-requires c κs =
     let a = c .before .before .before .before .before .before .before .before .before .before .before .args in
     let x = lying (arena (a .codes .now) (a .values .now) (a .records .now)) (a .b) (a .from) (c .before .before .before .before .before .before .before .before .before .before .before .pre .0) in
-    omega (arith, x .sound .count, c .before .before .before .before .before .before .count .ensures .0)
+    omega (arith, x .count, c .before .before .before .before .before .before .count .ensures .0)
 
 returns : tie.Need-returns Inv-loop μ-loop
 returns c =
@@ -131,7 +131,7 @@ loop-again-3 c =
     let h : l .g < recordAt (a .records .now) (a .b) .count = omega (arith, c .before .before .before .before .before .before .before .before .count .ensures .0, c .before .before .before .before .before .before .loop-test .taken) in
     let i = ap (λ (k : ℕ). a .from + k) (c .before .before .before .before .before .start .ensures .0) in
     let z = ap (λ (k : ℕ). a .from + k) (c .before .before .before .before .start2 .ensures .0) in
-    (omega (arith, x .sound .count), empty-right _ _ _ _ _ x (l .g) h _ _ i z (c .before .before .before .if1 .left) (l .held) (omega arith) (sym (c .before .number .ensures) ∙ c .if3 .left) ∙ l .inv .1)
+    (omega (arith, x .count), empty-right _ _ _ _ _ x (l .g) h _ _ i z (c .before .before .before .if1 .left) (l .held) (omega arith) (sym (c .before .number .ensures) ∙ c .if3 .left) ∙ l .inv .1)
 
 returns-2 : tie.Need-returns-2 Inv-loop μ-loop
 returns-2 c =

@@ -37,14 +37,14 @@ start-requires : tie.Need-start-requires Inv-loop μ-loop
 start-requires c κs =
     let a = c .before .before .before .before .before .before .before .args in
     let x = lying (arena (a .codes .now) (a .values .now) (a .records .now)) (a .b) (a .from) (c .before .before .before .before .before .before .before .pre .0) in
-    omega (arith, x .sound .count, c .before .before .count .ensures .0)
+    omega (arith, x .count, c .before .before .count .ensures .0)
 
 add-start : tie.Need-add-start Inv-loop μ-loop
 add-start c =
     let a = c .before .before .before .before .before .before .before .before .args in
     let x = lying (arena (a .codes .now) (a .values .now) (a .records .now)) (a .b) (a .from) (c .before .before .before .before .before .before .before .before .pre .0) in
     let l = c .before .before .loop in
-    omega (arith, x .sound .count, c .before .before .before .count .ensures .0, within-codes _ _ _ _ x (l .g) (omega (arith, x .sound .count, c .before .before .before .count .ensures .0)), c .start .ensures .0)
+    omega (arith, x .count, c .before .before .before .count .ensures .0, within-codes _ _ _ _ x (l .g) (omega (arith, x .count, c .before .before .before .count .ensures .0)), c .start .ensures .0)
 
 add-start-2 : tie.Need-add-start-2 Inv-loop μ-loop
 add-start-2 c = search needs
@@ -53,14 +53,14 @@ start-requires-2 : tie.Need-start-requires-2 Inv-loop μ-loop
 start-requires-2 c κs =
     let a = c .before .before .before .before .before .before .before .before .args in
     let x = lying (arena (a .codes .now) (a .values .now) (a .records .now)) (a .b) (a .from) (c .before .before .before .before .before .before .before .before .pre .0) in
-    omega (arith, x .sound .count, c .before .before .before .count .ensures .0)
+    omega (arith, x .count, c .before .before .before .count .ensures .0)
 
 add-end : tie.Need-add-end Inv-loop μ-loop
 add-end c =
     let a = c .before .before .before .before .before .before .before .before .before .args in
     let x = lying (arena (a .codes .now) (a .values .now) (a .records .now)) (a .b) (a .from) (c .before .before .before .before .before .before .before .before .before .pre .0) in
     let l = c .before .before .before .loop in
-    omega (arith, within-codes _ _ _ _ x (l .g + 1) (omega (arith, x .sound .count, c .before .before .before .before .count .ensures .0)), c .start2 .ensures .0)
+    omega (arith, within-codes _ _ _ _ x (l .g + 1) (omega (arith, x .count, c .before .before .before .before .count .ensures .0)), c .start2 .ensures .0)
 
 add-g : tie.Need-add-g Inv-loop μ-loop
 add-g c = search needs
@@ -76,20 +76,20 @@ loop-again c =
     let h : l .g < recordAt (a .records .now) (a .b) .count = omega (arith, c .before .before .before .before .before .count .ensures .0, c .before .before .before .loop-test .taken) in
     let i = ap (λ (k : ℕ). a .from + k) (c .before .before .start .ensures .0) in
     let z = ap (λ (k : ℕ). a .from + k) (c .before .start2 .ensures .0) in
-    (omega (arith, x .sound .count), group-skip _ _ _ _ _ x (l .g) h _ _ i z (c .if1 .taken) ∙ l .inv .1)
+    (omega (arith, x .count), group-skip _ _ _ _ _ x (l .g) h _ _ i z (c .if1 .taken) ∙ l .inv .1)
 
 number-requires : tie.Need-number-requires Inv-loop μ-loop
 number-requires c κs =
     let a = c .before .before .before .before .before .before .before .before .before .before .args in
     let x = lying (arena (a .codes .now) (a .values .now) (a .records .now)) (a .b) (a .from) (c .before .before .before .before .before .before .before .before .before .before .pre .0) in
-    omega (arith, x .sound .count, c .before .before .before .before .before .count .ensures .0)
+    omega (arith, x .count, c .before .before .before .before .before .count .ensures .0)
 
 codes-number-requires : tie.Need-codes-number-requires Inv-loop μ-loop
 codes-number-requires c κs =
     let a = c .before .before .before .before .before .before .before .before .before .before .before .args in
     let x = lying (arena (a .codes .now) (a .values .now) (a .records .now)) (a .b) (a .from) (c .before .before .before .before .before .before .before .before .before .before .before .pre .0) in
     let l = c .before .before .before .before .before .loop in
-    let h : l .g < 8 = omega (arith, x .sound .count, c .before .before .before .before .before .before .count .ensures .0) in
+    let h : l .g < 8 = omega (arith, x .count, c .before .before .before .before .before .before .count .ensures .0) in
     (omega (arith, x .equal, in-order _ _ _ _ x (l .g) h, at-most-9 _ _ _ _ x (l .g) h, within-codes _ _ _ _ x (l .g + 1) (omega arith), c .before .before .start2 .ensures .0, c .before .before .before .start .ensures .0), c .before .before .before .before .before .before .before .before .before .before .before .pre .1 .codes)
 
 returns : tie.Need-returns Inv-loop μ-loop
@@ -107,7 +107,7 @@ count-immediates-requires c κs =
     let a = c .before .before .before .before .before .before .before .before .before .before .before .before .before .args in
     let x = lying (arena (a .codes .now) (a .values .now) (a .records .now)) (a .b) (a .from) (c .before .before .before .before .before .before .before .before .before .before .before .before .before .pre .0) in
     let l = c .before .before .before .before .before .before .before .loop in
-    let h : l .g < 8 = omega (arith, x .sound .count, c .before .before .before .before .before .before .before .before .count .ensures .0) in
+    let h : l .g < 8 = omega (arith, x .count, c .before .before .before .before .before .before .before .before .count .ensures .0) in
     (x .equal, omega (arith, within-codes _ _ _ _ x (l .g + 1) (omega arith), c .before .before .before .before .start2 .ensures .0), c .before .before .before .before .before .before .before .before .before .before .before .before .before .pre .1)
 
 add-placing-fault : tie.Need-add-placing-fault Inv-loop μ-loop
@@ -117,7 +117,7 @@ placing-fault-requires : tie.Need-placing-fault-requires Inv-loop μ-loop
 placing-fault-requires c κs =
     let a = c .before .before .before .before .before .before .before .before .before .before .before .before .before .before .args in
     let x = lying (arena (a .codes .now) (a .values .now) (a .records .now)) (a .b) (a .from) (c .before .before .before .before .before .before .before .before .before .before .before .before .before .before .pre .0) in
-    (c .before .before .before .before .before .before .before .before .before .before .before .before .before .before .pre .0, omega (arith, x .sound .count, c .before .before .before .before .before .before .before .before .before .count .ensures .0))
+    (c .before .before .before .before .before .before .before .before .before .before .before .before .before .before .pre .0, omega (arith, x .count, c .before .before .before .before .before .before .before .before .before .count .ensures .0))
 
 returns-2 : tie.Need-returns-2 Inv-loop μ-loop
 returns-2 c =
@@ -138,7 +138,7 @@ values-right-requires c κs =
     let a = c .before .before .before .before .before .before .before .before .before .before .before .before .before .before .before .before .args in
     let x = lying (arena (a .codes .now) (a .values .now) (a .records .now)) (a .b) (a .from) (c .before .before .before .before .before .before .before .before .before .before .before .before .before .before .before .before .pre .0) in
     let l = c .before .before .before .before .before .before .before .before .before .before .loop in
-    let h : l .g < 8 = omega (arith, x .sound .count, c .before .before .before .before .before .before .before .before .before .before .before .count .ensures .0) in
+    let h : l .g < 8 = omega (arith, x .count, c .before .before .before .before .before .before .before .before .before .before .before .count .ensures .0) in
     ((x .equal, omega (arith, within-codes _ _ _ _ x (l .g + 1) (omega arith), c .before .before .before .before .before .before .before .start2 .ensures .0), c .before .before .before .before .before .before .before .before .before .before .before .before .before .before .before .before .pre .1), omega (arith, c .before .before .before .before .before .before .before .before .before .before .before .before .before .before .before .before .pre .0 .whole))
 
 returns-3 : tie.Need-returns-3 Inv-loop μ-loop
@@ -167,7 +167,7 @@ loop-again-2 c =
     let i = ap (λ (k : ℕ). a .from + k) (c .before .before .before .before .before .before .before .before .before .before .start .ensures .0) in
     let z = ap (λ (k : ℕ). a .from + k) (c .before .before .before .before .before .before .before .before .before .start2 .ensures .0) in
     let n = sym (c .before .before .before .before .before .before .before .number .ensures) ∙ c .before .before .before .before .before .if2 .left ∙ c .before .before .before .before .before .before .codes-number .ensures in
-    (omega (arith, x .sound .count), group-right _ _ _ _ _ x (l .g) h _ _ i z (c .before .before .before .before .before .before .before .before .if1 .left) n _ (c .before .before .before .before .count-immediates .ensures) (sym (c .before .before .before .placing-fault .ensures) ∙ c .before .before .if3 .left) (sym (c .before .values-right .ensures) ∙ not-false _ (c .if4 .left)) ∙ l .inv .1)
+    (omega (arith, x .count), group-right _ _ _ _ _ x (l .g) h _ _ i z (c .before .before .before .before .before .before .before .before .if1 .left) n _ (c .before .before .before .before .count-immediates .ensures) (sym (c .before .before .before .placing-fault .ensures) ∙ c .before .before .if3 .left) (sym (c .before .values-right .ensures) ∙ not-false _ (c .if4 .left)) ∙ l .inv .1)
 
 returns-4 : tie.Need-returns-4 Inv-loop μ-loop
 returns-4 c =

@@ -40,7 +40,7 @@ start-requires : tie.Need-start-requires Inv-loop μ-loop
 start-requires c κs =
     let a = c .before .before .before .before .before .before .before .args in
     let x = lying (arena (a .codes .now) (a .values .now) (a .records .now)) (a .b) (a .from) (c .before .before .before .before .before .before .before .pre .0) in
-    omega (arith, x .sound .count, c .before .before .before .count .ensures .0)
+    omega (arith, x .count, c .before .before .before .count .ensures .0)
 
 add-start : tie.Need-add-start Inv-loop μ-loop
 add-start c = omega arith
@@ -49,7 +49,7 @@ start-requires-2 : tie.Need-start-requires-2 Inv-loop μ-loop
 start-requires-2 c κs =
     let a = c .before .before .before .before .before .before .before .before .args in
     let x = lying (arena (a .codes .now) (a .values .now) (a .records .now)) (a .b) (a .from) (c .before .before .before .before .before .before .before .before .pre .0) in
-    omega (arith, x .sound .count, c .before .before .before .before .count .ensures .0)
+    omega (arith, x .count, c .before .before .before .before .count .ensures .0)
 
 returns-2 : tie.Need-returns-2 Inv-loop μ-loop
 returns-2 c =
@@ -73,7 +73,7 @@ loop-again c =
     let x = lying (arena (a .codes .now) (a .values .now) (a .records .now)) (a .b) (a .from) (c .before .before .before .before .before .before .before .before .before .before .pre .0) in
     let l = c .before .before .before .before .before .loop in
     let h : l .j < recordAt (a .records .now) (a .b) .count = omega (arith, c .before .before .before .before .before .before .count .ensures .0, c .before .before .before .if1 .left) in
-    (omega (arith, x .sound .count), slot-free _ _ _ _ x (l .left) (omega arith) (l .j) h (sym (c .before .before .start .ensures .0) ∙ c .if2 .left ∙ c .before .start2 .ensures .0) ∙ l .inv .1)
+    (omega (arith, x .count), slot-free _ _ _ _ x (l .left) (omega arith) (l .j) h (sym (c .before .before .start .ensures .0) ∙ c .if2 .left ∙ c .before .start2 .ensures .0) ∙ l .inv .1)
 
 returns-3 : tie.Need-returns-3 Inv-loop μ-loop
 returns-3 c = let l = c .before .loop in sym (slots-done (l .left) _ (omega arith)) ∙ l .inv .1
