@@ -18,7 +18,7 @@ use Rattle.rules.proofs.Slots.{slots, batchBy, batch-is}
 use Rattle.rules.specs.Checks.{paddingRight}
 use Rattle.rules.proofs.Runs.{fitted-length}
 use Rattle.decoder.specs.Stages.{sizesFrom, flagsFrom}
-use Rattle.decoder.proofs.Stages.{onto, onto-nil, onto-then, onto-found}
+use Rattle.wire.proofs.Stages.{onto, onto-nil, onto-then, onto-found}
 use Rattle.decoder.proofs.Stores.{record-size}
 use Rattle.rules.proofs.Digits.{length-digits}
 

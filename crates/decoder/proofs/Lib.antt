@@ -1,4 +1,3 @@
-pub mod Stages
 pub mod Ops
 pub mod Sizes
 pub mod Groups

@@ -20,8 +20,9 @@ use Rattle.rules.specs.Record.{part}
 use Rattle.rules.proofs.Operations.{op, true-left, codes-back}
 use Rattle.wire.specs.declared.CountRead.{CountRead}
 use Rattle.wire.specs.declared.CountRead.the-variants as count
-use Rattle.decoder.specs.Stages.{IfFound, Staged, OpsIn, Coded, itemsAt}
-use Rattle.decoder.proofs.Stages.{onto, onto-then, onto-found, if-then, if-refuse, held, found-by}
+use Rattle.wire.specs.Stages.{IfFound, Staged}
+use Rattle.decoder.specs.Stages.{OpsIn, Coded, itemsAt}
+use Rattle.wire.proofs.Stages.{onto, onto-then, onto-found, if-then, if-refuse, held, found-by}
 use Rattle.rules.proofs.Sizes.{length-codes, length-values}
 
 -- ---- the operations of two runs

@@ -12,8 +12,9 @@ use Rattle.rules.specs.Digits.{digits, leAt}
 use Rattle.rules.specs.Answer.{refused, found}
 use Rattle.rules.specs.Bytes.{upTo, sizesAt, nibblesAt, bitsAt, flagsAt}
 use Rattle.wire.specs.declared.CountRead.{CountRead}
-use Rattle.decoder.specs.Stages.{counted, IfFound, Staged, sizesFrom, flagsFrom}
-use Rattle.decoder.proofs.Stages.{more-then, if-then, if-refuse, held}
+use Rattle.wire.specs.Stages.{counted, IfFound, Staged}
+use Rattle.decoder.specs.Stages.{sizesFrom, flagsFrom}
+use Rattle.wire.proofs.Stages.{more-then, if-then, if-refuse, held}
 
 -- ---- at width 8 the sizes are right where none is over 9, and no flag byte is refused
 

@@ -17,28 +17,10 @@ use Rattle.rules.specs.Checks.{paddingRight}
 use Rattle.rules.specs.Functions.{Arena, arena}
 use Rattle.wire.specs.declared.CountRead.{CountRead}
 use Rattle.wire.specs.declared.CountRead.the-variants as count
-use Rattle.wire.specs.declared.OpRead.{OpRead}
-use Rattle.wire.specs.declared.OpRead.the-variants as one
+use Rattle.wire.specs.Stages.{IfFound}
 use Rattle.decoder.specs.declared.Decoded.{Decoded}
 use Rattle.decoder.specs.declared.Decoded.the-variants as whole
 use Rattle.decoder.specs.Replies.{decodedOf}
-
--- ---- a stage
-
--- a number of what was found, and the place after it; or the refusal, handed on
-abbrev pub counted : {A : Type 0} → (A → ℕ) → Read A → CountRead
-counted f (good i) = count.Found (f (i .item)) (i .next)
-counted f (refused n p) = count.Refused n p
-
--- what holds of what was found and the place after it; of a refusal nothing is said
-abbrev pub IfFound : {A : Type 0} → (A → ℕ → Type 0) → Read A → Type 0
-IfFound P (good i) = P (i .item) (i .next)
-IfFound P (refused n p) = Unit {0}
-
--- what a stage answers, and what it leaves in lent runs
-pub record Staged {A : Type 0} (f : A → ℕ) (P : A → ℕ → Type 0) (d : Read A) (r : CountRead) : Type 0 where
-  pub reply : r ≡ counted f d
-  pub left : IfFound P d
 
 -- two runs that begin with the operations
 abbrev pub OpsIn : List ℕ → List ℕ → List Op → Type 0
@@ -53,11 +35,7 @@ pub record Reading (at : ℕ) (d : Read Block) (after : Arena) (r : Decoded) : T
   pub reply : r ≡ decodedOf at d
   pub left : IfFound (λ (b : Block) (end : ℕ). OpsIn (after .codes) (after .values) (b .ops) × RecordsIn (after .records) (b .records)) d
 
--- a refused operation, and a refused count
-abbrev pub handOp : OpRead → CountRead
-handOp (one.Found c v next) = count.Refused 0 0
-handOp (one.Refused n p) = count.Refused n p
-
+-- a refused count
 abbrev pub handCount : CountRead → Decoded
 handCount (count.Found v next) = whole.Refused 0 0
 handCount (count.Refused n p) = whole.Refused n p

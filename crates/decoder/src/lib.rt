@@ -14,7 +14,8 @@ ghost use Rattle.rules.specs.Block.{Head, batchAt, batchesAt, blockAt};
 ghost use Rattle.rules.proofs.Slots.{slots};
 ghost use Rattle.rules.specs.Functions.{arena, roomIn, decoded};
 ghost use Rattle.decoder.specs.Replies.{Decodes};
-ghost use Rattle.decoder.specs.Stages.{counted, Staged, Reading, handOp, handCount, tailless};
+ghost use Rattle.wire.specs.Stages.{counted, Staged};
+ghost use Rattle.decoder.specs.Stages.{Reading, handCount, tailless};
 ghost use Rattle.decoder.specs.Stages.{OpsIn, RecordsIn, Coded, itemsAt, recordsAt, sizesFrom, flagsFrom, Placing, PaddingRight};
 use wire::CountRead;
 use wire::OpRead;
@@ -32,23 +33,7 @@ pub enum Decoded {
     },
 }
 
-// A refused operation and a refused count, handed on.
-pub fn not_read(r: OpRead) -> CountRead
-    ensures { λ a. ⌜ a ≡ handOp r ⌝ }
-{
-    match r {
-        OpRead::Refused { number, place } => CountRead::Refused { number, place },
-        OpRead::Found {
-            code: _,
-            value: _,
-            next: _,
-        } => CountRead::Refused {
-            number: 0,
-            place: 0,
-        },
-    }
-}
-
+// A refused count, handed on.
 fn not_counted(r: CountRead) -> Decoded
     ensures { λ a. ⌜ a ≡ handCount r ⌝ }
 {
@@ -80,7 +65,7 @@ fn read_ops(
     while i < n {
         let r = wire::read_op(table, s, from, i);
         let OpRead::Found { code, value, next } = r else {
-            return not_read(r);
+            return wire::not_read(r);
         };
         out_codes[i] = code;
         out_values[i] = value;

@@ -12,6 +12,7 @@ ghost use Rattle.rules.specs.Bytes.{countAt, least, more, countBytes, opAt, val
 ghost use Rattle.rules.specs.Checks.{startsRight};
 ghost use Rattle.operation.specs.Verdict.{op};
 ghost use Rattle.wire.specs.Replies.{countReadOf, opReadOf};
+ghost use Rattle.wire.specs.Stages.{handOp};
 
 // A count or a batch count, and the place after it; or a refusal's number and place.
 pub enum CountRead {
@@ -189,6 +190,23 @@ pub fn read_op(table: &[u8], s: &[u8], at: usize, i: usize) -> OpRead
         };
     }
     read_value(s, at, i, code)
+}
+
+// A refused operation, handed on.
+pub fn not_read(r: OpRead) -> CountRead
+    ensures { λ a. ⌜ a ≡ handOp r ⌝ }
+{
+    match r {
+        OpRead::Refused { number, place } => CountRead::Refused { number, place },
+        OpRead::Found {
+            code: _,
+            value: _,
+            next: _,
+        } => CountRead::Refused {
+            number: 0,
+            place: 0,
+        },
+    }
 }
 
 // An operation, stored from `at` on; and the place after it.

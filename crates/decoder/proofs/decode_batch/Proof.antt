@@ -10,7 +10,7 @@ use Rattle.rules.specs.Operations.{operations}
 use Rattle.rules.proofs.Operations.{length-operations}
 use Rattle.rules.proofs.Runs.{zeros-fitted, fitted-length}
 use Rattle.wire.specs.declared.CountRead.the-variants.{Found}
-use Rattle.decoder.proofs.Stages.{found-by, refused-by}
+use Rattle.wire.proofs.Stages.{found-by, refused-by}
 use Rattle.decoder.proofs.Ops.{codes-operations}
 use Rattle.decoder.proofs.Batches.{way-7, way-slots, way-10, way-good, made-size, made-stored}
 use Rattle.decoder.proofs.decode_batch.Statement.{statement}

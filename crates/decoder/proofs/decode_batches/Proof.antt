@@ -7,7 +7,7 @@ use Rattle.rules.specs.Operations.{operations}
 use Rattle.rules.proofs.Operations.{length-operations}
 use Rattle.wire.specs.declared.CountRead.the-variants.{Found}
 use Rattle.decoder.proofs.Sizes.{sized-by}
-use Rattle.decoder.proofs.Stages.{found-by, refused-by}
+use Rattle.wire.proofs.Stages.{found-by, refused-by}
 use Rattle.decoder.proofs.Blocks as B
 use Rattle.decoder.proofs.decode_batches.Statement.{statement}
 use Rattle.decoder.proofs.decode_batches.Tie as tie

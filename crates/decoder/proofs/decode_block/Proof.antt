@@ -8,7 +8,7 @@ use Rattle.rules.specs.Bytes.{countAt}
 use Rattle.rules.specs.Functions.{arena, roomIn}
 use Rattle.decoder.specs.declared.Decoded.the-variants.{Made}
 use Rattle.decoder.specs.Stages.{handCount}
-use Rattle.decoder.proofs.Stages.{found-by, refused-by, held, count-found, count-lost}
+use Rattle.wire.proofs.Stages.{found-by, refused-by, held, count-found, count-lost}
 use Rattle.decoder.proofs.Ops.{items-in, count-on}
 use Rattle.decoder.proofs.Blocks as B
 use Rattle.decoder.proofs.decode_block.Statement.{statement}

@@ -5,7 +5,7 @@ use borrow.Author.Needs.{needs}
 use lib.ListN.{length}
 use Rattle.rules.specs.Operations.{operations}
 use Rattle.wire.specs.declared.CountRead.the-variants.{Found}
-use Rattle.decoder.proofs.Stages.{found-by, refused-by}
+use Rattle.wire.proofs.Stages.{found-by, refused-by}
 use Rattle.decoder.proofs.Batches as B
 use Rattle.decoder.proofs.decode_each.Statement.{statement}
 use Rattle.decoder.proofs.decode_each.Tie as tie

@@ -9,11 +9,11 @@ use lib.Seq.{append-snoc}
 use Rattle.rules.specs.Answer.{good, refused, Read, found, refuse, _then_}
 use Rattle.rules.specs.Operations.{Op}
 use Rattle.rules.proofs.Operations.{op}
 use Rattle.wire.specs.Replies.{countReadOf, opReadOf}
 use Rattle.wire.specs.declared.CountRead.{CountRead}
 use Rattle.wire.specs.declared.CountRead.the-variants as count
 use Rattle.wire.specs.declared.OpRead.the-variants as one
-use Rattle.decoder.specs.Stages.{counted, IfFound, Staged}
+use Rattle.wire.specs.Stages.{counted, IfFound, Staged}
 
 pub record Got {A : Type 0} (f : A → ℕ) (P : A → ℕ → Type 0) (d : Read A) (v next : ℕ) : Type 0 where
   pub item : A

@@ -1,8 +1,8 @@
 use mathlib.Core.Path.{sym, ap}
 use borrow.Author.Needs.{needs}
-use Rattle.decoder.specs.Stages.{handOp}
-use Rattle.decoder.proofs.not_read.Statement.{statement}
-use Rattle.decoder.proofs.not_read.Tie as tie
+use Rattle.wire.specs.Stages.{handOp}
+use Rattle.wire.proofs.not_read.Statement.{statement}
+use Rattle.wire.proofs.not_read.Tie as tie
 
 enum-known-r : tie.Need-enum-known-r
 enum-known-r c = search needs
