@@ -2,9 +2,9 @@ use native.Mathlib.Omega.{arith}
 use borrow.Author.Needs.{needs}
 use denote.Ref.{now}
 use lib.ListN.{length-set}
-use Rattle.decoder.proofs.Stores.{record-stored}
-use Rattle.decoder.proofs.put_record.Statement.{statement}
-use Rattle.decoder.proofs.put_record.Tie as tie
+use Rattle.unpacker.proofs.Stores.{record-stored}
+use Rattle.unpacker.proofs.put_record.Statement.{statement}
+use Rattle.unpacker.proofs.put_record.Tie as tie
 
 unpack-indptr-deltas-requires : tie.Need-unpack-indptr-deltas-requires
 unpack-indptr-deltas-requires c κs = search needs

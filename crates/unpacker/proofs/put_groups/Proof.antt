@@ -8,8 +8,8 @@ use lib.ListN.{length, drop}
 use lib.Seq.{sets}
 use Rattle.rules.specs.Record.{wordBytes}
 use Rattle.rules.proofs.Loads.{stored-turn, stored-end}
-use Rattle.decoder.proofs.put_groups.Statement.{statement}
-use Rattle.decoder.proofs.put_groups.Tie as tie
+use Rattle.unpacker.proofs.put_groups.Statement.{statement}
+use Rattle.unpacker.proofs.put_groups.Tie as tie
 
 abbrev Inv-loop : tie.InvT-loop
 Inv-loop groups out₀ at i₀ out i = (i ≤ 8) × (length out ≡ length out₀) × (sets out (at + 8 * i) (wordBytes (drop i groups)) ≡ sets out₀ at (wordBytes groups))

@@ -6,9 +6,9 @@ use denote.Ref.{now}
 use lib.ListN.{take}
 use lib.Seq.{length-take-le}
 use Rattle.wire.specs.declared.CountRead.the-variants.{Found}
-use Rattle.decoder.proofs.Groups as G
-use Rattle.decoder.proofs.decode_groups.Statement.{statement}
-use Rattle.decoder.proofs.decode_groups.Tie as tie
+use Rattle.unpacker.proofs.Groups as G
+use Rattle.unpacker.proofs.decode_groups.Statement.{statement}
+use Rattle.unpacker.proofs.decode_groups.Tie as tie
 
 abbrev Inv-loop : tie.InvT-loop
 Inv-loop table codes values b at deltas groups₀ left₀ from₀ count₀ g₀ groups left from count g = G.Walking table b codes values at deltas groups count g left from

@@ -5,9 +5,9 @@ use native.Mathlib.Omega.{arith}
 use borrow.Author.Needs.{needs}
 use Rattle.rules.specs.Lists.{total}
 use Rattle.rules.specs.Digits.{digits}
-use Rattle.decoder.proofs.Groups.{total-turn, total-end}
-use Rattle.decoder.proofs.operations_in.Statement.{statement}
-use Rattle.decoder.proofs.operations_in.Tie as tie
+use Rattle.unpacker.proofs.Groups.{total-turn, total-end}
+use Rattle.unpacker.proofs.operations_in.Statement.{statement}
+use Rattle.unpacker.proofs.operations_in.Tie as tie
 
 abbrev Inv-loop : tie.InvT-loop
 Inv-loop deltas left₀ sum₀ i₀ left sum i = (i ≤ 8) × (sum ≤ 15 * i) × (sum + total (digits 16 (8 - i) left) ≡ total (digits 16 8 deltas))

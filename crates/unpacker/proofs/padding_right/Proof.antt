@@ -12,10 +12,10 @@ use Rattle.rules.specs.Lists.{total}
 use Rattle.rules.specs.Digits.{digits}
 use Rattle.rules.specs.Operations.{Op}
 use Rattle.rules.specs.Operations as ops
-use Rattle.decoder.proofs.Groups.{total-turn}
-use Rattle.decoder.proofs.Padding as P
-use Rattle.decoder.proofs.padding_right.Statement.{statement}
-use Rattle.decoder.proofs.padding_right.Tie as tie
+use Rattle.unpacker.proofs.Groups.{total-turn}
+use Rattle.unpacker.proofs.Padding as P
+use Rattle.unpacker.proofs.padding_right.Statement.{statement}
+use Rattle.unpacker.proofs.padding_right.Tie as tie
 
 abbrev Inv-loop : tie.InvT-loop
 Inv-loop codes at deltas flags count left₀ bits₀ from₀ g₀ left bits from g =

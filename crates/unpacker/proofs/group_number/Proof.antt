@@ -5,9 +5,9 @@ use borrow.Author.Needs.{needs}
 use denote.Ref.{now}
 use lib.ListN.{length, drop}
 use Rattle.rules.specs.Digits.{number}
-use Rattle.decoder.proofs.Groups.{number-turn, number-end, power-turn, power-most}
-use Rattle.decoder.proofs.group_number.Statement.{statement}
-use Rattle.decoder.proofs.group_number.Tie as tie
+use Rattle.unpacker.proofs.Groups.{number-turn, number-end, power-turn, power-most}
+use Rattle.unpacker.proofs.group_number.Statement.{statement}
+use Rattle.unpacker.proofs.group_number.Tie as tie
 
 abbrev Inv-loop : tie.InvT-loop
 Inv-loop codes v₀ i₀ v i = (i ≤ length codes) × (v < 128 ^ (length codes - i)) × (v ≡ number 128 (drop i codes))

@@ -11,10 +11,10 @@ use Rattle.rules.proofs.Operations.{length-operations}
 use Rattle.rules.proofs.Runs.{zeros-fitted, fitted-length}
 use Rattle.wire.specs.declared.CountRead.the-variants.{Found}
 use Rattle.wire.proofs.Stages.{found-by, refused-by}
-use Rattle.decoder.proofs.Ops.{codes-operations}
-use Rattle.decoder.proofs.Batches.{way-7, way-slots, way-10, way-good, made-size, made-stored}
-use Rattle.decoder.proofs.decode_batch.Statement.{statement}
-use Rattle.decoder.proofs.decode_batch.Tie as tie
+use Rattle.unpacker.proofs.Operations.{codes-operations}
+use Rattle.unpacker.proofs.Batch.{way-7, way-slots, way-10, way-good, made-size, made-stored}
+use Rattle.unpacker.proofs.decode_batch.Statement.{statement}
+use Rattle.unpacker.proofs.decode_batch.Tie as tie
 
 sub-if1 : tie.Need-sub-if1
 sub-if1 c = search needs

@@ -6,10 +6,10 @@ use denote.Ref.{now}
 use lib.ListN.{length}
 use Rattle.rules.specs.Operations.{operations}
 use Rattle.rules.specs.Record.{immediates}
-use Rattle.decoder.specs.Stages.{Placed}
-use Rattle.decoder.proofs.Groups as G
-use Rattle.decoder.proofs.place_immediates.Statement.{statement}
-use Rattle.decoder.proofs.place_immediates.Tie as tie
+use Rattle.unpacker.specs.Groups.{Placed}
+use Rattle.unpacker.proofs.Groups as G
+use Rattle.unpacker.proofs.place_immediates.Statement.{statement}
+use Rattle.unpacker.proofs.place_immediates.Tie as tie
 
 abbrev Inv-loop : tie.InvT-loop
 Inv-loop table codes values b deltas slot groups₀ left₀ next₀ i₀ groups left next i =

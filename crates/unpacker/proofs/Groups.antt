@@ -20,8 +20,8 @@ use Rattle.rules.proofs.Slots.{emptyBefore, slots}
 use Rattle.rules.proofs.Operations.{kind-at, operations-turn, operations-end, true-left, true-right}
 use Rattle.rules.proofs.Runs.{fitted-set, fitted-length}
 use Rattle.wire.proofs.Laws.{digits-turn, digits-end}
-use Rattle.decoder.specs.Stages.{Coded, glue, behind, onward, Placed}
-use Rattle.decoder.proofs.Ops.{codes-operations, part-operations}
+use Rattle.unpacker.specs.Groups.{Coded, glue, behind, onward, Placed}
+use Rattle.unpacker.proofs.Operations.{codes-operations, part-operations}
 
 -- ---- a group's number, from its last opcode on
 

@@ -1,0 +1,5 @@
+pub mod Operations
+pub mod Groups
+pub mod Padding
+pub mod Stores
+pub mod Batch
