@@ -25,13 +25,13 @@ stored run i n vs e h =
     ap (take (i + n)) (sets-eq vs run i (omega arith))
     ∙ take-at (take i run ++ vs) (drop (i + length vs) run) (i + n) (length-append (take i run) vs ∙ omega (arith, length-take-le i run (omega arith)))
 
-module _ (t : List ℕ) (xs : List Op) (s : List ℕ) (sizes flags k : ℕ) where
+module _ (w : ℕ) (t : List ℕ) (xs : List Op) (s : List ℕ) (sizes flags k : ℕ) where
   abbrev pub whole : Read (List Record)
-  whole = batchesAt 8 t xs 0 0 (sizesFrom k s sizes) (flagsFrom k s flags)
+  whole = batchesAt w t xs 0 0 (sizesFrom k s sizes) (flagsFrom k s flags)
 
   -- the batches from the b-th on
   abbrev pub rest : ℕ → ℕ → Read (List Record)
-  rest b from = batchesAt 8 t xs from b (sizesFrom (k - b) s (sizes + 4 * b)) (flagsFrom (k - b) s (flags + b))
+  rest b from = batchesAt w t xs from b (sizesFrom (k - b) s (sizes + 4 * b)) (flagsFrom (k - b) s (flags + b))
 
   -- the records of the first b batches are found and stand in the run
   pub record Going (run : List ℕ) (b from : ℕ) : Type 0 where
@@ -47,7 +47,7 @@ module _ (t : List ℕ) (xs : List Op) (s : List ℕ) (sizes flags k : ℕ) wher
 
   module _ (run : List ℕ) (b from : ℕ) (g : Going run b from) (h : b < k) (v : ℕ) (e : v ≡ leAt 4 s (sizes + 4 * b)) where
     abbrev pub one : Read Record
-    one = batch t xs from b v (getD s (flags + b) 0)
+    one = batch w t xs from b v (getD s (flags + b) 0)
 
     next : rest b from ≡ (one then λ r end. rest (b + 1) end then λ rs end. found (r ∷ rs) end)
     unfolding batchesAt sizesFrom flagsFrom

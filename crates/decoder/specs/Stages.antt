@@ -48,10 +48,10 @@ itemsAt t s n at room =
     (found (record { ops = xs; batches = k }) a₃)
 
 -- items 4 and 5, and the records of k batches
-unfoldable pub recordsAt : List ℕ → List ℕ → List Op → ℕ → ℕ → Read (List Record)
-recordsAt t s xs k at =
-    layoutAt 8 s k at then λ l end.
-    batchesBy 8 t xs l then λ rs n.
+unfoldable pub recordsAt : ℕ → List ℕ → List ℕ → List Op → ℕ → ℕ → Read (List Record)
+recordsAt w t s xs k at =
+    layoutAt w s k at then λ l end.
+    batchesBy w t xs l then λ rs n.
     found rs end
 
 -- the sizes and the flags of k batches, by their bytes

@@ -1,17 +1,16 @@
 // The block decoder (document 01, "Block bytes").
 ghost use mathlib.Core.Path.{_≡_};
-ghost use mathlib.Core.Bool.{true};
 ghost use mathlib.Core.List.{List};
 ghost use Prim.Native.Nat.{ℕ, _+_, _*_, _≤_, _<_};
 ghost use lib.ListN.{length};
-ghost use Rattle.rules.specs.Digits.{digits, leAt};
+ghost use Rattle.rules.specs.Digits.{leAt};
 ghost use Rattle.rules.specs.Operations.{Op, operations};
 ghost use Rattle.rules.specs.Record.{Record};
-ghost use Rattle.rules.specs.Bytes.{opsAt, nibblesAt, upTo};
+ghost use Rattle.rules.specs.Bytes.{opsAt, nibblesAt};
 ghost use Rattle.rules.specs.Block.{Head, batchesAt, blockAt};
 ghost use Rattle.rules.specs.Functions.{arena, roomIn, decoded};
 ghost use Rattle.wire.specs.Stages.{counted, Staged};
-ghost use Rattle.unpacker.specs.Groups.{Coded};
+ghost use Rattle.unpacker.specs.Groups.{Coded, RightSizes};
 ghost use Rattle.decoder.specs.Replies.{Decodes};
 ghost use Rattle.decoder.specs.Stages.{Reading, handCount, tailless};
 ghost use Rattle.decoder.specs.Stages.{OpsIn, RecordsIn, itemsAt, recordsAt, sizesFrom, flagsFrom};
@@ -106,7 +105,7 @@ fn read_items(
     c
 }
 
-// ---- item 4: all nibbles. At width 8 no flag byte is refused.
+// ---- item 4: all nibbles. What looks at these bytes and at the flags' is for width 8 alone: there no nibble is refused for its place, and no flag byte at all.
 
 // Whether none of the sizes of k batches, four bytes each from `at` on, is over 9.
 fn nibbles_right(s: &[u8], at: usize, k: usize) -> CountRead
@@ -135,6 +134,7 @@ fn nibbles_right(s: &[u8], at: usize, k: usize) -> CountRead
 
 // The batches in these operations, one after the other: k batches, their sizes from `sizes` on and their flags from `flags` on.
 fn decode_each(
+    width: usize,
     table: &[u8],
     codes: &[u8],
     values: &[u64],
@@ -146,13 +146,14 @@ fn decode_each(
 ) -> CountRead
     requires { ⌜ (length (now table) ≡ 128) × (length (now codes) ≡ length (now values)) × Coded (now codes) ⌝ }
     requires { ⌜ (sizes + 4 * k ≤ length (now s)) × (flags + k ≤ length (now s)) × (82 * k ≤ length (now records)) ⌝ }
-    requires { ⌜ ((b : ℕ) → b < k → upTo 9 (digits 16 8 (leAt 4 (now s) (sizes + 4 * b))) ≡ true) ⌝ }
-    ensures { λ r. ⌜ Staged length (λ (rs : List Record) (end : ℕ). RecordsIn (now (records .exit)) rs) (batchesAt 8 (now (table .entry)) (operations (now (codes .entry)) (now (values .entry))) 0 0 (sizesFrom k (now (s .entry)) sizes) (flagsFrom k (now (s .entry)) flags)) r ⌝ }
+    requires { ⌜ (width ≤ 8) × ((b : ℕ) → b < k → RightSizes width (leAt 4 (now s) (sizes + 4 * b))) ⌝ }
+    ensures { λ r. ⌜ Staged length (λ (rs : List Record) (end : ℕ). RecordsIn (now (records .exit)) rs) (batchesAt width (now (table .entry)) (operations (now (codes .entry)) (now (values .entry))) 0 0 (sizesFrom k (now (s .entry)) sizes) (flagsFrom k (now (s .entry)) flags)) r ⌝ }
 {
     let mut b: usize = 0;
     let mut from: usize = 0;
     while b < k {
         let r = unpacker::decode_batch(
+            width,
             table,
             codes,
             values,
@@ -176,6 +177,7 @@ fn decode_each(
 
 // Items 4 and 5 from `at` on, all nibbles first, and the batches that they say, which take all operations.
 fn decode_batches(
+    width: usize,
     table: &[u8],
     codes: &[u8],
     values: &[u64],
@@ -185,14 +187,14 @@ fn decode_batches(
     records: &mut [u8],
 ) -> CountRead
     requires { ⌜ (length (now table) ≡ 128) × (length (now codes) ≡ length (now values)) × Coded (now codes) ⌝ }
-    requires { ⌜ (at + 5 * k ≤ length (now s)) × (82 * k ≤ length (now records)) ⌝ }
-    ensures { λ r. ⌜ Staged length (λ (rs : List Record) (end : ℕ). RecordsIn (now (records .exit)) rs × (at ≤ end)) (recordsAt (now (table .entry)) (now (s .entry)) (operations (now (codes .entry)) (now (values .entry))) k at) r ⌝ }
+    requires { ⌜ (width ≡ 8) × (at + 5 * k ≤ length (now s)) × (82 * k ≤ length (now records)) ⌝ }
+    ensures { λ r. ⌜ Staged length (λ (rs : List Record) (end : ℕ). RecordsIn (now (records .exit)) rs × (at ≤ end)) (recordsAt width (now (table .entry)) (now (s .entry)) (operations (now (codes .entry)) (now (values .entry))) k at) r ⌝ }
 {
     let n = nibbles_right(s, at, k);
     let CountRead::Found { value: _, next } = n else {
         return n;
     };
-    let r = decode_each(table, codes, values, s, at, next, k, records);
+    let r = decode_each(width, table, codes, values, s, at, next, k, records);
     let CountRead::Found { value, next: end } = r else {
         return r;
     };
@@ -211,6 +213,7 @@ fn decode_batches(
 // ---- the block
 
 fn decode_block(
+    width: usize,
     table: &[u8],
     s: &[u8],
     at: usize,
@@ -218,8 +221,8 @@ fn decode_block(
     out_values: &mut [u64],
     records: &mut [u8],
 ) -> Decoded
-    requires { ⌜ length (now table) ≡ 128 ⌝ }
-    ensures { λ r. ⌜ Reading at (blockAt 8 (now (table .entry)) (now (s .entry)) at (roomIn (arena (now («out_codes» .entry)) (now («out_values» .entry)) (now (records .entry))))) (arena (now («out_codes» .exit)) (now («out_values» .exit)) (now (records .exit))) r ⌝ }
+    requires { ⌜ (length (now table) ≡ 128) × (width ≡ 8) ⌝ }
+    ensures { λ r. ⌜ Reading at (blockAt width (now (table .entry)) (now (s .entry)) at (roomIn (arena (now («out_codes» .entry)) (now («out_values» .entry)) (now (records .entry))))) (arena (now («out_codes» .exit)) (now («out_values» .exit)) (now (records .exit))) r ⌝ }
 {
     let c = wire::read_count(s, at);
     let CountRead::Found { value, next } = c else {
@@ -249,6 +252,7 @@ fn decode_block(
     };
     let k = batches as usize;
     let r = decode_batches(
+        width,
         table,
         &out_codes[..n],
         &out_values[..n],
@@ -274,6 +278,7 @@ fn decode_block(
 
 // What is looked at first: 3, 14 and 1.
 fn decode_checked(
+    width: usize,
     table: &[u8],
     s: &[u8],
     at: usize,
@@ -281,7 +286,8 @@ fn decode_checked(
     out_values: &mut [u64],
     records: &mut [u8],
 ) -> Decoded
-    ensures { λ r. ⌜ Reading at (decoded 8 (now (table .entry)) (now (s .entry)) at (roomIn (arena (now («out_codes» .entry)) (now («out_values» .entry)) (now (records .entry))))) (arena (now («out_codes» .exit)) (now («out_values» .exit)) (now (records .exit))) r ⌝ }
+    requires { ⌜ width ≡ 8 ⌝ }
+    ensures { λ r. ⌜ Reading at (decoded width (now (table .entry)) (now (s .entry)) at (roomIn (arena (now («out_codes» .entry)) (now («out_values» .entry)) (now (records .entry))))) (arena (now («out_codes» .exit)) (now («out_values» .exit)) (now (records .exit))) r ⌝ }
 {
     if 1048576 < s.len() {
         return Decoded::Refused {
@@ -301,7 +307,7 @@ fn decode_checked(
             place: 0,
         };
     }
-    decode_block(table, s, at, out_codes, out_values, records)
+    decode_block(width, table, s, at, out_codes, out_values, records)
 }
 
 // Zeros after the first n operations and the first m bytes of records.
@@ -324,7 +330,7 @@ pub fn decode(
 ) -> Decoded
     ensures { λ r. ⌜ Decodes (now (table .entry)) (now (s .entry)) at (arena (now («out_codes» .entry)) (now («out_values» .entry)) (now (records .entry))) (arena (now («out_codes» .exit)) (now («out_values» .exit)) (now (records .exit))) r ⌝ }
 {
-    let r = decode_checked(table, s, at, out_codes, out_values, records);
+    let r = decode_checked(8, table, s, at, out_codes, out_values, records);
     let Decoded::Made {
         batches,
         operations,

@@ -1,9 +1,9 @@
--- A walk over the eight groups of a batch: their numbers, and their immediates in the slots right after them. Assumes nothing.
+-- A walk over the groups of a batch: their numbers, and their immediates in the slots right after them. Assumes nothing.
 use mathlib.Core.Path.{_≡_, refl, sym, ap, _∙_}
 use mathlib.Core.Bool.{true}
 use mathlib.Core.List.{List, [], _∷_, _++_}
 use Prim.Native.Nat.{ℕ, zero, suc, _+_, _-_, _*_, _/_, _%_, _^_, _≤_, _<_}
-use native.Mathlib.Nat.{pow-suc, pow-le-pow-right}
+use native.Mathlib.Nat.{pow-suc, pow-le-pow-right, sub-zero}
 use native.Mathlib.Numerals.{add-one}
 use native.Mathlib.Omega.{arith}
 use borrow.Author.Tests.{ne-eqb, leb-true}
@@ -131,12 +131,12 @@ module _ (us ws : List ℕ) where
       go (w ∷ vs) = sym (append-snoc ws v (w ∷ vs))
   behind-number v (refused n p) = refl
 
-module _ (t : List ℕ) (b : ℕ) (xs : List Op) where
+module _ (w : ℕ) (t : List ℕ) (b : ℕ) (xs : List Op) where
   -- an empty group, nothing due
-  pub turn-empty : (us ws : List ℕ) (g left at : ℕ) → g < 8 → left % 16 ≡ 0
-      → behind us ws (slots t b (digits 16 (8 - g) left) [] xs at) ≡ behind us (ws ++ (0 ∷ [])) (slots t b (digits 16 (8 - (g + 1)) (left / 16)) [] xs at)
+  pub turn-empty : (us ws : List ℕ) (g left at : ℕ) → g < w → left % 16 ≡ 0
+      → behind us ws (slots t b (digits 16 (w - g) left) [] xs at) ≡ behind us (ws ++ (0 ∷ [])) (slots t b (digits 16 (w - (g + 1)) (left / 16)) [] xs at)
   unfolding slots
-  turn-empty us ws g left at h e = rw (digits-turn 16 8 g left h, e) (behind-empty us ws (slots t b (digits 16 (8 - (g + 1)) (left / 16)) [] xs at))
+  turn-empty us ws g left at h e = rw (digits-turn 16 w g left h, e) (behind-empty us ws (slots t b (digits 16 (w - (g + 1)) (left / 16)) [] xs at))
 
   group : (us ws : List ℕ) (n : ℕ) (ns : List ℕ) (at : ℕ) → (n ≡ 0 → ⊥)
       → behind us ws (slots t b (n ∷ ns) [] xs at) ≡ behind (ws ++ (codesNumber (part n xs at) ∷ [])) (ws ++ (codesNumber (part n xs at) ∷ [])) (slots t b ns (immediates t (part n xs at)) xs (at + n))
@@ -145,57 +145,57 @@ module _ (t : List ℕ) (b : ℕ) (xs : List Op) where
   group us ws (suc n) ns at h = behind-number us ws (codesNumber (part (suc n) xs at)) (slots t b ns (immediates t (part (suc n) xs at)) xs (at + suc n))
 
   -- a group: its number, and its immediates are due
-  pub turn-group : (us gs : List ℕ) (g left at : ℕ) → length gs ≡ 8 → g < 8 → (left % 16 ≡ 0 → ⊥)
-      → behind us (take g gs) (slots t b (digits 16 (8 - g) left) [] xs at)
-      ≡ onward t b xs (at + left % 16) (set gs g (codesNumber (part (left % 16) xs at))) (g + 1) (left / 16) (immediates t (part (left % 16) xs at))
-  turn-group us gs g left at n h e =
-      rw (digits-turn 16 8 g left h, take-next gs g (codesNumber (part (left % 16) xs at)) n h) (group us (take g gs) (left % 16) (digits 16 (8 - (g + 1)) (left / 16)) at e)
+  pub turn-group : (us gs : List ℕ) (g left at : ℕ) → length gs ≡ 8 → w ≤ 8 → g < w → (left % 16 ≡ 0 → ⊥)
+      → behind us (take g gs) (slots t b (digits 16 (w - g) left) [] xs at)
+      ≡ onward w t b xs (at + left % 16) (set gs g (codesNumber (part (left % 16) xs at))) (g + 1) (left / 16) (immediates t (part (left % 16) xs at))
+  turn-group us gs g left at n m h e =
+      rw (digits-turn 16 w g left h, take-next gs g (codesNumber (part (left % 16) xs at)) n (omega arith)) (group us (take g gs) (left % 16) (digits 16 (w - (g + 1)) (left / 16)) at e)
 
-  -- an immediate: it takes the next slot, which is an empty group under 8
-  pub turn-placed : (gs : List ℕ) (g left v : ℕ) (due : List ℕ) (end : ℕ) → length gs ≡ 8 → g < 8 → left % 16 ≡ 0
-      → onward t b xs end gs g left (v ∷ due) ≡ onward t b xs end (set gs g v) (g + 1) (left / 16) due
+  -- an immediate: it takes the next slot, which is an empty group under the width
+  pub turn-placed : (gs : List ℕ) (g left v : ℕ) (due : List ℕ) (end : ℕ) → length gs ≡ 8 → w ≤ 8 → g < w → left % 16 ≡ 0
+      → onward w t b xs end gs g left (v ∷ due) ≡ onward w t b xs end (set gs g v) (g + 1) (left / 16) due
   unfolding slots
-  turn-placed gs g left v due end n h e =
-      rw (digits-turn 16 8 g left h, e, take-next gs g v n h) (behind-number (take g gs) (take g gs) v (slots t b (digits 16 (8 - (g + 1)) (left / 16)) due xs end))
+  turn-placed gs g left v due end n m h e =
+      rw (digits-turn 16 w g left h, e, take-next gs g v n (omega arith)) (behind-number (take g gs) (take g gs) v (slots t b (digits 16 (w - (g + 1)) (left / 16)) due xs end))
 
-  pub stop-8 : (gs : List ℕ) (g left v : ℕ) (due : List ℕ) (end : ℕ) → 8 ≤ g → onward t b xs end gs g left (v ∷ due) ≡ refused 8 b
+  pub stop-8 : (gs : List ℕ) (g left v : ℕ) (due : List ℕ) (end : ℕ) → w ≤ g → onward w t b xs end gs g left (v ∷ due) ≡ refused 8 b
   unfolding slots
-  stop-8 gs g left v due end h = rw (digits-end 16 8 g left h)
+  stop-8 gs g left v due end h = rw (digits-end 16 w g left h)
 
   taken : (n : ℕ) (ns : List ℕ) (v : ℕ) (due : List ℕ) (at : ℕ) → (n ≡ 0 → ⊥) → slots t b (n ∷ ns) (v ∷ due) xs at ≡ refused 9 b
   unfolding slots
   taken zero ns v due at h = absurd (h refl)
   taken (suc n) ns v due at h = refl
 
-  pub stop-9 : (gs : List ℕ) (g left v : ℕ) (due : List ℕ) (end : ℕ) → g < 8 → (left % 16 ≡ 0 → ⊥) → onward t b xs end gs g left (v ∷ due) ≡ refused 9 b
-  stop-9 gs g left v due end h e = rw (digits-turn 16 8 g left h, taken (left % 16) (digits 16 (8 - (g + 1)) (left / 16)) v due end e)
+  pub stop-9 : (gs : List ℕ) (g left v : ℕ) (due : List ℕ) (end : ℕ) → g < w → (left % 16 ≡ 0 → ⊥) → onward w t b xs end gs g left (v ∷ due) ≡ refused 9 b
+  stop-9 gs g left v due end h e = rw (digits-turn 16 w g left h, taken (left % 16) (digits 16 (w - (g + 1)) (left / 16)) v due end e)
 
-  pub done : (us ws : List ℕ) (g left at : ℕ) → 8 ≤ g → behind us ws (slots t b (digits 16 (8 - g) left) [] xs at) ≡ found us at
+  pub done : (us ws : List ℕ) (g left at : ℕ) → w ≤ g → behind us ws (slots t b (digits 16 (w - g) left) [] xs at) ≡ found us at
   unfolding slots
-  done us ws g left at h = rw (digits-end 16 8 g left h)
+  done us ws g left at h = rw (digits-end 16 w g left h)
 
 -- ---- the sizes left
 
-pub total-end : (g left : ℕ) → 8 ≤ g → total (digits 16 (8 - g) left) ≡ 0
+pub total-end : (w g left : ℕ) → w ≤ g → total (digits 16 (w - g) left) ≡ 0
 unfolding total
-total-end g left h = rw (digits-end 16 8 g left h)
+total-end w g left h = rw (digits-end 16 w g left h)
 
-module _ (g left : ℕ) (h : g < 8) where
-  pub total-turn : total (digits 16 (8 - g) left) ≡ left % 16 + total (digits 16 (8 - (g + 1)) (left / 16))
+module _ (w g left : ℕ) (h : g < w) where
+  pub total-turn : total (digits 16 (w - g) left) ≡ left % 16 + total (digits 16 (w - (g + 1)) (left / 16))
   unfolding total
-  total-turn = rw (digits-turn 16 8 g left h)
+  total-turn = rw (digits-turn 16 w g left h)
 
-  pub small-first : upTo 9 (digits 16 (8 - g) left) ≡ true → left % 16 ≤ 9
+  pub small-first : upTo 9 (digits 16 (w - g) left) ≡ true → left % 16 ≤ 9
   unfolding every
-  small-first e = leb-true (left % 16) 9 (true-left (leb (left % 16) 9) (upTo 9 (digits 16 (8 - (g + 1)) (left / 16))) (rw (digits-turn 16 8 g left h) at e))
+  small-first e = leb-true (left % 16) 9 (true-left (leb (left % 16) 9) (upTo 9 (digits 16 (w - (g + 1)) (left / 16))) (rw (digits-turn 16 w g left h) at e))
 
-  pub small-rest : upTo 9 (digits 16 (8 - g) left) ≡ true → upTo 9 (digits 16 (8 - (g + 1)) (left / 16)) ≡ true
+  pub small-rest : upTo 9 (digits 16 (w - g) left) ≡ true → upTo 9 (digits 16 (w - (g + 1)) (left / 16)) ≡ true
   unfolding every
-  small-rest e = true-right (leb (left % 16) 9) (upTo 9 (digits 16 (8 - (g + 1)) (left / 16))) (rw (digits-turn 16 8 g left h) at e)
+  small-rest e = true-right (leb (left % 16) 9) (upTo 9 (digits 16 (w - (g + 1)) (left / 16))) (rw (digits-turn 16 w g left h) at e)
 
-  pub small-empty : left % 16 ≡ 0 → upTo 9 (digits 16 (8 - g) left) ≡ upTo 9 (digits 16 (8 - (g + 1)) (left / 16))
+  pub small-empty : left % 16 ≡ 0 → upTo 9 (digits 16 (w - g) left) ≡ upTo 9 (digits 16 (w - (g + 1)) (left / 16))
   unfolding every
-  small-empty e = rw (digits-turn 16 8 g left h, e)
+  small-empty e = rw (digits-turn 16 w g left h, e)
 
 -- ---- the immediates of a group, placed one after the other
 
@@ -203,25 +203,25 @@ module _ (g left : ℕ) (h : g < 8) where
 pub eight : (gs us : List ℕ) → gs ≡ fitted 8 us → length gs ≡ 8
 eight gs us f = ap length f ∙ fitted-length 8 us
 
-module _ (t : List ℕ) (b : ℕ) (due gs : List ℕ) (g deltas : ℕ) where
-  pub place-none : g ≤ 8 → gs ≡ fitted 8 (take g gs) → Placed t b due gs g deltas due gs g deltas
+module _ (w : ℕ) (t : List ℕ) (b : ℕ) (due gs : List ℕ) (g deltas : ℕ) where
+  pub place-none : g ≤ w → gs ≡ fitted 8 (take g gs) → Placed w t b due gs g deltas due gs g deltas
   place-none h f = record { walk = λ xs end. refl; up = omega arith; under = h; numbers = f; sizes = refl; small = refl }
 
-  module _ (rest hs : List ℕ) (h left : ℕ) (p : Placed t b due gs g deltas rest hs h left) where
-    pub place-plain : (more : List ℕ) → rest ≡ more → Placed t b due gs g deltas more hs h left
+  module _ (rest hs : List ℕ) (h left : ℕ) (p : Placed w t b due gs g deltas rest hs h left) where
+    pub place-plain : (more : List ℕ) → rest ≡ more → Placed w t b due gs g deltas more hs h left
     place-plain more e = rw e at p
 
-    pub place-turn : (v : ℕ) (more : List ℕ) → rest ≡ v ∷ more → h < 8 → left % 16 ≡ 0 → Placed t b due gs g deltas more (set hs h v) (h + 1) (left / 16)
-    place-turn v more e l z =
+    pub place-turn : (v : ℕ) (more : List ℕ) → rest ≡ v ∷ more → w ≤ 8 → h < w → left % 16 ≡ 0 → Placed w t b due gs g deltas more (set hs h v) (h + 1) (left / 16)
+    place-turn v more e m l z =
         let n = eight hs (take h hs) (p .numbers) in
-        let s = total-turn h left l in
+        let s = total-turn w h left l in
         record {
-          walk = λ xs end. p .walk xs end ∙ rw e (turn-placed t b xs hs h left v more end n l z);
+          walk = λ xs end. p .walk xs end ∙ rw e (turn-placed w t b xs hs h left v more end n m l z);
           up = omega (arith, p .up);
           under = omega arith;
-          numbers = store hs h v n l (p .numbers);
+          numbers = store hs h v n (omega arith) (p .numbers);
           sizes = omega (arith, p .sizes);
-          small = p .small ∙ small-empty h left l z;
+          small = p .small ∙ small-empty w h left l z;
         }
 
 -- ---- a part of a run, as it is lent
@@ -251,17 +251,25 @@ lent-number n at cs vs h l =
 
 -- ---- the walk over the groups: those before g are done, and count numbers are found
 
-pub record Walking (t : List ℕ) (b : ℕ) (cs vs : List ℕ) (at deltas : ℕ) (gs : List ℕ) (count g left from : ℕ) : Type 0 where
+pub record Walking (w : ℕ) (t : List ℕ) (b : ℕ) (cs vs : List ℕ) (at deltas : ℕ) (gs : List ℕ) (count g left from : ℕ) : Type 0 where
   pub up : count ≤ g
-  pub under : g ≤ 8
+  pub under : g ≤ w
   pub numbers : gs ≡ fitted 8 (take count gs)
-  pub room : from + total (digits 16 (8 - g) left) ≤ length cs
-  pub small : upTo 9 (digits 16 (8 - g) left) ≡ true
-  pub walk : slots t b (digits 16 8 deltas) [] (operations cs vs) at ≡ behind (take count gs) (take g gs) (slots t b (digits 16 (8 - g) left) [] (operations cs vs) from)
+  pub room : from + total (digits 16 (w - g) left) ≤ length cs
+  pub small : upTo 9 (digits 16 (w - g) left) ≡ true
+  pub walk : slots t b (digits 16 w deltas) [] (operations cs vs) at ≡ behind (take count gs) (take g gs) (slots t b (digits 16 (w - g) left) [] (operations cs vs) from)
 
-module _ (t : List ℕ) (b : ℕ) (cs vs : List ℕ) (at deltas : ℕ) where
-  pub walk-start : (gs : List ℕ) → gs ≡ fitted 8 [] → at + total (digits 16 8 deltas) ≤ length cs → upTo 9 (digits 16 8 deltas) ≡ true → Walking t b cs vs at deltas gs 0 0 deltas at
-  walk-start gs f r s = record { up = omega arith; under = omega arith; numbers = f; room = r; small = s; walk = sym (same (slots t b (digits 16 8 deltas) [] (operations cs vs) at)) }
+module _ (w : ℕ) (m : w ≤ 8) (t : List ℕ) (b : ℕ) (cs vs : List ℕ) (at deltas : ℕ) where
+  pub walk-start : (gs : List ℕ) → gs ≡ fitted 8 [] → at + total (digits 16 w deltas) ≤ length cs → upTo 9 (digits 16 w deltas) ≡ true → Walking w t b cs vs at deltas gs 0 0 deltas at
+  walk-start gs f r s =
+      record {
+        up = omega arith;
+        under = omega arith;
+        numbers = f;
+        room = rw sub-zero r;
+        small = rw sub-zero s;
+        walk = rw sub-zero (sym (same (slots t b (digits 16 w deltas) [] (operations cs vs) at)));
+      }
     where
       same : (r : Read (List ℕ)) → behind [] [] r ≡ r
       same (good i) = rw (go (i .item))
@@ -271,49 +279,49 @@ module _ (t : List ℕ) (b : ℕ) (cs vs : List ℕ) (at deltas : ℕ) where
           go (v ∷ vs) = refl
       same (refused n p) = refl
 
-  module _ (gs : List ℕ) (count g left from : ℕ) (w : Walking t b cs vs at deltas gs count g left from) (h : g < 8) where
+  module _ (gs : List ℕ) (count g left from : ℕ) (a : Walking w t b cs vs at deltas gs count g left from) (h : g < w) where
     n : length gs ≡ 8
-    n = eight gs (take count gs) (w .numbers)
+    n = eight gs (take count gs) (a .numbers)
 
-    pub walk-empty : left % 16 ≡ 0 → Walking t b cs vs at deltas gs count (g + 1) (left / 16) from
+    pub walk-empty : left % 16 ≡ 0 → Walking w t b cs vs at deltas gs count (g + 1) (left / 16) from
     walk-empty z =
         record {
-          up = omega (arith, w .up);
+          up = omega (arith, a .up);
           under = omega arith;
-          numbers = w .numbers;
-          room = omega (arith, w .room, total-turn g left h);
-          small = small-rest g left h (w .small);
-          walk = w .walk ∙ rw (zeros-next gs count g n (w .up) (w .numbers) h) (turn-empty t b (operations cs vs) (take count gs) (take g gs) g left from h z);
+          numbers = a .numbers;
+          room = omega (arith, a .room, total-turn w g left h);
+          small = small-rest w g left h (a .small);
+          walk = a .walk ∙ rw (zeros-next gs count g n (a .up) (a .numbers) (omega arith)) (turn-empty w t b (operations cs vs) (take count gs) (take g gs) g left from h z);
         }
 
     pub group-fits : from + left % 16 ≤ length cs
-    group-fits = omega (arith, w .room, total-turn g left h)
+    group-fits = omega (arith, a .room, total-turn w g left h)
 
     pub group-small : left % 16 ≤ 9
-    group-small = small-first g left h (w .small)
+    group-small = small-first w g left h (a .small)
 
     pub group-stored : (v : ℕ) → set gs g v ≡ fitted 8 (take (g + 1) (set gs g v))
-    group-stored v = store gs g v n h (zeros-more gs count g n (w .up) (w .numbers) (w .under))
+    group-stored v = store gs g v n (omega arith) (zeros-more gs count g n (a .up) (a .numbers) (omega (arith, a .under)))
 
     module _ (v : ℕ) (e : v ≡ number 128 (lent cs from (left % 16))) (z : left % 16 ≡ 0 → ⊥) (l : length cs ≡ length vs) where
       abbrev pub owed : List ℕ
       owed = immediates t (operations (lent cs from (left % 16)) (lent vs from (left % 16)))
 
-      walk-on : slots t b (digits 16 8 deltas) [] (operations cs vs) at ≡ onward t b (operations cs vs) (from + left % 16) (set gs g v) (g + 1) (left / 16) owed
+      walk-on : slots t b (digits 16 w deltas) [] (operations cs vs) at ≡ onward w t b (operations cs vs) (from + left % 16) (set gs g v) (g + 1) (left / 16) owed
       walk-on =
-          w .walk ∙ turn-group t b (operations cs vs) (take count gs) gs g left from n h z
+          a .walk ∙ turn-group w t b (operations cs vs) (take count gs) gs g left from n m h z
           ∙ rw (lent-part (left % 16) from cs vs, e, lent-number (left % 16) from cs vs group-fits l)
 
-      pub walk-refused : (m p : ℕ) → ((xs : List Op) (end : ℕ) → onward t b xs end (set gs g v) (g + 1) (left / 16) owed ≡ refused m p) → slots t b (digits 16 8 deltas) [] (operations cs vs) at ≡ refused m p
-      walk-refused m p r = walk-on ∙ r (operations cs vs) (from + left % 16)
+      pub walk-refused : (k p : ℕ) → ((xs : List Op) (end : ℕ) → onward w t b xs end (set gs g v) (g + 1) (left / 16) owed ≡ refused k p) → slots t b (digits 16 w deltas) [] (operations cs vs) at ≡ refused k p
+      walk-refused k p r = walk-on ∙ r (operations cs vs) (from + left % 16)
 
-      pub walk-group : (hs : List ℕ) (k rest : ℕ) → Placed t b owed (set gs g v) (g + 1) (left / 16) [] hs k rest → Walking t b cs vs at deltas hs k k rest (from + left % 16)
+      pub walk-group : (hs : List ℕ) (k rest : ℕ) → Placed w t b owed (set gs g v) (g + 1) (left / 16) [] hs k rest → Walking w t b cs vs at deltas hs k k rest (from + left % 16)
       walk-group hs k rest p =
           record {
             up = omega arith;
             under = p .under;
             numbers = p .numbers;
-            room = omega (arith, w .room, total-turn g left h, p .sizes);
-            small = sym (p .small) ∙ small-rest g left h (w .small);
+            room = omega (arith, a .room, total-turn w g left h, p .sizes);
+            small = sym (p .small) ∙ small-rest w g left h (a .small);
             walk = walk-on ∙ p .walk (operations cs vs) (from + left % 16);
           }

@@ -13,7 +13,7 @@ ghost use Rattle.rules.specs.Bytes.{upTo};
 ghost use Rattle.rules.specs.Block.{batchAt};
 ghost use Rattle.rules.proofs.Slots.{slots};
 ghost use Rattle.wire.specs.Stages.{Staged};
-ghost use Rattle.unpacker.specs.Groups.{Coded, Placing, PaddingRight};
+ghost use Rattle.unpacker.specs.Groups.{Coded, RightSizes, Placing, PaddingRight};
 use wire::CountRead;
 
 // The number of a group: the sum of opcode times 128^position.
@@ -30,9 +30,10 @@ fn group_number(codes: &[u8]) -> u64
     v
 }
 
-// The immediates of a group's operations, each into the next slot, which must be an empty group under 8; `deltas` has the sizes from the slot on.
+// The immediates of a group's operations, each into the next slot, which must be an empty group under the width; `deltas` has the sizes from the slot on.
 // The answer's value has the sizes from the next slot on.
 fn place_immediates(
+    width: usize,
     table: &[u8],
     codes: &[u8],
     values: &[u64],
@@ -41,9 +42,9 @@ fn place_immediates(
     slot: usize,
     groups: &mut [u64; 8],
 ) -> CountRead
-    requires { ⌜ (length (now table) ≡ 128) × (length (now codes) ≡ length (now values)) × Coded (now codes) × (slot ≤ 8) ⌝ }
-    requires { ⌜ now groups ≡ fitted 8 (take slot (now groups)) ⌝ }
-    ensures { λ r. ⌜ Placing (now (table .entry)) b (immediates (now (table .entry)) (operations (now (codes .entry)) (now (values .entry)))) (now (groups .entry)) slot deltas (now (groups .exit)) r ⌝ }
+    requires { ⌜ (length (now table) ≡ 128) × (length (now codes) ≡ length (now values)) × Coded (now codes) ⌝ }
+    requires { ⌜ (width ≤ 8) × (slot ≤ width) × (now groups ≡ fitted 8 (take slot (now groups))) ⌝ }
+    ensures { λ r. ⌜ Placing width (now (table .entry)) b (immediates (now (table .entry)) (operations (now (codes .entry)) (now (values .entry)))) (now (groups .entry)) slot deltas (now (groups .exit)) r ⌝ }
 {
     let mut left = deltas;
     let mut next = slot;
@@ -53,7 +54,7 @@ fn place_immediates(
             i += 1;
             continue;
         }
-        if 8 <= next {
+        if width <= next {
             return CountRead::Refused {
                 number: 8,
                 place: b,
@@ -76,6 +77,7 @@ fn place_immediates(
 // The group numbers of a batch whose operations start at `at`: each non-empty group's number, and its immediates in the slots right after it.
 // The answer's value is the group count.
 fn decode_groups(
+    width: usize,
     table: &[u8],
     codes: &[u8],
     values: &[u64],
@@ -84,15 +86,15 @@ fn decode_groups(
     deltas: u64,
     groups: &mut [u64; 8],
 ) -> CountRead
-    requires { ⌜ (length (now table) ≡ 128) × (length (now codes) ≡ length (now values)) × Coded (now codes) × (now groups ≡ fitted 8 []) ⌝ }
-    requires { ⌜ (at + total (digits 16 8 deltas) ≤ length (now codes)) × (upTo 9 (digits 16 8 deltas) ≡ true) ⌝ }
-    ensures { λ r. ⌜ Staged length (λ (vs : List ℕ) (end : ℕ). (now (groups .exit) ≡ fitted 8 vs) × (length vs ≤ 8) × (end ≤ length (now (codes .entry)))) (slots (now (table .entry)) b (digits 16 8 deltas) [] (operations (now (codes .entry)) (now (values .entry))) at) r ⌝ }
+    requires { ⌜ (length (now table) ≡ 128) × (length (now codes) ≡ length (now values)) × Coded (now codes) ⌝ }
+    requires { ⌜ (width ≤ 8) × (now groups ≡ fitted 8 []) × (at + total (digits 16 width deltas) ≤ length (now codes)) × (upTo 9 (digits 16 width deltas) ≡ true) ⌝ }
+    ensures { λ r. ⌜ Staged length (λ (vs : List ℕ) (end : ℕ). (now (groups .exit) ≡ fitted 8 vs) × (length vs ≤ width) × (end ≤ length (now (codes .entry)))) (slots (now (table .entry)) b (digits 16 width deltas) [] (operations (now (codes .entry)) (now (values .entry))) at) r ⌝ }
 {
     let mut left = deltas;
     let mut from = at;
     let mut count: usize = 0;
     let mut g: usize = 0;
-    while g < 8 {
+    while g < width {
         let n = (left % 16) as usize;
         left = left / 16;
         if n == 0 {
@@ -103,6 +105,7 @@ fn decode_groups(
         let slot = g + 1;
         groups[g] = group_number(&codes[from..end]);
         let r = place_immediates(
+            width,
             table,
             &codes[from..end],
             &values[from..end],
@@ -198,6 +201,7 @@ fn put_record(deltas: u64, flags: u8, groups: &[u64; 8], count: u64, out: &mut [
 
 // The b-th batch, of these sizes and flags, in the operations from `at` on; its record goes to the b-th place of the records.
 pub fn decode_batch(
+    width: usize,
     table: &[u8],
     codes: &[u8],
     values: &[u64],
@@ -208,8 +212,9 @@ pub fn decode_batch(
     records: &mut [u8],
 ) -> CountRead
     requires { ⌜ (length (now table) ≡ 128) × (length (now codes) ≡ length (now values)) × Coded (now codes) ⌝ }
-    requires { ⌜ (at ≤ length (now codes)) × (upTo 9 (digits 16 8 deltas) ≡ true) × (82 * b + 82 ≤ length (now records)) ⌝ }
-    ensures { λ r. ⌜ Staged (λ (r : Record). r .count) (λ (r : Record) (end : ℕ). (now (records .exit) ≡ sets (now (records .entry)) (82 * b) (recordBytes r)) × (length (recordBytes r) ≡ 82) × (end ≤ length (now (codes .entry)))) (batchAt 8 (now (table .entry)) (operations (now (codes .entry)) (now (values .entry))) at b (digits 16 8 deltas) (digits 2 8 flags)) r ⌝ }
+    requires { ⌜ (at ≤ length (now codes)) × (82 * b + 82 ≤ length (now records)) ⌝ }
+    requires { ⌜ (width ≤ 8) × RightSizes width deltas ⌝ }
+    ensures { λ r. ⌜ Staged (λ (r : Record). r .count) (λ (r : Record) (end : ℕ). (now (records .exit) ≡ sets (now (records .entry)) (82 * b) (recordBytes r)) × (length (recordBytes r) ≡ 82) × (end ≤ length (now (codes .entry)))) (batchAt width (now (table .entry)) (operations (now (codes .entry)) (now (values .entry))) at b (digits 16 8 deltas) (digits 2 8 flags)) r ⌝ }
 {
     if codes.len() - at < operations_in(deltas) {
         return CountRead::Refused {
@@ -218,7 +223,7 @@ pub fn decode_batch(
         };
     }
     let mut groups: [u64; 8] = [0; 8];
-    let r = decode_groups(table, codes, values, b, at, deltas, &mut groups);
+    let r = decode_groups(width, table, codes, values, b, at, deltas, &mut groups);
     let CountRead::Found { value, next: _ } = r else {
         return r;
     };

@@ -30,12 +30,12 @@ loop-less c = search needs
 loop-again : tie.Need-loop-again Inv-loop μ-loop
 loop-again c =
     let l = c .before .loop in
-    (omega arith, omega arith, omega (arith, total-turn (l .i) (l .left) (omega arith)))
+    (omega arith, omega arith, omega (arith, total-turn 8 (l .i) (l .left) (omega arith)))
 
 returns : tie.Need-returns Inv-loop μ-loop
 returns c =
     let l = c .before .loop in
-    omega (arith, total-end (l .i) (l .left) (omega arith))
+    omega (arith, total-end 8 (l .i) (l .left) (omega arith))
 
 pub operations-in-spec : {M : Type 1} → statement M
 operations-in-spec =

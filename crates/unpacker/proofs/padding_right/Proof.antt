@@ -29,7 +29,7 @@ loop-holds : tie.Need-loop-holds Inv-loop μ-loop
 loop-holds c = (omega arith, omega arith, λ xs e. rw sub-zero)
 
 add-from : tie.Need-add-from Inv-loop μ-loop
-add-from c = omega (arith, total-turn (c .before .loop .g) (c .before .loop .left) (omega arith))
+add-from c = omega (arith, total-turn 8 (c .before .loop .g) (c .before .loop .left) (omega arith))
 
 add-g : tie.Need-add-g Inv-loop μ-loop
 add-g c = search needs
@@ -40,7 +40,7 @@ loop-less c = search needs
 loop-again : tie.Need-loop-again Inv-loop μ-loop
 loop-again c =
     let l = c .before .before .loop in
-    (omega arith, omega (arith, total-turn (l .g) (l .left) (omega arith)), λ xs e. sym (P.turn-clear xs (c .before .before .before .args .count) (l .g) (l .left) (l .bits) (l .from) (omega arith) (c .if1 .taken)) ∙ l .inv .2 xs e)
+    (omega arith, omega (arith, total-turn 8 (l .g) (l .left) (omega arith)), λ xs e. sym (P.turn-clear xs (c .before .before .before .args .count) (l .g) (l .left) (l .bits) (l .from) (omega arith) (c .if1 .taken)) ∙ l .inv .2 xs e)
 
 returns : tie.Need-returns Inv-loop μ-loop
 returns c =
@@ -53,15 +53,15 @@ returns-2 c =
     λ xs e. sym (P.stop-set xs (c .before .before .before .before .before .args .count) (l .g) (l .left) (l .bits) (l .from) (omega arith) (omega arith) (c .before .before .if1 .left) (P.ends-none xs _ (l .from) (c .if3 .taken))) ∙ l .inv .2 xs e
 
 sub-if4 : tie.Need-sub-if4 Inv-loop μ-loop
-sub-if4 c = omega (arith, total-turn (c .before .before .before .before .loop .g) (c .before .before .before .before .loop .left) (omega arith))
+sub-if4 c = omega (arith, total-turn 8 (c .before .before .before .before .loop .g) (c .before .before .before .before .loop .left) (omega arith))
 
 shared-slice-read-if4 : tie.Need-shared-slice-read-if4 Inv-loop μ-loop
-shared-slice-read-if4 c = omega (arith, total-turn (c .before .before .before .before .before .loop .g) (c .before .before .before .before .before .loop .left) (omega arith))
+shared-slice-read-if4 c = omega (arith, total-turn 8 (c .before .before .before .before .before .loop .g) (c .before .before .before .before .before .loop .left) (omega arith))
 
 returns-3 : tie.Need-returns-3 Inv-loop μ-loop
 returns-3 c =
     let l = c .before .before .before .before .before .before .loop in
-    let t = total-turn (l .g) (l .left) (omega arith) in
+    let t = total-turn 8 (l .g) (l .left) (omega arith) in
     λ xs e. sym (P.stop-set xs (c .before .before .before .before .before .before .before .args .count) (l .g) (l .left) (l .bits) (l .from) (omega arith) (omega arith) (c .before .before .before .before .if1 .left) (P.ends-last xs _ _ (l .from) e (c .before .before .if3 .left) (omega arith) ∙ ne-eqb _ 0 (c .if4 .taken))) ∙ l .inv .2 xs e
 
 add-g-2 : tie.Need-add-g-2 Inv-loop μ-loop
@@ -73,7 +73,7 @@ loop-less-2 c = search needs
 loop-again-2 : tie.Need-loop-again-2 Inv-loop μ-loop
 loop-again-2 c =
     let l = c .before .before .before .before .before .before .loop in
-    let t = total-turn (l .g) (l .left) (omega arith) in (
+    let t = total-turn 8 (l .g) (l .left) (omega arith) in (
       omega arith,
       omega arith,
       λ xs e. sym (P.turn-set xs (c .before .before .before .before .before .before .before .args .count) (l .g) (l .left) (l .bits) (l .from) (omega arith) (omega arith) (c .before .before .before .before .if1 .left) (P.ends-last xs _ _ (l .from) e (c .before .before .if3 .left) (omega arith) ∙ eq-eqb _ 0 (c .if4 .left))) ∙ l .inv .2 xs e,

@@ -12,14 +12,14 @@ use Rattle.unpacker.proofs.place_immediates.Statement.{statement}
 use Rattle.unpacker.proofs.place_immediates.Tie as tie
 
 abbrev Inv-loop : tie.InvT-loop
-Inv-loop table codes values b deltas slot groups₀ left₀ next₀ i₀ groups left next i =
-    (i ≤ length codes) × Placed table b (immediates table (operations codes values)) groups₀ slot deltas (G.due table codes values i) groups next left
+Inv-loop width table codes values b deltas slot groups₀ left₀ next₀ i₀ groups left next i =
+    (i ≤ length codes) × Placed width table b (immediates table (operations codes values)) groups₀ slot deltas (G.due table codes values i) groups next left
 
 abbrev μ-loop : tie.MeasureT-loop
-μ-loop table codes values b deltas slot groups₀ left₀ next₀ i₀ groups left next i = length codes - i
+μ-loop width table codes values b deltas slot groups₀ left₀ next₀ i₀ groups left next i = length codes - i
 
 loop-holds : tie.Need-loop-holds Inv-loop μ-loop
-loop-holds c = (omega arith, G.place-none _ _ _ _ _ _ (omega arith) (c .pre .1))
+loop-holds c = (omega arith, G.place-none _ _ _ _ _ _ _ (omega arith) (c .pre .1 .2))
 
 shared-slice-read-if1 : tie.Need-shared-slice-read-if1 Inv-loop μ-loop
 shared-slice-read-if1 c = search needs
@@ -41,7 +41,7 @@ loop-again c =
     let a = c .before .before .before .before .before in
     let l = c .before .before .before .before .loop in
     let k = a .pre .0 .2 (l .i) (omega arith) in
-    (omega arith, G.place-plain _ _ _ _ _ _ _ _ _ _ (l .inv .1) _ (G.due-plain (now (a .args .table)) (now (a .args .codes)) (now (a .args .values)) (l .i) (omega arith) (omega arith) (omega arith) (c .if1 .taken)))
+    (omega arith, G.place-plain _ _ _ _ _ _ _ _ _ _ _ (l .inv .1) _ (G.due-plain (now (a .args .table)) (now (a .args .codes)) (now (a .args .values)) (l .i) (omega arith) (omega arith) (omega arith) (c .if1 .taken)))
 
 returns : tie.Need-returns Inv-loop μ-loop
 returns c =
@@ -49,7 +49,7 @@ returns c =
     let l = c .before .before .before .before .before .loop in
     let k = a .pre .0 .2 (l .i) (omega arith) in
     let d = G.due-placed (now (a .args .table)) (now (a .args .codes)) (now (a .args .values)) (l .i) (omega arith) (omega arith) (omega arith) (c .before .if1 .left) in
-    λ xs end. l .inv .1 .walk xs end ∙ rw d (G.stop-8 (now (a .args .table)) (a .args .b) xs (l .groups) (l .next) (l .left) _ _ end (omega arith))
+    λ xs end. l .inv .1 .walk xs end ∙ rw d (G.stop-8 (a .args .width) (now (a .args .table)) (a .args .b) xs (l .groups) (l .next) (l .left) _ _ end (omega arith))
 
 returns-2 : tie.Need-returns-2 Inv-loop μ-loop
 returns-2 c =
@@ -57,7 +57,7 @@ returns-2 c =
     let l = c .before .before .before .before .before .before .loop in
     let k = a .pre .0 .2 (l .i) (omega arith) in
     let d = G.due-placed (now (a .args .table)) (now (a .args .codes)) (now (a .args .values)) (l .i) (omega arith) (omega arith) (omega arith) (c .before .before .if1 .left) in
-    λ xs end. l .inv .1 .walk xs end ∙ rw d (G.stop-9 (now (a .args .table)) (a .args .b) xs (l .groups) (l .next) (l .left) _ _ end (omega arith) (c .if3 .taken))
+    λ xs end. l .inv .1 .walk xs end ∙ rw d (G.stop-9 (a .args .width) (now (a .args .table)) (a .args .b) xs (l .groups) (l .next) (l .left) _ _ end (omega arith) (c .if3 .taken))
 
 mul-groups : tie.Need-mul-groups Inv-loop μ-loop
 mul-groups c = search needs
@@ -86,13 +86,13 @@ loop-again-2 c =
     let l = c .before .before .before .before .before .before .before .loop in
     let k = a .pre .0 .2 (l .i) (omega arith) in
     let d = G.due-placed (now (a .args .table)) (now (a .args .codes)) (now (a .args .values)) (l .i) (omega arith) (omega arith) (omega arith) (c .before .before .before .if1 .left) in
-    (omega arith, G.place-turn _ _ _ _ _ _ _ _ _ _ (l .inv .1) _ _ d (omega arith) (c .before .if3 .left))
+    (omega arith, G.place-turn _ _ _ _ _ _ _ _ _ _ _ (l .inv .1) _ _ d (omega arith) (omega arith) (c .before .if3 .left))
 
 returns-3 : tie.Need-returns-3 Inv-loop μ-loop
 returns-3 c =
     let a = c .before .before .args in
     let l = c .before .loop in
-    G.place-plain _ _ _ _ _ _ _ _ _ _ (l .inv .1) _ (G.due-none (now (a .table)) (now (a .codes)) (now (a .values)) (l .i) (omega arith))
+    G.place-plain _ _ _ _ _ _ _ _ _ _ _ (l .inv .1) _ (G.due-none (now (a .table)) (now (a .codes)) (now (a .values)) (l .i) (omega arith))
 
 pub place-immediates-spec : {M : Type 1} → statement M
 place-immediates-spec =
