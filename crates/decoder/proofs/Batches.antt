@@ -5,12 +5,13 @@ use Prim.Native.Nat.{ℕ, suc, _+_, _-_, _*_, _≤_, _<_}
 use native.Mathlib.Nat.{add-zero, sub-zero}
 use native.Mathlib.Omega.{arith}
 use lib.ListN.{length, getD, take, drop, length-append}
-use lib.Seq.{sets, sets-eq, take-at, length-take-le}
+use lib.Seq.{sets-eq, take-at, length-take-le}
 use Rattle.rules.specs.Digits.{leAt}
 use Rattle.rules.specs.Answer.{refused, Read, found, _then_}
 use Rattle.rules.specs.Operations.{Op}
-use Rattle.rules.specs.Record.{Record, recordBytes, recordsBytes}
+use Rattle.rules.specs.Record.{Record, recordSize, recordBytes, recordsBytes}
 use Rattle.rules.specs.Block.{batchesAt}
+use Rattle.op_batch.specs.Stores.{recordSet}
 use Rattle.unpacker.proofs.Batch.{batch}
 use Rattle.decoder.specs.Stages.{sizesFrom, flagsFrom}
 use Rattle.wire.proofs.Stages.{onto, onto-nil, onto-then, onto-found}
@@ -20,10 +21,14 @@ unfolding recordsBytes
 bytes-snoc [] r = append-nil (recordBytes r)
 bytes-snoc (q ∷ rs) r = ap (λ (l : List ℕ). recordBytes q ++ l) (bytes-snoc rs r) ∙ sym (append-assoc (recordBytes q) (recordsBytes rs) (recordBytes r))
 
-stored : (run : List ℕ) (i n : ℕ) (vs : List ℕ) → length vs ≡ n → i + n ≤ length run → take (i + n) (sets run i vs) ≡ take i run ++ vs
-stored run i n vs e h =
-    ap (take (i + n)) (sets-eq vs run i (omega arith))
-    ∙ take-at (take i run ++ vs) (drop (i + length vs) run) (i + n) (length-append (take i run) vs ∙ omega (arith, length-take-le i run (omega arith)))
+-- a record more, behind those of which a run has the bytes
+stored : (run : List ℕ) (b : ℕ) (r : Record) → length (recordBytes r) ≡ recordSize → recordSize * b + recordSize ≤ length run
+    → take (recordSize * (b + 1)) (recordSet b r run) ≡ take (recordSize * b) run ++ recordBytes r
+unfolding recordSet
+stored run b r e h =
+    let i = recordSize * b in
+    ap (take (recordSize * (b + 1))) (sets-eq (recordBytes r) run i (omega arith))
+    ∙ take-at (take i run ++ recordBytes r) (drop (i + length (recordBytes r)) run) (recordSize * (b + 1)) (length-append (take i run) (recordBytes r) ∙ omega (arith, length-take-le i run (omega arith)))
 
 module _ (w : ℕ) (t : List ℕ) (xs : List Op) (s : List ℕ) (sizes flags k : ℕ) where
   abbrev pub whole : Read (List Record)
@@ -37,8 +42,8 @@ module _ (w : ℕ) (t : List ℕ) (xs : List Op) (s : List ℕ) (sizes flags k :
   pub record Going (run : List ℕ) (b from : ℕ) : Type 0 where
     pub records : List Record
     pub many : length records ≡ b
-    pub bytes : take (82 * b) run ≡ recordsBytes records
-    pub size : length (recordsBytes records) ≡ 82 * b
+    pub bytes : take (recordSize * b) run ≡ recordsBytes records
+    pub size : length (recordsBytes records) ≡ recordSize * b
     pub walk : whole ≡ onto records (rest b from)
 
   pub start : (run : List ℕ) → Going run 0 0
@@ -60,13 +65,12 @@ module _ (w : ℕ) (t : List ℕ) (xs : List Op) (s : List ℕ) (sizes flags k :
     pub stop : (n p : ℕ) → one ≡ refused n p → whole ≡ refused n p
     stop n p r = g .walk ∙ rw (next, r)
 
-    pub turn : (r : Record) (end : ℕ) → one ≡ found r end → length (recordBytes r) ≡ 82 → 82 * b + 82 ≤ length run → Going (sets run (82 * b) (recordBytes r)) (b + 1) end
+    pub turn : (r : Record) (end : ℕ) → one ≡ found r end → length (recordBytes r) ≡ recordSize → recordSize * b + recordSize ≤ length run → Going (recordSet b r run) (b + 1) end
     turn r end f n l =
-        let p : 82 * (b + 1) ≡ 82 * b + 82 = omega arith in
         record {
           records = g .records ++ (r ∷ []);
           many = length-append (g .records) (r ∷ []) ∙ omega (arith, g .many);
-          bytes = rw (p, bytes-snoc (g .records) r) (stored run (82 * b) 82 (recordBytes r) n l ∙ ap (λ (l : List ℕ). l ++ recordBytes r) (g .bytes));
+          bytes = rw (bytes-snoc (g .records) r) (stored run b r n l ∙ ap (λ (l : List ℕ). l ++ recordBytes r) (g .bytes));
           size = rw (bytes-snoc (g .records) r) (length-append (recordsBytes (g .records)) (recordBytes r) ∙ omega (arith, g .size));
           walk = g .walk ∙ rw (next, f) (onto-then (g .records) r (rest (b + 1) end));
         }

@@ -8,7 +8,7 @@ use Rattle.rules.specs.Lists.{fitted}
 use Rattle.rules.specs.Digits.{digits, leAt}
 use Rattle.rules.specs.Answer.{Read, found, refuse, _then_}
 use Rattle.rules.specs.Operations.{Op, codes, values}
-use Rattle.rules.specs.Record.{Record, Block, recordsBytes}
+use Rattle.rules.specs.Record.{Record, Block, recordSize, recordsBytes}
 use Rattle.rules.specs.Bytes.{opsAt, batchCountAt}
 use Rattle.rules.specs.Block.{Head, layoutAt, batchesBy}
 use Rattle.rules.specs.Functions.{Arena, arena}
@@ -23,9 +23,9 @@ use Rattle.decoder.specs.Replies.{decodedOf}
 abbrev pub OpsIn : List ℕ → List ℕ → List Op → Type 0
 OpsIn cs vs xs = (take (length xs) cs ≡ codes xs) × (take (length xs) vs ≡ values xs)
 
--- a run that begins with the records, 82 bytes each
+-- a run that begins with the records
 abbrev pub RecordsIn : List ℕ → List Record → Type 0
-RecordsIn s rs = (take (length (recordsBytes rs)) s ≡ recordsBytes rs) × (length (recordsBytes rs) ≡ 82 * length rs)
+RecordsIn s rs = (take (length (recordsBytes rs)) s ≡ recordsBytes rs) × (length (recordsBytes rs) ≡ recordSize * length rs)
 
 -- the block's answer, and runs that begin with the block
 pub record Reading (at : ℕ) (d : Read Block) (after : Arena) (r : Decoded) : Type 0 where

@@ -5,7 +5,7 @@ ghost use Prim.Native.Nat.{ℕ, _+_, _*_, _≤_, _<_};
 ghost use lib.ListN.{length};
 ghost use Rattle.rules.specs.Digits.{leAt};
 ghost use Rattle.rules.specs.Operations.{Op, operations};
-ghost use Rattle.rules.specs.Record.{Record};
+ghost use Rattle.rules.specs.Record.{Record, recordSize};
 ghost use Rattle.rules.specs.Bytes.{opsAt, nibblesAt};
 ghost use Rattle.rules.specs.Block.{Head, batchesAt, blockAt};
 ghost use Rattle.rules.specs.Functions.{arena, roomIn, decoded};
@@ -145,7 +145,7 @@ fn decode_each(
     records: &mut [u8],
 ) -> CountRead
     requires { ⌜ (length (now table) ≡ 128) × (length (now codes) ≡ length (now values)) × Coded (now codes) ⌝ }
-    requires { ⌜ (sizes + 4 * k ≤ length (now s)) × (flags + k ≤ length (now s)) × (82 * k ≤ length (now records)) ⌝ }
+    requires { ⌜ (sizes + 4 * k ≤ length (now s)) × (flags + k ≤ length (now s)) × (recordSize * k ≤ length (now records)) ⌝ }
     requires { ⌜ (width ≤ 8) × ((b : ℕ) → b < k → RightSizes width (leAt 4 (now s) (sizes + 4 * b))) ⌝ }
     ensures { λ r. ⌜ Staged length (λ (rs : List Record) (end : ℕ). RecordsIn (now (records .exit)) rs) (batchesAt width (now (table .entry)) (operations (now (codes .entry)) (now (values .entry))) 0 0 (sizesFrom k (now (s .entry)) sizes) (flagsFrom k (now (s .entry)) flags)) r ⌝ }
 {
@@ -187,7 +187,7 @@ fn decode_batches(
     records: &mut [u8],
 ) -> CountRead
     requires { ⌜ (length (now table) ≡ 128) × (length (now codes) ≡ length (now values)) × Coded (now codes) ⌝ }
-    requires { ⌜ (width ≡ 8) × (at + 5 * k ≤ length (now s)) × (82 * k ≤ length (now records)) ⌝ }
+    requires { ⌜ (width ≡ 8) × (at + 5 * k ≤ length (now s)) × (recordSize * k ≤ length (now records)) ⌝ }
     ensures { λ r. ⌜ Staged length (λ (rs : List Record) (end : ℕ). RecordsIn (now (records .exit)) rs × (at ≤ end)) (recordsAt width (now (table .entry)) (now (s .entry)) (operations (now (codes .entry)) (now (values .entry))) k at) r ⌝ }
 {
     let n = nibbles_right(s, at, k);
@@ -241,7 +241,7 @@ fn decode_block(
             place: 0,
         };
     }
-    let room = records.len() / 82;
+    let room = records.len() / op_batch::RECORD;
     let i = read_items(table, s, next, n, room, out_codes, out_values);
     let CountRead::Found {
         value: batches,
@@ -340,6 +340,12 @@ pub fn decode(
         clear_after(out_codes, out_values, records, 0, 0);
         return r;
     };
-    clear_after(out_codes, out_values, records, operations, 82 * batches);
+    clear_after(
+        out_codes,
+        out_values,
+        records,
+        operations,
+        op_batch::RECORD * batches,
+    );
     r
 }

@@ -1,25 +1,25 @@
 -- The ways that a batch ends, and its record. Assumes nothing.
-use mathlib.Core.Path.{_≡_, refl, ap, _∙_}
+use mathlib.Core.Path.{_≡_, refl, sym, ap, _∙_}
 use mathlib.Core.Bool.{false, true}
-use mathlib.Core.List.{List, [], _∷_, _++_}
+use mathlib.Core.List.{List, [], _∷_}
 use Prim.Native.Nat.{ℕ, zero, suc, _+_, _/_, _%_, _≤_, _<_}
 use native.Mathlib.Omega.{arith}
 use borrow.Author.Tests.{lt-ltb, le-ltb, leb-true}
 use lib.ListN.{length, take, drop}
-use lib.Seq.{sets}
 use lib.Dec.{leb}
 use Rattle.rules.specs.Lists.{fitted, total, every}
 use Rattle.rules.specs.Digits.{digits}
 use Rattle.rules.specs.Answer.{refused, Read, found}
 use Rattle.rules.specs.Operations.{Op}
-use Rattle.rules.specs.Record.{Record, startsFrom, recordBy, wordBytes, recordBytes, cut}
+use Rattle.rules.specs.Record.{Record, recordBy, recordSize, recordBytes, cut}
 use Rattle.rules.specs.Bytes.{upTo}
 use Rattle.rules.specs.Block.{batchAt}
 use Rattle.rules.proofs.Slots.{slots, batchBy, batch-is, total-split}
 use Rattle.rules.specs.Checks.{paddingRight}
 use Rattle.rules.proofs.Runs.{fitted-length}
 use Rattle.rules.proofs.Operations.{true-left, true-right, true-both}
-use Rattle.unpacker.proofs.Stores.{record-size}
+use Rattle.op_batch.specs.Stores.{recordSet, packed}
+use Rattle.op_batch.proofs.Stores.{record-length, packed-whole}
 
 -- ---- sizes of which those from the width on are 0
 
@@ -80,11 +80,14 @@ module _ (v f : ℕ) (vs : List ℕ) where
   abbrev pub made : Record
   made = recordBy (digits 16 8 v) (digits 2 8 f) vs
 
-  pub made-size : length (recordBytes made) ≡ 82
-  unfolding recordBytes recordBy
-  made-size = record-size v f (fitted 8 vs) (length vs) (fitted-length 8 vs)
+  made-packed : (gs : List ℕ) (n : ℕ) → gs ≡ fitted 8 vs → length vs ≡ n → packed v f gs n ≡ made
+  unfolding packed recordBy
+  made-packed gs n e d = rw (e, ← d)
 
-  pub made-stored : (gs : List ℕ) (n at : ℕ) (l out : List ℕ) → gs ≡ fitted 8 vs → length vs ≡ n
-      → out ≡ sets l at (startsFrom 0 (digits 16 8 v) ++ (digits 2 8 f ++ (wordBytes gs ++ (n ∷ [])))) → out ≡ sets l at (recordBytes made)
-  unfolding recordBytes recordBy
-  made-stored gs n at l out e d h = rw (e, ← d) at h
+  pub made-size : length (recordBytes made) ≡ recordSize
+  made-size =
+      ap (λ (r : Record). length (recordBytes r)) (sym (made-packed (fitted 8 vs) (length vs) refl refl))
+      ∙ record-length (packed v f (fitted 8 vs) (length vs)) (packed-whole v f (fitted 8 vs) (length vs) (fitted-length 8 vs))
+
+  pub made-stored : (gs : List ℕ) (n b : ℕ) (l out : List ℕ) → gs ≡ fitted 8 vs → length vs ≡ n → out ≡ recordSet b (packed v f gs n) l → out ≡ recordSet b made l
+  made-stored gs n b l out e d h = rw (made-packed gs n e d) at h

@@ -2,13 +2,13 @@
 use mathlib.Core.Path.{_≡_, refl, sym, ap, _∙_}
 use mathlib.Core.Bool.{true}
 use mathlib.Core.List.{List, [], _∷_, _++_}
-use Prim.Native.Nat.{ℕ, zero, suc, _+_, _-_, _*_, _/_, _%_, _^_, _≤_, _<_}
-use native.Mathlib.Nat.{pow-suc, pow-le-pow-right, sub-zero}
+use Prim.Native.Nat.{ℕ, zero, suc, _+_, _-_, _/_, _%_, _≤_, _<_}
+use native.Mathlib.Nat.{sub-zero}
 use native.Mathlib.Numerals.{add-one}
 use native.Mathlib.Omega.{arith}
 use borrow.Author.Tests.{ne-eqb, leb-true}
-use lib.ListN.{length, getD, take, drop, set, drop-of-length-le, length-take, length-drop}
-use lib.Seq.{append-snoc, take-suc-set, length-take-le, drop-cons, getD-take, getD-drop}
+use lib.ListN.{length, getD, take, drop, set, length-take, length-drop}
+use lib.Seq.{append-snoc, take-suc-set, length-take-le, getD-take, getD-drop}
 use lib.Dec.{leb}
 use Rattle.rules.specs.Lists.{fitted, total, every}
 use Rattle.rules.specs.Digits.{digits, number}
@@ -22,24 +22,6 @@ use Rattle.rules.proofs.Runs.{fitted-set, fitted-length}
 use Rattle.wire.proofs.Laws.{digits-turn, digits-end}
 use Rattle.unpacker.specs.Groups.{Coded, glue, behind, onward, Placed}
 use Rattle.unpacker.proofs.Operations.{codes-operations, part-operations}
-
--- ---- a group's number, from its last opcode on
-
-pub number-turn : (b : ℕ) (cs : List ℕ) (i : ℕ) → 0 < i → i ≤ length cs → number b (drop (i - 1) cs) ≡ getD cs (i - 1) 0 + b * number b (drop i cs)
-unfolding number
-number-turn b cs i h k =
-    let e : suc (i - 1) ≡ i = omega arith in
-    ap (number b) (drop-cons cs (i - 1) 0 (omega arith)) ∙ ap (λ (j : ℕ). getD cs (i - 1) 0 + b * number b (drop j cs)) e
-
-pub number-end : (b : ℕ) (cs : List ℕ) → number b (drop (length cs) cs) ≡ 0
-unfolding number
-number-end b cs = rw (drop-of-length-le cs {i = length cs} (omega arith))
-
-pub power-turn : (b n i : ℕ) → 0 < i → i ≤ n → b ^ (n - (i - 1)) ≡ b ^ (n - i) * b
-power-turn b n i h k = let e : n - (i - 1) ≡ suc (n - i) = omega arith in rw (e, pow-suc)
-
-pub power-most : (b n i : ℕ) → 0 < b → n ≤ 9 → b ^ (n - i) ≤ b ^ 9
-power-most b n i h k = let l : n - i ≤ 9 = omega arith in pow-le-pow-right h l
 
 -- ---- immediates of the operations of two runs, from the i-th on
 

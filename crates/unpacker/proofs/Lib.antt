@@ -1,5 +1,4 @@
 pub mod Operations
 pub mod Groups
 pub mod Padding
-pub mod Stores
 pub mod Batch

@@ -1,34 +1,20 @@
 // One batch of a block (document 01, "Decoding a batch"). `deltas` has its eight sizes, four bits each, the first lowest.
 ghost use mathlib.Core.Path.{_≡_};
 ghost use mathlib.Core.Bool.{true};
-ghost use mathlib.Core.List.{List, [], _∷_, _++_};
+ghost use mathlib.Core.List.{List, []};
 ghost use Prim.Native.Nat.{ℕ, _+_, _*_, _≤_, _<_};
 ghost use lib.ListN.{length, take};
-ghost use lib.Seq.{sets};
 ghost use Rattle.rules.specs.Lists.{fitted, total};
-ghost use Rattle.rules.specs.Digits.{digits, number};
+ghost use Rattle.rules.specs.Digits.{digits};
 ghost use Rattle.rules.specs.Operations.{operations};
-ghost use Rattle.rules.specs.Record.{Record, startsFrom, wordBytes, recordBytes, immediates};
+ghost use Rattle.rules.specs.Record.{Record, recordSize, recordBytes, immediates};
 ghost use Rattle.rules.specs.Bytes.{upTo};
 ghost use Rattle.rules.specs.Block.{batchAt};
 ghost use Rattle.rules.proofs.Slots.{slots};
+ghost use Rattle.op_batch.specs.Stores.{recordSet};
 ghost use Rattle.wire.specs.Stages.{Staged};
 ghost use Rattle.unpacker.specs.Groups.{Coded, RightSizes, Placing, PaddingRight};
 use wire::CountRead;
-
-// The number of a group: the sum of opcode times 128^position.
-fn group_number(codes: &[u8]) -> u64
-    requires { ⌜ (length (now codes) ≤ 9) × Coded (now codes) ⌝ }
-    ensures { λ r. ⌜ r ≡ number 128 (now (codes .entry)) ⌝ }
-{
-    let mut v: u64 = 0;
-    let mut i = codes.len();
-    while 0 < i {
-        i = i - 1;
-        v = v * 128 + word::wide(codes[i]);
-    }
-    v
-}
 
 // The immediates of a group's operations, each into the next slot, which must be an empty group under the width; `deltas` has the sizes from the slot on.
 // The answer's value has the sizes from the next slot on.
@@ -103,7 +89,7 @@ fn decode_groups(
         }
         let end = from + n;
         let slot = g + 1;
-        groups[g] = group_number(&codes[from..end]);
+        groups[g] = op_batch::group_number(&codes[from..end]);
         let r = place_immediates(
             width,
             table,
@@ -161,18 +147,6 @@ fn padding_right(codes: &[u8], at: usize, deltas: u64, flags: u8, count: usize) 
     true
 }
 
-// Eight numbers as 64 bytes, from `at` on.
-fn put_groups(groups: &[u64; 8], out: &mut [u8], at: usize)
-    requires { ⌜ (at + 64 ≤ length (now out)) × (length (now groups) ≡ 8) ⌝ }
-    ensures { λ _. ⌜ now (out .exit) ≡ sets (now (out .entry)) at (wordBytes (now (groups .entry))) ⌝ }
-{
-    let mut i: usize = 0;
-    while i < 8 {
-        word::put8(out, at + 8 * i, groups[i]);
-        i += 1;
-    }
-}
-
 // How many operations a batch has.
 fn operations_in(deltas: u64) -> usize
     ensures { λ r. ⌜ r ≡ total (digits 16 8 deltas) ⌝ }
@@ -188,17 +162,6 @@ fn operations_in(deltas: u64) -> usize
     sum
 }
 
-// A record's 82 bytes, from `at` on: nine starts, eight flags, eight numbers and the count.
-fn put_record(deltas: u64, flags: u8, groups: &[u64; 8], count: u64, out: &mut [u8], at: usize)
-    requires { ⌜ (at + 82 ≤ length (now out)) × (length (now groups) ≡ 8) × (count ≤ 8) ⌝ }
-    ensures { λ _. ⌜ now (out .exit) ≡ sets (now (out .entry)) at (startsFrom 0 (digits 16 8 deltas) ++ (digits 2 8 flags ++ (wordBytes (now (groups .entry)) ++ (count ∷ [])))) ⌝ }
-{
-    wire::unpack_indptr_deltas(deltas, out, at);
-    wire::unpack_padding(flags, out, at + 9);
-    put_groups(groups, out, at + 17);
-    out[at + 81] = count as u8;
-}
-
 // The b-th batch, of these sizes and flags, in the operations from `at` on; its record goes to the b-th place of the records.
 pub fn decode_batch(
     width: usize,
@@ -212,9 +175,9 @@ pub fn decode_batch(
     records: &mut [u8],
 ) -> CountRead
     requires { ⌜ (length (now table) ≡ 128) × (length (now codes) ≡ length (now values)) × Coded (now codes) ⌝ }
-    requires { ⌜ (at ≤ length (now codes)) × (82 * b + 82 ≤ length (now records)) ⌝ }
+    requires { ⌜ (at ≤ length (now codes)) × (recordSize * b + recordSize ≤ length (now records)) ⌝ }
     requires { ⌜ (width ≤ 8) × RightSizes width deltas ⌝ }
-    ensures { λ r. ⌜ Staged (λ (r : Record). r .count) (λ (r : Record) (end : ℕ). (now (records .exit) ≡ sets (now (records .entry)) (82 * b) (recordBytes r)) × (length (recordBytes r) ≡ 82) × (end ≤ length (now (codes .entry)))) (batchAt width (now (table .entry)) (operations (now (codes .entry)) (now (values .entry))) at b (digits 16 8 deltas) (digits 2 8 flags)) r ⌝ }
+    ensures { λ r. ⌜ Staged (λ (r : Record). r .count) (λ (r : Record) (end : ℕ). (now (records .exit) ≡ recordSet b r (now (records .entry))) × (length (recordBytes r) ≡ recordSize) × (end ≤ length (now (codes .entry)))) (batchAt width (now (table .entry)) (operations (now (codes .entry)) (now (values .entry))) at b (digits 16 8 deltas) (digits 2 8 flags)) r ⌝ }
 {
     if codes.len() - at < operations_in(deltas) {
         return CountRead::Refused {
@@ -233,6 +196,6 @@ pub fn decode_batch(
             place: b,
         };
     }
-    put_record(deltas, flags, &groups, value, records, 82 * b);
+    op_batch::store_packed(deltas, flags, &groups, value as u8, records, b);
     r
 }

@@ -64,13 +64,15 @@ returns-3 c =
     let p = sym (c .before .padding-right .ensures xs (codes-operations _ _ (q .0 .1))) ∙ not-true _ (c .if2 .taken) in
     rw (way-10 (a .width) (now (a .table)) xs (a .at) (a .b) (a .deltas) (a .flags) (q .1 .1 .0) (q .1 .1 .1 .1) (omega arith) _ _ (d .is) (rw (← d .number) at p)) (record { reply = refl; left = tt })
 
-mul-put-record : tie.Need-mul-put-record
-mul-put-record c = search needs
+cast-store-packed : tie.Need-cast-store-packed
+cast-store-packed c =
+    let d = found-by (c .before .before .before .before .before .before .decode-groups .ensures) (c .before .before .before .before .r .given .1) in
+    omega (arith, d .number, d .holds .1)
 
-put-record-requires : tie.Need-put-record-requires
-put-record-requires c κs =
+store-packed-requires : tie.Need-store-packed-requires
+store-packed-requires c κs =
     let d = found-by (c .before .before .before .before .before .before .before .decode-groups .ensures) (c .before .before .before .before .before .r .given .1) in
-    (c .before .before .before .before .before .before .before .before .before .before .before .before .before .before .before .pre .1 .0 .1, ap length (d .holds .0) ∙ fitted-length 8 (d .item), omega (arith, d .number, d .holds .1))
+    (c .before .before .before .before .before .before .before .before .before .before .before .before .before .before .before .pre .1 .0 .1, ap length (d .holds .0) ∙ fitted-length 8 (d .item))
 
 same-length : tie.Need-same-length
 same-length c = search needs
@@ -88,7 +90,7 @@ returns-4 c =
     rw (way-good (a .width) (now (a .table)) xs (a .at) (a .b) (a .deltas) (a .flags) (q .1 .1 .0) (q .1 .1 .1 .1) (omega arith) _ _ (d .is) (rw (← d .number) at p))
     (record {
       reply = ap (λ (m : ℕ). Found m (u .0 .1 .0)) (sym (d .number));
-      left = (made-stored (a .deltas) (a .flags) (d .item) _ _ _ _ _ (d .holds .0) (d .number) (c .before .before .put-record .ensures), made-size (a .deltas) (a .flags) (d .item), d .holds .2);
+      left = (made-stored (a .deltas) (a .flags) (d .item) _ _ _ _ _ (d .holds .0) (d .number) (c .before .before .store-packed .ensures), made-size (a .deltas) (a .flags) (d .item), d .holds .2);
     })
 
 pub decode-batch-spec : {M : Type 1} → statement M
@@ -104,7 +106,7 @@ decode-batch-spec =
     returns-2
     padding-right-requires
     returns-3
-    mul-put-record
-    put-record-requires
+    cast-store-packed
+    store-packed-requires
     same-length
     returns-4)
