@@ -105,7 +105,8 @@ fn read_items(
     c
 }
 
-// ---- item 4: all nibbles. What looks at these bytes and at the flags' is for width 8 alone: there no nibble is refused for its place, and no flag byte at all.
+// ---- item 4: all nibbles. At width 8 no nibble is refused for its place, and no flag byte at all: what looks at these bytes, here and in `decode_batches`, is
+// for that width.
 
 // Whether none of the sizes of k batches, four bytes each from `at` on, is over 9.
 fn nibbles_right(s: &[u8], at: usize, k: usize) -> CountRead
@@ -330,7 +331,15 @@ pub fn decode(
 ) -> Decoded
     ensures { λ r. ⌜ Decodes (now (table .entry)) (now (s .entry)) at (arena (now («out_codes» .entry)) (now («out_values» .entry)) (now (records .entry))) (arena (now («out_codes» .exit)) (now («out_values» .exit)) (now (records .exit))) r ⌝ }
 {
-    let r = decode_checked(8, table, s, at, out_codes, out_values, records);
+    let r = decode_checked(
+        op_batch::WIDTH,
+        table,
+        s,
+        at,
+        out_codes,
+        out_values,
+        records,
+    );
     let Decoded::Made {
         batches,
         operations,

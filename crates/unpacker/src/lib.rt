@@ -114,7 +114,7 @@ fn decode_groups(
     }
 }
 
-// Whether each flagged group is under the count, non-empty, and ends in opcode 0.
+// Whether each flagged group is under the count, non-empty, and ends in opcode 0. All eight flags are looked at, whatever the width.
 fn padding_right(codes: &[u8], at: usize, deltas: u64, flags: u8, count: usize) -> bool
     requires { ⌜ at + total (digits 16 8 deltas) ≤ length (now codes) ⌝ }
     ensures { λ r. ⌜ PaddingRight (now (codes .entry)) at deltas flags count r ⌝ }
@@ -147,7 +147,7 @@ fn padding_right(codes: &[u8], at: usize, deltas: u64, flags: u8, count: usize) 
     true
 }
 
-// How many operations a batch has.
+// How many operations a batch has, by its eight sizes.
 fn operations_in(deltas: u64) -> usize
     ensures { λ r. ⌜ r ≡ total (digits 16 8 deltas) ⌝ }
 {
