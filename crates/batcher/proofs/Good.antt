@@ -1,4 +1,4 @@
--- What keeps an accumulator good.
+-- What keeps an accumulator good. `w` is what next free is held to.
 use mathlib.Core.Path.{_≡_, refl, sym, ap, _∙_}
 use mathlib.Core.Bool.{Bool, true, false, cond}
 use mathlib.Core.List.{List}
@@ -6,91 +6,110 @@ use Prim.Native.Nat.{ℕ, zero, suc, _+_, _-_, _*_, _^_, _≤_, _<_}
 use native.Mathlib.Omega.{arith}
 use native.Mathlib.Nat.{pow-suc, pow-le-pow-right}
 use native.Mathlib.Numerals.{add-one}
-use lib.Dec.{leb, eqb}
+use lib.Dec.{leb, ltb, eqb}
 use borrow.Author.Tests.{ltb-true, leb-true, leb-false, eqb-true, le-ltb, lt-ltb}
 use Rattle.rules.specs.Batching.{target}
 use Rattle.batcher.specs.declared.OpBatchAccumulator.{OpBatchAccumulator}
-use Rattle.batcher.specs.Good.{Good}
+use Rattle.batcher.specs.Good.{recordGroups, Good}
 use Rattle.batcher.specs.Model.{newAcc, fitsIn, pads, padOf, closedRun, turnedAcc, slottedAcc, slottedRun, joinedAcc, crosses, readyAcc, readyRun, addedAcc, addedRun, filledAcc, filledRun, lastAcc, endedTotal}
 use Rattle.batcher.proofs.Places.{number-next}
 
+-- a greater bound
+pub good-wider : {v w : ℕ} (a : OpBatchAccumulator) → v ≤ w → Good v a → Good w a
+good-wider a h g = record { low = g .low; high = omega (arith, g .high); room = g .room; imm = g .imm; sum = g .sum; small = g .small; unit = g .unit }
+
+ltb-wider : (n v w : ℕ) → v ≤ w → ltb n v ≡ true → ltb n w ≡ true
+ltb-wider n v w h e = lt-ltb n w (omega (arith, ltb-true n v e))
+
+pub fits-wider : (v w : ℕ) (imm : Bool) (a : OpBatchAccumulator) → v ≤ w → fitsIn v imm a ≡ true → fitsIn w imm a ≡ true
+fits-wider v w true a h e = go (ltb (a .inside) 8) e
+  where
+    go : (b : Bool) → cond b (ltb (a .next) v) (ltb (a .next + 1) v) ≡ true → cond b (ltb (a .next) w) (ltb (a .next + 1) w) ≡ true
+    go true e = ltb-wider (a .next) v w h e
+    go false e = ltb-wider (a .next + 1) v w h e
+fits-wider v w false a h e = go (ltb (a .inside) 9) e
+  where
+    go : (b : Bool) → cond b true (ltb (a .next) v) ≡ true → cond b true (ltb (a .next) w) ≡ true
+    go true e = refl
+    go false e = ltb-wider (a .next) v w h e
+
 -- a group that is padded has room
-pad-room : (a : OpBatchAccumulator) → Good a → pads a ≡ true → a .inside < 9
+pad-room : {w : ℕ} (a : OpBatchAccumulator) → Good w a → pads a ≡ true → a .inside < 9
 pad-room a g e = go (eqb (a .inside) 0) refl e
   where
     go : (b : Bool) → eqb (a .inside) 0 ≡ b → cond b true (a .tail) ≡ true → a .inside < 9
     go true p q = omega (arith, g .room, eqb-true (a .inside) 0 p)
     go false p q = omega (arith, g .imm q)
 
-closed-total : (a : OpBatchAccumulator) → Good a → a .total + padOf a ≤ 9 * a .cur + 9
+closed-total : {w : ℕ} (a : OpBatchAccumulator) → Good w a → a .total + padOf a ≤ 9 * a .cur + 9
 closed-total a g = go (pads a) refl
   where
     go : (b : Bool) → pads a ≡ b → a .total + cond b 1 0 ≤ 9 * a .cur + 9
     go true p = omega (arith, pad-room a g p)
     go false p = omega arith
 
-pub turned-good : (a : OpBatchAccumulator) → Good a → a .next < 8 → Good (turnedAcc a)
+pub turned-good : {w : ℕ} (a : OpBatchAccumulator) → Good w a → a .next < w → Good w (turnedAcc a)
 unfolding turnedAcc
 turned-good a g h =
     let t = closed-total a g in
     record { low = omega arith; high = omega arith; room = omega arith; imm = λ e. omega arith; sum = omega arith; small = omega arith; unit = refl }
 
 -- what fitting says of an operation that opens a group, and of an immediate that does not
-next-room : (imm : Bool) (a : OpBatchAccumulator) → fitsIn imm a ≡ true → crosses imm a ≡ true → a .next + cond imm 1 0 < 8
-next-room true a f p = ltb-true (a .next + 1) 8 (rw (le-ltb (a .inside) 8 (leb-true 8 (a .inside) p)) at f)
-next-room false a f p =
-    let h : a .next < 8 = ltb-true (a .next) 8 (rw (le-ltb (a .inside) 9 (leb-true 9 (a .inside) p)) at f) in
+next-room : (w : ℕ) (imm : Bool) (a : OpBatchAccumulator) → fitsIn w imm a ≡ true → crosses imm a ≡ true → a .next + cond imm 1 0 < w
+next-room w true a f p = ltb-true (a .next + 1) w (rw (le-ltb (a .inside) 8 (leb-true 8 (a .inside) p)) at f)
+next-room w false a f p =
+    let h : a .next < w = ltb-true (a .next) w (rw (le-ltb (a .inside) 9 (leb-true 9 (a .inside) p)) at f) in
     omega arith
 
-next-imm : (a : OpBatchAccumulator) → fitsIn true a ≡ true → crosses true a ≡ false → a .next < 8
-next-imm a f p = ltb-true (a .next) 8 (rw (lt-ltb (a .inside) 8 (leb-false 8 (a .inside) p)) at f)
+next-imm : (w : ℕ) (a : OpBatchAccumulator) → fitsIn w true a ≡ true → crosses true a ≡ false → a .next < w
+next-imm w a f p = ltb-true (a .next) w (rw (lt-ltb (a .inside) 8 (leb-false 8 (a .inside) p)) at f)
 
 pub here-9 : (imm : Bool) (n : ℕ) → n < cond imm 8 9 → n < 9
 here-9 true n h = omega arith
 here-9 false n h = h
 
 -- where an operation can join, with a slot for its immediate
-pub record Ready (imm : Bool) (a : OpBatchAccumulator) : Type 0 where
-  pub good : Good a
+pub record Ready (w : ℕ) (imm : Bool) (a : OpBatchAccumulator) : Type 0 where
+  pub good : Good w a
   pub here : a .inside < cond imm 8 9
-  pub slot : a .next + cond imm 1 0 ≤ 8
+  pub slot : a .next + cond imm 1 0 ≤ w
 
-ready-new : (imm : Bool) (a : OpBatchAccumulator) → Good a → fitsIn imm a ≡ true → crosses imm a ≡ true → Ready imm (turnedAcc a)
+ready-new : {w : ℕ} (imm : Bool) (a : OpBatchAccumulator) → Good w a → fitsIn w imm a ≡ true → crosses imm a ≡ true → Ready w imm (turnedAcc a)
 unfolding turnedAcc
-ready-new imm a g f p =
-    let n = next-room imm a f p in
+ready-new {w} imm a g f p =
+    let n = next-room w imm a f p in
     record { good = turned-good a g (omega arith); here = some imm; slot = omega arith }
   where
     some : (imm : Bool) → 0 < cond imm 8 9
     some true = omega arith
     some false = omega arith
 
-ready-old : (imm : Bool) (a : OpBatchAccumulator) → Good a → fitsIn imm a ≡ true → crosses imm a ≡ false → Ready imm a
-ready-old true a g f p = record { good = g; here = leb-false 8 (a .inside) p; slot = omega (arith, next-imm a f p) }
-ready-old false a g f p = record { good = g; here = leb-false 9 (a .inside) p; slot = omega (arith, g .high) }
+ready-old : {w : ℕ} (imm : Bool) (a : OpBatchAccumulator) → Good w a → fitsIn w imm a ≡ true → crosses imm a ≡ false → Ready w imm a
+ready-old {w} true a g f p = record { good = g; here = leb-false 8 (a .inside) p; slot = omega (arith, next-imm w a f p) }
+ready-old {w} false a g f p = record { good = g; here = leb-false 9 (a .inside) p; slot = omega (arith, g .high) }
 
-pub ready : (imm : Bool) (a : OpBatchAccumulator) → Good a → fitsIn imm a ≡ true → Ready imm (readyAcc imm a)
+pub ready : {w : ℕ} (imm : Bool) (a : OpBatchAccumulator) → Good w a → fitsIn w imm a ≡ true → Ready w imm (readyAcc imm a)
 unfolding readyAcc
-ready imm a g f = go (crosses imm a) refl
+ready {w} imm a g f = go (crosses imm a) refl
   where
-    go : (b : Bool) → crosses imm a ≡ b → Ready imm (cond b (turnedAcc a) a)
+    go : (b : Bool) → crosses imm a ≡ b → Ready w imm (cond b (turnedAcc a) a)
     go true p = ready-new imm a g f p
     go false p = ready-old imm a g f p
 
-pub slot-free : (imm : Bool) (a : OpBatchAccumulator) → Ready imm a → imm ≡ true → a .next < 8
-slot-free imm a r e = let h : a .next + 1 ≤ 8 = rw e at (r .slot) in omega arith
+pub slot-free : {w : ℕ} (imm : Bool) (a : OpBatchAccumulator) → Ready w imm a → imm ≡ true → a .next < w
+slot-free {w} imm a r e = let h : a .next + 1 ≤ w = rw e at (r .slot) in omega arith
 
-pub slotted-ready : (imm : Bool) (a : OpBatchAccumulator) → imm ≡ true → Ready imm a → Good (slottedAcc a) × (slottedAcc a .inside < 8)
+pub slotted-ready : {w : ℕ} (imm : Bool) (a : OpBatchAccumulator) → imm ≡ true → Ready w imm a → Good w (slottedAcc a) × (slottedAcc a .inside < 8)
 unfolding slottedAcc
 slotted-ready imm a e r =
     let h = slot-free imm a r e in
     let g = r .good in
     (record { low = omega arith; high = omega arith; room = omega arith; imm = g .imm; sum = omega arith; small = g .small; unit = g .unit }, rw e at (r .here))
 
-place-step : (a : OpBatchAccumulator) → Good a → a .place * 128 ≡ 128 ^ (a .inside + 1)
+place-step : {w : ℕ} (a : OpBatchAccumulator) → Good w a → a .place * 128 ≡ 128 ^ (a .inside + 1)
 place-step a g = ap (λ (k : ℕ). k * 128) (g .unit) ∙ sym (pow-suc 128 (a .inside)) ∙ ap (λ (k : ℕ). 128 ^ k) (sym (add-one (a .inside)))
 
-joined-good : (c : ℕ) (imm : Bool) (a : OpBatchAccumulator) → c < 128 → Good a → a .inside < cond imm 8 9 → Good (joinedAcc c imm a)
+joined-good : {w : ℕ} (c : ℕ) (imm : Bool) (a : OpBatchAccumulator) → c < 128 → Good w a → a .inside < cond imm 8 9 → Good w (joinedAcc c imm a)
 unfolding joinedAcc
 joined-good c imm a hc g h =
     record {
@@ -104,14 +123,14 @@ joined-good c imm a hc g h =
     }
 
 -- and the numbers of the group that it joins do not overflow
-pub joined-fits : (c : ℕ) (a : OpBatchAccumulator) → c < 128 → Good a → a .inside < 9 → (a .number + c * a .place < 128 ^ 9) × (a .place * 128 ≤ 128 ^ 9)
+pub joined-fits : {w : ℕ} (c : ℕ) (a : OpBatchAccumulator) → c < 128 → Good w a → a .inside < 9 → (a .number + c * a .place < 128 ^ 9) × (a .place * 128 ≤ 128 ^ 9)
 unfolding joinedAcc
 joined-fits c a hc g h =
     let j = joined-good c false a hc g h in
     let p = pow-le-pow-right {n = 128} (omega arith) {i = a .inside + 1} {j = 9} (omega arith) in
     (omega (arith, j .small, p), omega (arith, j .unit, p))
 
-pub added-good : (c : ℕ) (imm : Bool) (a : OpBatchAccumulator) → c < 128 → Good a → fitsIn imm a ≡ true → Good (addedAcc c imm a)
+pub added-good : {w : ℕ} (c : ℕ) (imm : Bool) (a : OpBatchAccumulator) → c < 128 → Good w a → fitsIn w imm a ≡ true → Good w (addedAcc c imm a)
 unfolding addedAcc
 added-good c true a hc g f =
     let s = slotted-ready true (readyAcc true a) refl (ready true a g f) in
@@ -133,7 +152,7 @@ module _ (imm b : Bool) (a : OpBatchAccumulator) (e : imm ≡ b) where
 
 -- ---- the end of a batch
 
-pub target-bounds : (n : ℕ) → n ≤ 8 → (n ≤ target n) × (target n ≤ 8)
+pub target-bounds : (n : ℕ) → n ≤ recordGroups → (n ≤ target n) × (target n ≤ recordGroups)
 unfolding target
 target-bounds n h = go (leb n 1) (leb n 2) (leb n 4) refl refl refl
   where
@@ -171,35 +190,35 @@ module _ (n : ℕ) (a : OpBatchAccumulator) where
   unfolding filledRun
   run-none at xs h = rw (none h)
 
-filled-good : (k : ℕ) (a : OpBatchAccumulator) → Good a → a .next + k ≤ 8 → Good (filledAcc k a)
+filled-good : {w : ℕ} (k : ℕ) (a : OpBatchAccumulator) → Good w a → a .next + k ≤ w → Good w (filledAcc k a)
 unfolding filledAcc
 filled-good zero a g h = g
 filled-good (suc k) a g h = filled-good k (turnedAcc a) (turned-good a g (omega arith)) (omega (arith, turned-next a))
 
-pub last-good : (a : OpBatchAccumulator) → Good a → Good (lastAcc a)
+last-good : (a : OpBatchAccumulator) → Good recordGroups a → Good recordGroups (lastAcc a)
 unfolding lastAcc
 last-good a g =
     let b = target-bounds (a .next) (g .high) in
     filled-good (target (a .next) - a .next) a g (omega arith)
 
-pub ended-total : (a : OpBatchAccumulator) → Good a → endedTotal a ≤ 72
+pub ended-total : (a : OpBatchAccumulator) → Good recordGroups a → endedTotal a ≤ 72
 unfolding endedTotal
 ended-total a g =
     let q = last-good a g in
     omega (arith, closed-total (lastAcc a) q, q .low, q .high)
 
-pub new-good : Good newAcc
-new-good = record { low = omega arith; high = omega arith; room = omega arith; imm = λ e. omega arith; sum = omega arith; small = omega arith; unit = refl }
+pub new-good : (w : ℕ) → 2 ≤ w → Good w newAcc
+new-good w h = record { low = omega arith; high = omega arith; room = omega arith; imm = λ e. omega arith; sum = omega arith; small = omega arith; unit = refl }
 
 -- a new batch takes any operation
-pub new-fits : (imm : Bool) → fitsIn imm newAcc ≡ true
-new-fits true = refl
-new-fits false = refl
+pub new-fits : (w : ℕ) (imm : Bool) → 2 ≤ w → fitsIn w imm newAcc ≡ true
+new-fits w true h = lt-ltb 1 w (omega arith)
+new-fits w false h = refl
 
 -- one operation more
 pub added-total : (c : ℕ) (imm : Bool) (a : OpBatchAccumulator) → 0 < addedAcc c imm a .total
 unfolding addedAcc joinedAcc
 added-total c imm a = omega arith
 
-pub total-le : (a : OpBatchAccumulator) → Good a → a .total ≤ 72
+pub total-le : (a : OpBatchAccumulator) → Good recordGroups a → a .total ≤ 72
 total-le a g = omega arith

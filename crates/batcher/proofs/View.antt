@@ -14,6 +14,7 @@ use Rattle.rules.specs.Operations.{Op, codes, noop, hasImmediate}
 use Rattle.rules.specs.Batching.{Group, ops, imm, Batch, empty, nextFree, fits, wantsNoop, closeGroup, groups, turned, full, joined, ready, added, target, turnedTimes, ended}
 use Rattle.rules.specs.Record.{flagOf, codesNumber, opsOf, recordOf, recordBytes}
 use Rattle.batcher.specs.declared.OpBatchAccumulator.{OpBatchAccumulator}
+use Rattle.batcher.specs.Good.{recordGroups}
 use Rattle.batcher.specs.Model.{newAcc, fitsIn, pads, padOf, closedRun, turnedAcc, slottedAcc, slottedRun, joinedAcc, crosses, readyAcc, readyRun, addedAcc, addedRun, filledAcc, filledRun, lastAcc, endedTotal, endedRun}
 use Rattle.batcher.specs.Going.{endsIn, accOf, written, drafted, bytesWith}
 use Rattle.batcher.proofs.Draft.{closeAt, bytes-close, bytes-imm, bytes-open, bytes-zero, bytes-count, bytes-record}
@@ -34,9 +35,9 @@ pub acc-next : (t : List ℕ) (b : Batch) → accOf t b .next ≡ nextFree b
 unfolding accOf
 acc-next t b = refl
 
-pub acc-fits : (t : List ℕ) (x : Op) (b : Batch) → fitsIn (hasImmediate t x) (accOf t b) ≡ fits 8 t x b
+pub acc-fits : (w : ℕ) (t : List ℕ) (x : Op) (b : Batch) → fitsIn w (hasImmediate t x) (accOf t b) ≡ fits w t x b
 unfolding accOf fits
-acc-fits t x b = refl
+acc-fits w t x b = refl
 
 acc-pads : (t : List ℕ) (b : Batch) → pads (accOf t b) ≡ wantsNoop t (b .current)
 unfolding accOf
@@ -150,7 +151,7 @@ module _ (n : ℕ) (p t : List ℕ) where
   abbrev Run : List Group → List ℕ
   Run gs = fitted n (p ++ bytesWith 0 gs)
 
-  run-close : (b : Batch) → length (b .closed) < 8 → closedRun (length p) (accOf t b) (Run (drafted b)) ≡ Run (groups t b)
+  run-close : (b : Batch) → length (b .closed) < recordGroups → closedRun (length p) (accOf t b) (Run (drafted b)) ≡ Run (groups t b)
   unfolding closedRun accOf drafted groups closeGroup flagOf
   run-close b h = rw (← wants-ends t (b .current)) (go (wantsNoop t (b .current)))
     where
@@ -164,11 +165,11 @@ module _ (n : ℕ) (p t : List ℕ) where
       go true = rw (noop-number (b .current)) (shut (b .current ++ (noop ∷ [])) true (length (opsOf (b .closed)) + length (b .current) + 1) (omega (arith, length-append (b .current) (noop ∷ []))))
       go false = shut (b .current) false (length (opsOf (b .closed)) + length (b .current) + 0) (omega arith)
 
-  run-turned : (b : Batch) → length (b .closed) < 8 → closedRun (length p) (accOf t b) (Run (drafted b)) ≡ Run (drafted (turned t b))
+  run-turned : (b : Batch) → length (b .closed) < recordGroups → closedRun (length p) (accOf t b) (Run (drafted b)) ≡ Run (drafted (turned t b))
   unfolding drafted turned
   run-turned b h = run-close b h ∙ ap (λ (l : List ℕ). fitted n (p ++ l)) (sym (bytes-open 0 (groups t b)))
 
-  run-ready : (x : Op) (b : Batch) → length (b .closed) < 8 → readyRun (hasImmediate t x) (length p) (accOf t b) (Run (drafted b)) ≡ Run (drafted (ready t x b))
+  run-ready : (x : Op) (b : Batch) → length (b .closed) < recordGroups → readyRun (hasImmediate t x) (length p) (accOf t b) (Run (drafted b)) ≡ Run (drafted (ready t x b))
   unfolding readyRun ready
   run-ready x b h = rw (acc-full t x b) (go (full t x b))
     where
@@ -176,14 +177,14 @@ module _ (n : ℕ) (p t : List ℕ) where
       go true = run-turned b h
       go false = refl
 
-  run-times : (k : ℕ) (b : Batch) → nextFree b + k ≤ 8 → filledRun k (length p) (accOf t b) (Run (drafted b)) ≡ Run (drafted (turnedTimes k t b))
+  run-times : (k : ℕ) (b : Batch) → nextFree b + k ≤ recordGroups → filledRun k (length p) (accOf t b) (Run (drafted b)) ≡ Run (drafted (turnedTimes k t b))
   unfolding filledRun turnedTimes
   run-times zero b h = refl
   run-times (suc k) b h =
       ap₂ (λ (a : OpBatchAccumulator) (l : List ℕ). filledRun k (length p) a l) (acc-turned t b) (run-turned b (omega (arith, closed-free b)))
       ∙ run-times k (turned t b) (omega (arith, free-turned t b))
 
-  run-last : (b : Batch) → nextFree b ≤ 8 → closedRun (length p) (lastAcc (accOf t b)) (filledRun (target (accOf t b .next) - accOf t b .next) (length p) (accOf t b) (Run (drafted b))) ≡ Run (ended t b)
+  run-last : (b : Batch) → nextFree b ≤ recordGroups → closedRun (length p) (lastAcc (accOf t b)) (filledRun (target (accOf t b .next) - accOf t b .next) (length p) (accOf t b) (Run (drafted b))) ≡ Run (ended t b)
   unfolding lastOf
   run-last b h =
       let g = target-bounds (nextFree b) h in
@@ -193,7 +194,7 @@ module _ (n : ℕ) (p t : List ℕ) where
       ∙ run-close (lastOf t b) (omega (arith, closed-free (turnedTimes k t b)))
       ∙ ap Run (ended-last t b)
 
-  pub run-ended : (b : Batch) → nextFree b ≤ 8 → endedRun (length p) (accOf t b) (Run (drafted b)) ≡ fitted n (p ++ recordBytes (recordOf (ended t b)))
+  pub run-ended : (b : Batch) → nextFree b ≤ recordGroups → endedRun (length p) (accOf t b) (Run (drafted b)) ≡ fitted n (p ++ recordBytes (recordOf (ended t b)))
   unfolding endedRun
   run-ended b h =
       ap₂ (λ (l : List ℕ) (k : ℕ). set l (length p + 81) k) (run-last b h) (ap target (acc-next t b) ∙ sym (ended-length t b (target-bounds (nextFree b) h .0)))
@@ -204,7 +205,7 @@ module _ (n : ℕ) (p t : List ℕ) where
   map-snoc [] v = refl
   map-snoc (u ∷ vs) v = ap (λ (l : List Group). imm u ∷ l) (map-snoc vs v)
 
-  run-slotted : (v : ℕ) (b : Batch) → nextFree b < 8
+  run-slotted : (v : ℕ) (b : Batch) → nextFree b < recordGroups
       → slottedRun v (length p) (accOf t b) (Run (drafted b)) ≡ Run (drafted (record { closed = b .closed; current = b .current; placed = b .placed ++ (v ∷ []) }))
   unfolding slottedRun drafted
   run-slotted v b h =
@@ -213,10 +214,10 @@ module _ (n : ℕ) (p t : List ℕ) where
       (bytes-imm n p 0 (b .closed ++ ops [] false ∷ map imm (b .placed)) v (omega arith))
 
   -- 0 in the next free slot is there already
-  pub run-kept : (b : Batch) → nextFree b < 8 → sets (Run (drafted b)) (length p + 17 + 8 * nextFree b) (leBytes 8 0) ≡ Run (drafted b)
+  pub run-kept : (b : Batch) → nextFree b < recordGroups → sets (Run (drafted b)) (length p + 17 + 8 * nextFree b) (leBytes 8 0) ≡ Run (drafted b)
   run-kept b h = let e = drafted-length b in rw (← e) (bytes-zero n p 0 (drafted b) (omega arith))
 
-  pub run-added : (x : Op) (b : Batch) → length (b .closed) < 8 → (hasImmediate t x ≡ true → nextFree (ready t x b) < 8)
+  pub run-added : (x : Op) (b : Batch) → length (b .closed) < recordGroups → (hasImmediate t x ≡ true → nextFree (ready t x b) < recordGroups)
       → addedRun (hasImmediate t x) (x .value) (length p) (accOf t b) (Run (drafted b)) ≡ Run (drafted (added t x b))
   unfolding addedRun added joined drafted
   run-added x b h k = rw (acc-ready t x b, run-ready x b h) (go (hasImmediate t x) k)
@@ -224,7 +225,7 @@ module _ (n : ℕ) (p t : List ℕ) where
       r : Batch
       r = ready t x b
 
-      go : (i : Bool) → (i ≡ true → nextFree r < 8)
+      go : (i : Bool) → (i ≡ true → nextFree r < recordGroups)
           → cond i (slottedRun (x .value) (length p) (accOf t r) (Run (drafted r))) (Run (drafted r))
           ≡ Run (r .closed ++ ops [] false ∷ map imm (cond i (r .placed ++ (x .value ∷ [])) (r .placed)))
       go true k = run-slotted (x .value) r (k refl)

@@ -58,22 +58,22 @@ wordsOf gs = wordBytes (fitted 8 (map numberOf gs))
 unfoldable pub bytesWith : ℕ → List Group → List ℕ
 bytesWith c gs = startsOf gs ++ (flagsOf gs ++ (wordsOf gs ++ (c ∷ [])))
 
--- ---- the work in hand: `e` are the runs as they came, `a` as they are now
+-- ---- the work in hand: `e` are the runs as they came, `a` as they are now; `w` is the width
 
-pub record Held (e : Arena) (t : List ℕ) (d : rule.Work) (w : Work) (a : Arena) : Type 0 where
-  pub acc : w .acc ≡ accOf t (d .current)
-  pub good : Good (accOf t (d .current))
-  pub base : w .base ≡ length (paddedOf (d .batches))
-  pub batches : w .batches ≡ length (d .batches)
+pub record Held (w : ℕ) (e : Arena) (t : List ℕ) (d : rule.Work) (s : Work) (a : Arena) : Type 0 where
+  pub acc : s .acc ≡ accOf t (d .current)
+  pub good : Good w (accOf t (d .current))
+  pub base : s .base ≡ length (paddedOf (d .batches))
+  pub batches : s .batches ≡ length (d .batches)
   pub codes : a .codes ≡ fitted (length (e .codes)) (codes (paddedOf (d .batches) ++ written (d .current)))
   pub values : a .values ≡ fitted (length (e .values)) (values (paddedOf (d .batches) ++ written (d .current)))
   pub records : a .records ≡ fitted (length (e .records)) (recordsBytes (map recordOf (d .batches)) ++ bytesWith 0 (drafted (d .current)))
 
 -- No operation so far is at fault, and what is left of the lists takes the work in hand to the whole result.
-pub record Going (e : Arena) (t xs ys : List ℕ) (i : ℕ) (w : Work) (a : Arena) : Type 0 where
+pub record Going (w : ℕ) (e : Arena) (t xs ys : List ℕ) (i : ℕ) (s : Work) (a : Arena) : Type 0 where
   pub work : rule.Work
-  pub held : Held e t work w a
-  pub fine : refuseFirst i (map (opFault t) (operations (drop i xs) (drop i ys))) (good (blockOf (batchesOf 8 t (operations xs ys)))) ≡ listed t xs ys
-  pub rest : steps 8 t (operations (drop i xs) (drop i ys)) work ≡ steps 8 t (operations xs ys) start
-  pub base : w .base ≤ 72 * i
-  pub batches : w .batches ≤ i
+  pub held : Held w e t work s a
+  pub fine : refuseFirst i (map (opFault t) (operations (drop i xs) (drop i ys))) (good (blockOf (batchesOf w t (operations xs ys)))) ≡ listed w t xs ys
+  pub rest : steps w t (operations (drop i xs) (drop i ys)) work ≡ steps w t (operations xs ys) start
+  pub base : s .base ≤ 72 * i
+  pub batches : s .batches ≤ i

@@ -1,6 +1,7 @@
 // The greedy batcher (document 01, "Batching (000)"): an accumulator of plain numbers that goes in and out by value, and records that are
 // written to a lent run as groups close and immediates are placed, and never read back. A Noop is opcode 0 and value 0, so that a padding is
-// stored by not being stored: the runs come in all zero.
+// stored by not being stored: the runs come in all zero. How many groups a batch may have, its width, is handed in; a record has room for
+// eight whatever the width.
 ghost use mathlib.Core.Path.{_≡_};
 ghost use mathlib.Core.Bool.{true};
 ghost use Prim.Native.Nat.{_+_, _*_, _-_, _≤_, _<_, _^_};
@@ -8,15 +9,16 @@ ghost use lib.ListN.{length, getD, set};
 ghost use Rattle.rules.specs.Batching.{target};
 ghost use Rattle.rules.specs.Record.{noBlock};
 ghost use Rattle.rules.specs.Functions.{arena, filled};
-ghost use Rattle.batcher.specs.Good.{Good};
+ghost use Rattle.batcher.specs.Good.{recordGroups, Good};
 ghost use Rattle.batcher.specs.Going.{Going};
 ghost use Rattle.batcher.specs.Batched.{listed, Batched};
 ghost use Rattle.batcher.specs.Model.{newAcc, fitsIn, padOf, closedRun, turnedAcc, slottedAcc, slottedRun, joinedAcc, crosses, readyAcc, readyRun, addedAcc, addedRun, endedTotal, endedRun, endedWork, endedWorkRun, roomWork, roomRun, steppedWork, steppedRun, lastPlace, keptRun, lastImm, takenWork, Joins};
 
-// groups in a batch, and operations in a group
-const BATCH_SIZE: usize = 8;
-
+// operations in a group
 const GROUP_SIZE: usize = 9;
+
+// groups in a record
+const RECORD_GROUPS: usize = 8;
 
 // a record's bytes: nine starts, eight flags, eight numbers of eight bytes, and the count
 pub const RECORD_SIZE: usize = 82;
@@ -57,27 +59,27 @@ impl OpBatchAccumulator {
         }
     }
 
-    // Whether an operation fits, with an immediate or without.
-    fn can_accept_op(self, imm: bool) -> bool
-        requires { ⌜ self .next ≤ 8 ⌝ }
-        ensures { λ r. ⌜ r ≡ fitsIn imm self ⌝ }
+    // Whether an operation fits, with an immediate or without, in a batch of so many groups.
+    fn can_accept_op(self, width: usize, imm: bool) -> bool
+        requires { ⌜ self .next ≤ recordGroups ⌝ }
+        ensures { λ r. ⌜ r ≡ fitsIn width imm self ⌝ }
     {
         if imm {
             if self.inside < GROUP_SIZE - 1 {
-                return self.next < BATCH_SIZE;
+                return self.next < width;
             }
-            return self.next + 1 < BATCH_SIZE;
+            return self.next + 1 < width;
         }
         if self.inside < GROUP_SIZE {
             return true;
         }
-        self.next < BATCH_SIZE
+        self.next < width
     }
 
-    // Adds an operation that fits to the batch whose record starts at `at`.
+    // Adds an operation for which the record has room to the batch whose record starts at `at`.
     fn add_op(self, code: u8, imm: bool, v: u64, at: usize, records: &mut [u8]) -> Self
-        requires { ⌜ Good self ⌝ }
-        requires { ⌜ fitsIn imm self ≡ true ⌝ }
+        requires { ⌜ Good recordGroups self ⌝ }
+        requires { ⌜ fitsIn recordGroups imm self ≡ true ⌝ }
         requires { ⌜ (code < 128) × (at < 2 ^ 32) ⌝ }
         ensures acc { λ r. ⌜ r ≡ addedAcc code imm self ⌝ }
         ensures run { λ _. ⌜ now (records .exit) ≡ addedRun imm v at self (now (records .entry)) ⌝ }
@@ -92,7 +94,7 @@ impl OpBatchAccumulator {
 
     // Ends the batch: its record is whole, and its operations are returned.
     fn into_batch(self, at: usize, records: &mut [u8]) -> u8
-        requires { ⌜ Good self ⌝ }
+        requires { ⌜ Good recordGroups self ⌝ }
         requires { ⌜ at < 2 ^ 32 ⌝ }
         ensures total { λ r. ⌜ r ≡ endedTotal self ⌝ }
         ensures run { λ _. ⌜ now (records .exit) ≡ endedRun at self (now (records .entry)) ⌝ }
@@ -109,7 +111,7 @@ impl OpBatchAccumulator {
 
     // Closes the current group and opens the next free one.
     fn finalize_op_group(self, at: usize, records: &mut [u8]) -> Self
-        requires { ⌜ Good self ⌝ }
+        requires { ⌜ Good recordGroups self ⌝ }
         requires { ⌜ at < 2 ^ 32 ⌝ }
         ensures acc { λ r. ⌜ r ≡ turnedAcc self ⌝ }
         ensures run { λ _. ⌜ now (records .exit) ≡ closedRun at self (now (records .entry)) ⌝ }
@@ -129,7 +131,7 @@ impl OpBatchAccumulator {
     // Writes what the record says of the current group, and returns the batch's operations with its Noop. All later starts are the total
     // so far: the starts of the group's immediates, of the next group, and those that repeat the total if no group follows.
     fn close(self, at: usize, records: &mut [u8]) -> u8
-        requires { ⌜ Good self ⌝ }
+        requires { ⌜ Good recordGroups self ⌝ }
         requires { ⌜ at < 2 ^ 32 ⌝ }
         ensures total { λ r. ⌜ r ≡ self .total + padOf self ⌝ }
         ensures run { λ _. ⌜ now (records .exit) ≡ closedRun at self (now (records .entry)) ⌝ }
@@ -137,7 +139,7 @@ impl OpBatchAccumulator {
         let pad = self.padding();
         let cur = self.cur;
         let total = self.total + pad;
-        word::fill_few(records, at + cur + 1, BATCH_SIZE - cur, total);
+        word::fill_few(records, at + cur + 1, RECORD_GROUPS - cur, total);
         word::store8(records, at + FLAGS + cur, pad);
         word::store_le8(records, at + NUMBERS + 8 * cur, self.number);
         total
@@ -145,7 +147,7 @@ impl OpBatchAccumulator {
 
     // The operation joins the current group.
     fn push_op(self, code: u8, imm: bool) -> Self
-        requires { ⌜ Good self ⌝ }
+        requires { ⌜ Good recordGroups self ⌝ }
         requires { ⌜ (code < 128) × (self .inside < 9) ⌝ }
         ensures { λ r. ⌜ r ≡ joinedAcc code imm self ⌝ }
     {
@@ -176,7 +178,7 @@ impl OpBatchAccumulator {
 
     // The current group's number with one opcode more.
     fn number_with(self, code: u8) -> u64
-        requires { ⌜ Good self ⌝ }
+        requires { ⌜ Good recordGroups self ⌝ }
         requires { ⌜ (code < 128) × (self .inside < 9) ⌝ }
         ensures { λ r. ⌜ r ≡ self .number + code * self .place ⌝ }
     {
@@ -194,7 +196,7 @@ impl OpBatchAccumulator {
     }
 
     fn advance(self, imm: bool, at: usize, records: &mut [u8]) -> Self
-        requires { ⌜ Good self ⌝ }
+        requires { ⌜ Good recordGroups self ⌝ }
         requires { ⌜ at < 2 ^ 32 ⌝ }
         ensures acc { λ r. ⌜ r ≡ readyAcc imm self ⌝ }
         ensures run { λ _. ⌜ now (records .exit) ≡ readyRun imm at self (now (records .entry)) ⌝ }
@@ -207,7 +209,7 @@ impl OpBatchAccumulator {
 
     // An immediate takes the next free group.
     fn place_imm(self, v: u64, at: usize, records: &mut [u8]) -> Self
-        requires { ⌜ (self .next < 8) × (at < 2 ^ 32) ⌝ }
+        requires { ⌜ (self .next < recordGroups) × (at < 2 ^ 32) ⌝ }
         ensures acc { λ r. ⌜ r ≡ slottedAcc self ⌝ }
         ensures run { λ _. ⌜ now (records .exit) ≡ slottedRun v at self (now (records .entry)) ⌝ }
     {
@@ -251,41 +253,42 @@ struct Work {
 }
 
 // Ends the batch in hand and starts the next.
-fn end_batch(w: Work, records: &mut [u8]) -> Work
-    requires { ⌜ Good (w .acc) ⌝ }
-    requires { ⌜ (w .base < 2 ^ 32) × (w .batches < 2 ^ 20) ⌝ }
-    ensures work { λ r. ⌜ r ≡ endedWork w ⌝ }
-    ensures run { λ _. ⌜ now (records .exit) ≡ endedWorkRun w (now (records .entry)) ⌝ }
+fn end_batch(work: Work, records: &mut [u8]) -> Work
+    requires { ⌜ Good recordGroups (work .acc) ⌝ }
+    requires { ⌜ (work .base < 2 ^ 32) × (work .batches < 2 ^ 20) ⌝ }
+    ensures work { λ r. ⌜ r ≡ endedWork work ⌝ }
+    ensures run { λ _. ⌜ now (records .exit) ≡ endedWorkRun work (now (records .entry)) ⌝ }
 {
-    let a = w.acc;
-    let k = w.batches;
+    let a = work.acc;
+    let k = work.batches;
     let total = a.into_batch(RECORD_SIZE * k, records);
     let n = total as usize;
     let fresh = OpBatchAccumulator::new();
     Work {
         acc: fresh,
-        base: w.base + n,
+        base: work.base + n,
         batches: k + 1,
     }
 }
 
 // Ends the batch in hand where the operation does not fit.
-fn make_room(w: Work, imm: bool, records: &mut [u8]) -> Work
-    requires { ⌜ Good (w .acc) ⌝ }
-    requires { ⌜ (w .base < 2 ^ 32) × (w .batches < 2 ^ 20) ⌝ }
-    ensures work { λ r. ⌜ r ≡ roomWork imm w ⌝ }
-    ensures run { λ _. ⌜ now (records .exit) ≡ roomRun imm w (now (records .entry)) ⌝ }
+fn make_room(width: usize, work: Work, imm: bool, records: &mut [u8]) -> Work
+    requires { ⌜ Good recordGroups (work .acc) ⌝ }
+    requires { ⌜ (work .base < 2 ^ 32) × (work .batches < 2 ^ 20) ⌝ }
+    ensures work { λ r. ⌜ r ≡ roomWork width imm work ⌝ }
+    ensures run { λ _. ⌜ now (records .exit) ≡ roomRun width imm work (now (records .entry)) ⌝ }
 {
-    let a = w.acc;
-    if a.can_accept_op(imm) {
-        return w;
+    let a = work.acc;
+    if a.can_accept_op(width, imm) {
+        return work;
     }
-    end_batch(w, records)
+    end_batch(work, records)
 }
 
 // One operation more.
 fn step(
-    w: Work,
+    width: usize,
+    work: Work,
     code: u8,
     imm: bool,
     v: u64,
@@ -293,14 +296,14 @@ fn step(
     values: &mut [u64],
     records: &mut [u8],
 ) -> Work
-    requires { ⌜ Good (w .acc) ⌝ }
-    requires { ⌜ (w .base < 2 ^ 31) × (w .batches < 2 ^ 19) × (code < 128) ⌝ }
-    ensures work { λ r. ⌜ r ≡ steppedWork code imm w ⌝ }
-    ensures codes { λ _. ⌜ now (codes .exit) ≡ set (now (codes .entry)) (lastPlace (steppedWork code imm w)) code ⌝ }
-    ensures values { λ _. ⌜ now (values .exit) ≡ set (now (values .entry)) (lastPlace (steppedWork code imm w)) v ⌝ }
-    ensures run { λ _. ⌜ now (records .exit) ≡ steppedRun imm v w (now (records .entry)) ⌝ }
+    requires { ⌜ (2 ≤ width) × (width ≤ recordGroups) × Good width (work .acc) ⌝ }
+    requires { ⌜ (work .base < 2 ^ 31) × (work .batches < 2 ^ 19) × (code < 128) ⌝ }
+    ensures work { λ r. ⌜ r ≡ steppedWork width code imm work ⌝ }
+    ensures codes { λ _. ⌜ now (codes .exit) ≡ set (now (codes .entry)) (lastPlace (steppedWork width code imm work)) code ⌝ }
+    ensures values { λ _. ⌜ now (values .exit) ≡ set (now (values .entry)) (lastPlace (steppedWork width code imm work)) v ⌝ }
+    ensures run { λ _. ⌜ now (records .exit) ≡ steppedRun width imm v work (now (records .entry)) ⌝ }
 {
-    let r = make_room(w, imm, records);
+    let r = make_room(width, work, imm, records);
     let b = r.acc;
     let base = r.base;
     let k = r.batches;
@@ -331,9 +334,9 @@ struct Taken {
 
 // How many slots an operation takes that joins the current group as it is: 0 or 1. 2 where it does not, or is left to `step`. At most `left`
 // may join, and the last of them has no immediate.
-fn slots(table: &[u8], code: u8, v: u64, next: usize, left: usize) -> usize
-    requires { ⌜ (length (now table) ≡ 128) × (next ≤ 8) ⌝ }
-    ensures { λ r. ⌜ (r < 2 → Joins (now (table .entry)) code v next left r) ⌝ }
+fn slots(width: usize, table: &[u8], code: u8, v: u64, next: usize, left: usize) -> usize
+    requires { ⌜ (length (now table) ≡ 128) × (next ≤ recordGroups) ⌝ }
+    ensures { λ r. ⌜ (r < 2 → Joins width (now (table .entry)) code v next left r) ⌝ }
 {
     if 128 <= code {
         return 2;
@@ -350,18 +353,18 @@ fn slots(table: &[u8], code: u8, v: u64, next: usize, left: usize) -> usize
     if left <= k {
         return 2;
     }
-    if BATCH_SIZE < next + k {
+    if width < next + k {
         return 2;
     }
     k
 }
 
-// A value in the next free slot, if there is one.
+// A value in the next free slot, if the record has one more.
 fn keep(v: u64, at: usize, next: usize, records: &mut [u8])
     requires { ⌜ (at < 2 ^ 32) × (at + 82 ≤ length (now records)) ⌝ }
     ensures { λ _. ⌜ now (records .exit) ≡ keptRun v at next (now (records .entry)) ⌝ }
 {
-    if next < BATCH_SIZE {
+    if next < RECORD_GROUPS {
         word::put8(records, at + NUMBERS + 8 * next, v);
     }
 }
@@ -405,7 +408,7 @@ fn last_imm(table: &[u8], codes: &[u8], before: bool, i: usize, n: usize) -> boo
 
 // The work put together again, with n operations that have joined from the i-th on.
 fn gather(
-    w: Work,
+    work: Work,
     table: &[u8],
     codes: &[u8],
     i: usize,
@@ -415,10 +418,10 @@ fn gather(
     place: u64,
 ) -> Taken
     requires { ⌜ (length (now table) ≡ 128) × (i + n ≤ length (now codes)) × (0 < n → getD (now codes) (i + n - 1) 0 < 128) ⌝ }
-    requires { ⌜ Good (takenWork (now table) (now codes) w i n next number place .acc) ⌝ }
-    ensures { λ r. ⌜ (r .work ≡ takenWork (now (table .entry)) (now (codes .entry)) w i n next number place) × (r .upto ≡ i + n) ⌝ }
+    requires { ⌜ Good recordGroups (takenWork (now table) (now codes) work i n next number place .acc) ⌝ }
+    ensures { λ r. ⌜ (r .work ≡ takenWork (now (table .entry)) (now (codes .entry)) work i n next number place) × (r .upto ≡ i + n) ⌝ }
 {
-    let a = w.acc;
+    let a = work.acc;
     let tail = last_imm(table, codes, a.tail, i, n);
     let acc = OpBatchAccumulator {
         cur: a.cur,
@@ -429,17 +432,21 @@ fn gather(
         total: a.total + n as u8,
         tail,
     };
-    let work = Work {
+    let taken = Work {
         acc,
-        base: w.base,
-        batches: w.batches,
+        base: work.base,
+        batches: work.batches,
     };
-    Taken { work, upto: i + n }
+    Taken {
+        work: taken,
+        upto: i + n,
+    }
 }
 
 // The operations from the i-th on that join the current group as it is, up to the first that does not.
 fn join_ops(
-    w: Work,
+    width: usize,
+    work: Work,
     i: usize,
     table: &[u8],
     codes: &[u8],
@@ -448,17 +455,17 @@ fn join_ops(
     out_values: &mut [u64],
     records: &mut [u8],
 ) -> Taken
-    requires sizes { ⌜ (length (now table) ≡ 128) × (length (now codes) ≤ 16384) × (length (now values) ≡ length (now codes)) × (i ≤ length (now codes)) ⌝ }
-    requires going { ⌜ Going (arena (now «out_codes») (now «out_values») (now records)) (now table) (now codes) (now values) i w (arena (now «out_codes») (now «out_values») (now records)) ⌝ }
+    requires sizes { ⌜ (length (now table) ≡ 128) × (length (now codes) ≤ 16384) × (length (now values) ≡ length (now codes)) × (i ≤ length (now codes)) × (2 ≤ width) × (width ≤ recordGroups) ⌝ }
+    requires going { ⌜ Going width (arena (now «out_codes») (now «out_values») (now records)) (now table) (now codes) (now values) i work (arena (now «out_codes») (now «out_values») (now records)) ⌝ }
     ensures place { λ r. ⌜ (i ≤ r .upto) × (r .upto ≤ length (now (codes .entry))) ⌝ }
-    ensures going { λ r. ⌜ Going (arena (now («out_codes» .entry)) (now («out_values» .entry)) (now (records .entry))) (now (table .entry)) (now (codes .entry)) (now (values .entry)) (r .upto) (r .work) (arena (now («out_codes» .exit)) (now («out_values» .exit)) (now (records .exit))) ⌝ }
+    ensures going { λ r. ⌜ Going width (arena (now («out_codes» .entry)) (now («out_values» .entry)) (now (records .entry))) (now (table .entry)) (now (codes .entry)) (now (values .entry)) (r .upto) (r .work) (arena (now («out_codes» .exit)) (now («out_values» .exit)) (now (records .exit))) ⌝ }
 {
-    let a = w.acc;
-    let at = RECORD_SIZE * w.batches;
+    let a = work.acc;
+    let at = RECORD_SIZE * work.batches;
     let t = a.total as usize;
-    let from = w.base + t;
+    let from = work.base + t;
     if !room_ahead(from, at, out_codes.len(), out_values.len(), records.len()) {
-        return Taken { work: w, upto: i };
+        return Taken { work, upto: i };
     }
     let end = most(a.inside, i, codes.len());
     let mut next = a.next;
@@ -468,9 +475,9 @@ fn join_ops(
     while n < end {
         let code = codes[i + n];
         let v = values[i + n];
-        let k = slots(table, code, v, next, end - n);
+        let k = slots(width, table, code, v, next, end - n);
         if 1 < k {
-            return gather(w, table, codes, i, n, next, number, place);
+            return gather(work, table, codes, i, n, next, number, place);
         }
         keep(v, at, next, records);
         out_codes[from + n] = code;
@@ -480,7 +487,7 @@ fn join_ops(
         next = next + k;
         n += 1;
     }
-    gather(w, table, codes, i, n, next, number, place)
+    gather(work, table, codes, i, n, next, number, place)
 }
 
 // How much a list comes to; or the number of refusal and the place of its first operation that is not admissible.
@@ -491,6 +498,7 @@ pub enum Batches {
 
 // The batches of a list, written to runs that are all zero. What the runs have no room for falls away; what is replied does not.
 pub fn batch_ops(
+    width: usize,
     table: &[u8],
     codes: &[u8],
     values: &[u64],
@@ -498,12 +506,12 @@ pub fn batch_ops(
     out_values: &mut [u64],
     records: &mut [u8],
 ) -> Batches
-    requires sizes { ⌜ (length (now table) ≡ 128) × (length (now codes) ≤ 16384) × (length (now values) ≡ length (now codes)) ⌝ }
+    requires sizes { ⌜ (length (now table) ≡ 128) × (length (now codes) ≤ 16384) × (length (now values) ≡ length (now codes)) × (2 ≤ width) × (width ≤ recordGroups) ⌝ }
     requires zero { ⌜ arena (now «out_codes») (now «out_values») (now records) ≡ filled (arena (now «out_codes») (now «out_values») (now records)) noBlock ⌝ }
-    ensures { λ r. ⌜ Batched (listed (now (table .entry)) (now (codes .entry)) (now (values .entry))) r (arena (now («out_codes» .entry)) (now («out_values» .entry)) (now (records .entry))) (arena (now («out_codes» .exit)) (now («out_values» .exit)) (now (records .exit))) ⌝ }
+    ensures { λ r. ⌜ Batched (listed width (now (table .entry)) (now (codes .entry)) (now (values .entry))) r (arena (now («out_codes» .entry)) (now («out_values» .entry)) (now (records .entry))) (arena (now («out_codes» .exit)) (now («out_values» .exit)) (now (records .exit))) ⌝ }
 {
     let fresh = OpBatchAccumulator::new();
-    let mut w = Work {
+    let mut work = Work {
         acc: fresh,
         base: 0,
         batches: 0,
@@ -518,8 +526,9 @@ pub fn batch_ops(
         }
         let kind = table[code as usize];
         let imm = kind == 1;
-        let s = step(w, code, imm, v, out_codes, out_values, records);
+        let s = step(width, work, code, imm, v, out_codes, out_values, records);
         let t = join_ops(
+            width,
             s,
             i + 1,
             table,
@@ -529,10 +538,10 @@ pub fn batch_ops(
             out_values,
             records,
         );
-        w = t.work;
+        work = t.work;
         i = t.upto;
     }
-    let e = end_batch(w, records);
+    let e = end_batch(work, records);
     Batches::Done {
         batches: e.batches,
         operations: e.base,

@@ -82,7 +82,7 @@ pub fn build(
     if let operation::Verdict::Refused { number, place } = verdict {
         return Built::Refused { number, place };
     }
-    let answer = batcher::batch_ops(table, codes, values, out_codes, out_values, records);
+    let answer = batcher::batch_ops(8, table, codes, values, out_codes, out_values, records);
     match answer {
         batcher::Batches::Fault { number, place } => {
             clear(out_codes, out_values, records);

@@ -12,7 +12,7 @@ returns : tie.Need-returns
 unfolding roomWork roomRun
 returns c =
     let a = c .before .before .before .before .args in
-    let p : fitsIn (a .imm) (a .w .acc) ≡ true = sym (c .before .can-accept-op .ensures) ∙ c .if1 .taken in
+    let p : fitsIn (a .width) (a .imm) (a .work .acc) ≡ true = sym (c .before .can-accept-op .ensures) ∙ c .if1 .taken in
     (rw p, rw p)
 
 end-batch-requires : tie.Need-end-batch-requires
@@ -25,7 +25,7 @@ returns-2 : tie.Need-returns-2
 unfolding roomWork roomRun
 returns-2 c =
     let a = c .before .before .before .before .before .before .before .before .args in
-    let p : fitsIn (a .imm) (a .w .acc) ≡ false = sym (c .before .before .before .before .before .can-accept-op .ensures) ∙ c .before .before .before .before .if1 .left in
+    let p : fitsIn (a .width) (a .imm) (a .work .acc) ≡ false = sym (c .before .before .before .before .before .can-accept-op .ensures) ∙ c .before .before .before .before .if1 .left in
     rw p (c .before .before .end-batch .ensures)
 
 pub make-room-spec : {M : Type 1} → statement M

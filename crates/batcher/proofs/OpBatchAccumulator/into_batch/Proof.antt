@@ -6,7 +6,7 @@ use lib.ListN.{length, set}
 use borrow.Author.Needs.{needs}
 use Rattle.rules.specs.Batching.{target}
 use Rattle.batcher.specs.declared.OpBatchAccumulator.{OpBatchAccumulator}
-use Rattle.batcher.specs.Good.{Good}
+use Rattle.batcher.specs.Good.{recordGroups, Good}
 use Rattle.batcher.specs.Model.{padOf, closedRun, filledAcc, filledRun, lastAcc, endedTotal, endedRun}
 use Rattle.batcher.proofs.Good.{target-bounds, turned-good, turned-next, filled-turn, filled-none, run-turn, run-none}
 use Rattle.batcher.proofs.OpBatchAccumulator.into_batch.Statement.{statement}
@@ -14,9 +14,9 @@ use Rattle.batcher.proofs.OpBatchAccumulator.into_batch.Tie as tie
 
 abbrev Inv-loop : tie.InvT-loop
 Inv-loop at records₀ count a₀ records a =
-    Good a
+    Good recordGroups a
     × (a .next ≤ count)
-    × (count ≤ 8)
+    × (count ≤ recordGroups)
     × (length records ≡ length records₀)
     × (filledAcc (count - a .next) a ≡ filledAcc (count - a₀ .next) a₀)
     × (filledRun (count - a .next) at a records ≡ filledRun (count - a₀ .next) at a₀ records₀)
