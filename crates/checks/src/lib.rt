@@ -42,7 +42,7 @@ pub fn structure_fault(codes: &[u8], values: &[u64], records: &[u8]) -> Verdict
     let mut sum: usize = 0;
     let mut b: usize = 0;
     while b < n {
-        if !op_batch::record_right(records, b) {
+        if !op_batch::record_right(op_batch::WIDTH, records, b) {
             return Verdict::Refused {
                 number: 15,
                 place: b,

@@ -101,10 +101,10 @@ starts-end s at i ok h = rw h (none-left ok)
 
 -- ---- the last of the structure test
 
-pub last-test : (s : List ℕ) (at : ℕ) (flags : List ℕ) (count : ℕ)
-    → count ≤ 8 → every (λ (f : ℕ). leb f 1) flags ≡ true → getD s at 0 ≡ 0 → startsRight (bytesAt 9 s at) ≡ true
-    → recordRight 8 (layout (bytesAt 9 s at) flags count) ≡ eqb (getD s (at + count) 0) (getD s (at + 8) 0)
+pub last-test : (w : ℕ) (s : List ℕ) (at : ℕ) (flags : List ℕ) (count : ℕ) → w ≤ 8
+    → count ≤ w → every (λ (f : ℕ). leb f 1) flags ≡ true → getD s at 0 ≡ 0 → startsRight (bytesAt 9 s at) ≡ true
+    → recordRight w (layout (bytesAt 9 s at) flags count) ≡ eqb (getD s (at + count) 0) (getD s (at + 8) 0)
 unfolding recordRight
-last-test s at flags count h f z r =
+last-test w s at flags count few h f z r =
     let first : getD (bytesAt 9 s at) 0 0 ≡ 0 = byte 9 s at 0 (omega arith) ∙ ap (λ (i : ℕ). getD s i 0) (add-zero at) ∙ z in
-    rw (le-leb count 8 h, f, first, r, byte 9 s at count (omega arith), byte 9 s at 8 (omega arith))
+    rw (le-leb count w h, f, first, r, byte 9 s at count (omega arith), byte 9 s at 8 (omega arith))

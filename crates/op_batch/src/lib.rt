@@ -1,19 +1,30 @@
 // OpBatch: a batch's record by value, as it lies in the lent run of records, its structure test and the lookups in one batch.
 ghost use mathlib.Core.Path.{_≡_};
-ghost use mathlib.Core.Bool.{_&&_};
-ghost use Prim.Native.Nat.{ℕ, _+_, _-_, _*_, _%_, _≤_, _<_};
+ghost use mathlib.Core.Bool.{true, _&&_};
+ghost use Prim.Native.Nat.{ℕ, _+_, _-_, _*_, _%_, _^_, _≤_, _<_};
 ghost use lib.ListN.{length, getD, take, drop};
+ghost use lib.Seq.{sets};
 ghost use lib.Dec.{leb};
 ghost use Rattle.rules.specs.Lists.{every};
-ghost use Rattle.rules.specs.Digits.{number};
-ghost use Rattle.rules.specs.Record.{differences, bytesAt, wordsAt, recordAt};
+ghost use Rattle.rules.specs.Digits.{digits, number};
+ghost use Rattle.rules.specs.Record.{startsFrom, differences, recordSize, wordBytes, bytesAt, wordsAt, recordAt};
 ghost use Rattle.rules.specs.Checks.{startsRight, recordRight};
 ghost use Rattle.rules.specs.Lookups.{groupFrom};
 ghost use Rattle.rules.specs.Functions.{groupLookup, nextLookup};
 ghost use Rattle.op_batch.specs.OpBatch.{layout, recordIn, foundIn, lookupOf, firstFull, nextIn, nextOf};
+ghost use Rattle.op_batch.specs.Stores.{startsSet, flagSet, numberSet, countSet, recordSet, packed};
 
-// The bytes of a record in a run.
+// A record's bytes in a run, and where its flags, its numbers and its count stand among them. No other crate knows.
 pub const RECORD: usize = 82;
+
+const FLAGS: usize = 9;
+
+const NUMBERS: usize = 17;
+
+const COUNT: usize = 81;
+
+// The groups of a batch are at most so many.
+pub const WIDTH: usize = 8;
 
 // A batch's record: nine starts, eight padding flags, eight group numbers, the group count.
 pub struct OpBatch {
@@ -85,11 +96,11 @@ fn starts_right(s: &[u8], at: usize) -> bool
     ok
 }
 
-fn layout_right(s: &[u8], at: usize, flags: &[u8], from: usize, count: u8) -> bool
-    requires { ⌜ (at + 9 ≤ length (now s)) × (from + 8 ≤ length (now flags)) ⌝ }
-    ensures { λ r. ⌜ r ≡ recordRight 8 (layout (bytesAt 9 (now (s .entry)) at) (bytesAt 8 (now (flags .entry)) from) count) ⌝ }
+fn layout_right(width: usize, s: &[u8], at: usize, flags: &[u8], from: usize, count: u8) -> bool
+    requires { ⌜ (width ≤ 8) × (at + 9 ≤ length (now s)) × (from + 8 ≤ length (now flags)) ⌝ }
+    ensures { λ r. ⌜ r ≡ recordRight width (layout (bytesAt 9 (now (s .entry)) at) (bytesAt 8 (now (flags .entry)) from) count) ⌝ }
 {
-    if 8 < count {
+    if width < count as usize {
         return false;
     }
     if !flags_right(flags, from) {
@@ -104,19 +115,19 @@ fn layout_right(s: &[u8], at: usize, flags: &[u8], from: usize, count: u8) -> bo
     s[at + count as usize] == s[at + 8]
 }
 
-// Whether the b-th record of a run passes the structure check by itself.
-pub fn record_right(records: &[u8], b: usize) -> bool
-    requires { ⌜ 82 * b + 82 ≤ length (now records) ⌝ }
-    ensures { λ r. ⌜ r ≡ recordRight 8 (recordAt (now (records .entry)) b) ⌝ }
+// Whether the b-th record of a run passes the structure check by itself, where a batch has at most `width` groups.
+pub fn record_right(width: usize, records: &[u8], b: usize) -> bool
+    requires { ⌜ (width ≤ 8) × (recordSize * b + recordSize ≤ length (now records)) ⌝ }
+    ensures { λ r. ⌜ r ≡ recordRight width (recordAt (now (records .entry)) b) ⌝ }
 {
     let at = RECORD * b;
-    layout_right(records, at, records, at + 9, records[at + 81])
+    layout_right(width, records, at, records, at + FLAGS, records[at + COUNT])
 }
 
 // ---- what the b-th record of a run says
 
 pub fn start(records: &[u8], b: usize, g: usize) -> usize
-    requires { ⌜ (82 * b + 82 ≤ length (now records)) × (g < 9) ⌝ }
+    requires { ⌜ (recordSize * b + recordSize ≤ length (now records)) × (g < 9) ⌝ }
     ensures { λ r. ⌜ (r ≡ getD (recordAt (now (records .entry)) b .starts) g 0) × (r < 256) ⌝ }
 {
     let at = RECORD * b + g;
@@ -124,33 +135,180 @@ pub fn start(records: &[u8], b: usize, g: usize) -> usize
 }
 
 pub fn flag(records: &[u8], b: usize, g: usize) -> u8
-    requires { ⌜ (82 * b + 82 ≤ length (now records)) × (g < 8) ⌝ }
+    requires { ⌜ (recordSize * b + recordSize ≤ length (now records)) × (g < 8) ⌝ }
     ensures { λ r. ⌜ r ≡ getD (recordAt (now (records .entry)) b .flags) g 0 ⌝ }
 {
-    records[RECORD * b + 9 + g]
+    records[RECORD * b + FLAGS + g]
 }
 
 // All eight as the bytes of one number, the first lowest: 0 where no flag is set.
 pub fn flags(records: &[u8], b: usize) -> u64
-    requires { ⌜ 82 * b + 82 ≤ length (now records) ⌝ }
+    requires { ⌜ recordSize * b + recordSize ≤ length (now records) ⌝ }
     ensures { λ r. ⌜ r ≡ number 256 (recordAt (now (records .entry)) b .flags) ⌝ }
 {
-    word::le8(records, RECORD * b + 9)
+    word::le8(records, RECORD * b + FLAGS)
 }
 
 pub fn number(records: &[u8], b: usize, g: usize) -> u64
-    requires { ⌜ (82 * b + 82 ≤ length (now records)) × (g < 8) ⌝ }
+    requires { ⌜ (recordSize * b + recordSize ≤ length (now records)) × (g < 8) ⌝ }
     ensures { λ r. ⌜ r ≡ getD (recordAt (now (records .entry)) b .numbers) g 0 ⌝ }
 {
-    word::le8(records, RECORD * b + 17 + 8 * g)
+    word::le8(records, RECORD * b + NUMBERS + 8 * g)
 }
 
 pub fn count(records: &[u8], b: usize) -> usize
-    requires { ⌜ 82 * b + 82 ≤ length (now records) ⌝ }
+    requires { ⌜ recordSize * b + recordSize ≤ length (now records) ⌝ }
     ensures { λ r. ⌜ (r ≡ recordAt (now (records .entry)) b .count) × (r < 256) ⌝ }
 {
-    let at = RECORD * b + 81;
+    let at = RECORD * b + COUNT;
     records[at] as usize
+}
+
+// ---- stores to the b-th record of a run; what the run has no room for falls away
+
+// All starts from the g-th on. The first is 0 in every record that is written, so that it is never stored.
+pub fn set_starts(records: &mut [u8], b: usize, g: usize, v: u8)
+    requires { ⌜ (b < 2 ^ 20) × (1 ≤ g) × (g ≤ 9) ⌝ }
+    ensures { λ _. ⌜ now (records .exit) ≡ startsSet b g v (now (records .entry)) ⌝ }
+{
+    word::fill_few(records, RECORD * b + g, 9 - g, v);
+}
+
+pub fn set_flag(records: &mut [u8], b: usize, g: usize, v: u8)
+    requires { ⌜ (b < 2 ^ 20) × (g < 8) ⌝ }
+    ensures { λ _. ⌜ now (records .exit) ≡ flagSet b g v (now (records .entry)) ⌝ }
+{
+    word::store8(records, RECORD * b + FLAGS + g, v);
+}
+
+pub fn set_number(records: &mut [u8], b: usize, g: usize, v: u64)
+    requires { ⌜ (b < 2 ^ 20) × (g < 8) ⌝ }
+    ensures { λ _. ⌜ now (records .exit) ≡ numberSet b g v (now (records .entry)) ⌝ }
+{
+    word::store_le8(records, RECORD * b + NUMBERS + 8 * g, v);
+}
+
+// The same where the run has that record.
+pub fn put_number(records: &mut [u8], b: usize, g: usize, v: u64)
+    requires { ⌜ (recordSize * b + recordSize ≤ length (now records)) × (g < 8) ⌝ }
+    ensures { λ _. ⌜ now (records .exit) ≡ numberSet b g v (now (records .entry)) ⌝ }
+{
+    word::put8(records, RECORD * b + NUMBERS + 8 * g, v);
+}
+
+pub fn set_count(records: &mut [u8], b: usize, v: u8)
+    requires { ⌜ b < 2 ^ 20 ⌝ }
+    ensures { λ _. ⌜ now (records .exit) ≡ countSet b v (now (records .entry)) ⌝ }
+{
+    word::store8(records, RECORD * b + COUNT, v);
+}
+
+// ---- a record's packed forms: eight sizes in four bits each and eight flags in one bit each, the first lowest
+
+// The nine starts that v's eight nibbles say, stored from `at` on.
+fn unpack_indptr_deltas(v: u64, out: &mut [u8], at: usize)
+    requires { ⌜ at + 9 ≤ length (now out) ⌝ }
+    ensures { λ _. ⌜ now (out .exit) ≡ sets (now (out .entry)) at (startsFrom 0 (digits 16 8 v)) ⌝ }
+{
+    let mut left = v;
+    let mut sum: u8 = 0;
+    let mut i: usize = 0;
+    while i < 8 {
+        out[at + i] = sum;
+        sum = sum + (left % 16) as u8;
+        left = left / 16;
+        i += 1;
+    }
+    out[at + 8] = sum;
+}
+
+// The eight flags that v's bits say, stored from `at` on.
+fn unpack_padding(v: u8, out: &mut [u8], at: usize)
+    requires { ⌜ at + 8 ≤ length (now out) ⌝ }
+    ensures { λ _. ⌜ now (out .exit) ≡ sets (now (out .entry)) at (digits 2 8 v) ⌝ }
+{
+    let mut left = v;
+    let mut i: usize = 0;
+    while i < 8 {
+        out[at + i] = left % 2;
+        left = left / 2;
+        i += 1;
+    }
+}
+
+// Eight numbers as 64 bytes, from `at` on.
+fn put_groups(groups: &[u64; 8], out: &mut [u8], at: usize)
+    requires { ⌜ (at + 64 ≤ length (now out)) × (length (now groups) ≡ 8) ⌝ }
+    ensures { λ _. ⌜ now (out .exit) ≡ sets (now (out .entry)) at (wordBytes (now (groups .entry))) ⌝ }
+{
+    let mut i: usize = 0;
+    while i < 8 {
+        word::put8(out, at + 8 * i, groups[i]);
+        i += 1;
+    }
+}
+
+// The b-th record of a run, by its packed sizes and flags, its numbers and its count.
+pub fn store_packed(
+    deltas: u64,
+    flags: u8,
+    groups: &[u64; 8],
+    count: u8,
+    records: &mut [u8],
+    b: usize,
+)
+    requires { ⌜ (recordSize * b + recordSize ≤ length (now records)) × (length (now groups) ≡ 8) ⌝ }
+    ensures { λ _. ⌜ now (records .exit) ≡ recordSet b (packed deltas flags (now (groups .entry)) count) (now (records .entry)) ⌝ }
+{
+    let at = RECORD * b;
+    unpack_indptr_deltas(deltas, records, at);
+    unpack_padding(flags, records, at + FLAGS);
+    put_groups(groups, records, at + NUMBERS);
+    records[at + COUNT] = count;
+}
+
+// The nibbles of the b-th record's starts.
+pub fn pack_indptr_deltas(records: &[u8], b: usize) -> u64
+    requires { ⌜ (recordSize * b + recordSize ≤ length (now records)) × (startsRight (recordAt (now records) b .starts) ≡ true) ⌝ }
+    ensures { λ r. ⌜ r ≡ number 16 (differences (recordAt (now (records .entry)) b .starts)) ⌝ }
+{
+    let at = RECORD * b;
+    let mut v: u64 = 0;
+    let mut i: usize = 8;
+    while 0 < i {
+        i = i - 1;
+        v = v * 16 + word::wide(records[at + i + 1] - records[at + i]);
+    }
+    v
+}
+
+// The bits of the b-th record's flags.
+pub fn pack_padding(records: &[u8], b: usize) -> u8
+    requires { ⌜ (recordSize * b + recordSize ≤ length (now records)) × (every (λ (f : ℕ). leb f 1) (recordAt (now records) b .flags) ≡ true) ⌝ }
+    ensures { λ r. ⌜ r ≡ number 2 (recordAt (now (records .entry)) b .flags) ⌝ }
+{
+    let at = RECORD * b + FLAGS;
+    let mut v: u8 = 0;
+    let mut i: usize = 8;
+    while 0 < i {
+        i = i - 1;
+        v = v * 2 + records[at + i];
+    }
+    v
+}
+
+// The number of a group: the sum of opcode times 128^position.
+pub fn group_number(codes: &[u8]) -> u64
+    requires { ⌜ (length (now codes) ≤ 9) × ((i : ℕ) → i < length (now codes) → getD (now codes) i 0 < 128) ⌝ }
+    ensures { λ r. ⌜ r ≡ number 128 (now (codes .entry)) ⌝ }
+{
+    let mut v: u64 = 0;
+    let mut i = codes.len();
+    while 0 < i {
+        i = i - 1;
+        v = v * 128 + word::wide(codes[i]);
+    }
+    v
 }
 
 // ---- a record by value
@@ -196,14 +354,14 @@ fn load_words(s: &[u8], at: usize) -> [u64; 8]
 
 // The b-th record of a run.
 pub fn load(records: &[u8], b: usize) -> OpBatch
-    requires { ⌜ 82 * b + 82 ≤ length (now records) ⌝ }
+    requires { ⌜ recordSize * b + recordSize ≤ length (now records) ⌝ }
     ensures { λ r. ⌜ recordIn r ≡ recordAt (now (records .entry)) b ⌝ }
 {
     let at = RECORD * b;
     let starts = load9(records, at);
-    let flags = load8(records, at + 9);
-    let groups = load_words(records, at + 17);
-    let count = records[at + 81];
+    let flags = load8(records, at + FLAGS);
+    let groups = load_words(records, at + NUMBERS);
+    let count = records[at + COUNT];
     OpBatch {
         starts,
         flags,
@@ -248,19 +406,20 @@ fn next_from(starts: &[u8], count: usize, k: usize) -> NextGroup
 }
 
 impl OpBatch {
-    fn right(self) -> bool
-        ensures { λ r. ⌜ r ≡ recordRight 8 (recordIn self) ⌝ }
+    fn right(self, width: usize) -> bool
+        requires { ⌜ width ≤ 8 ⌝ }
+        ensures { λ r. ⌜ r ≡ recordRight width (recordIn self) ⌝ }
     {
         let starts = self.starts;
         let flags = self.flags;
-        layout_right(&starts, 0, &flags, 0, self.count)
+        layout_right(width, &starts, 0, &flags, 0, self.count)
     }
 
     // The group of an operation number in the batch, and its place there.
     pub fn op_idx_in_batch_to_group(self, index: usize) -> Lookup
         ensures { λ r. ⌜ r ≡ lookupOf (groupLookup 8 (recordIn self) index) ⌝ }
     {
-        if !self.right() {
+        if !self.right(WIDTH) {
             return Lookup::Refused {
                 number: 15,
                 place: 0,
@@ -274,7 +433,7 @@ impl OpBatch {
     pub fn next_op_group_index(self, group: usize) -> NextGroup
         ensures { λ r. ⌜ r ≡ nextOf (nextLookup 8 (recordIn self) group) ⌝ }
     {
-        if !self.right() {
+        if !self.right(WIDTH) {
             return NextGroup::Refused {
                 number: 15,
                 place: 0,

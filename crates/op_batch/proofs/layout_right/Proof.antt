@@ -72,7 +72,7 @@ shared-slice-read-result-2 c = search needs
 returns-5 : tie.Need-returns-5
 returns-5 c =
     let a = c .before .before .before .before .before .before .before .before .before .before .before .args in
-    sym (last-test (a .s .now) (a .at) (bytesAt 8 (a .flags .now) (a .from)) (a .count) (omega arith) (sym (c .before .before .before .before .before .before .before .flags-right .ensures) ∙ not-false _ (c .before .before .before .before .before .before .if2 .left)) (c .before .before .before .before .if3 .left) (sym (c .before .before .before .starts-right .ensures) ∙ not-false _ (c .before .before .if4 .left)))
+    sym (last-test (a .width) (a .s .now) (a .at) (bytesAt 8 (a .flags .now) (a .from)) (a .count) (omega arith) (omega arith) (sym (c .before .before .before .before .before .before .before .flags-right .ensures) ∙ not-false _ (c .before .before .before .before .before .before .if2 .left)) (c .before .before .before .before .if3 .left) (sym (c .before .before .before .starts-right .ensures) ∙ not-false _ (c .before .before .if4 .left)))
 
 pub layout-right-spec : {M : Type 1} → statement M
 layout-right-spec =

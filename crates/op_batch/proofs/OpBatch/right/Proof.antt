@@ -32,7 +32,7 @@ returns c =
     let b = c .before .before .before .before .before .args .self in
     let s : length (b .starts) ≡ 9 = search needs in
     let f : length (b .flags) ≡ 8 = search needs in
-    c .layout-right .ensures ∙ ap₂ (λ (x y : List ℕ). recordRight 8 (layout x y (b .count))) (bytes-all (b .starts) 9 s) (bytes-all (b .flags) 8 f)
+    c .layout-right .ensures ∙ ap₂ (λ (x y : List ℕ). recordRight (c .before .before .before .before .before .args .width) (layout x y (b .count))) (bytes-all (b .starts) 9 s) (bytes-all (b .flags) 8 f)
 
 pub right-spec : {M : Type 1} → statement M
 right-spec =

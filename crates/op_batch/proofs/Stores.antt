@@ -1,0 +1,110 @@
+-- The run of records as a memory: what a load gives after a store to a record, after a store to another, and what a store leaves alone; and what stores to a
+-- record's parts do to a run that is still being filled. Assumes nothing.
+use mathlib.Core.Path.{_≡_, refl, sym, ap, _∙_}
+use mathlib.Core.List.{List, [], _∷_, _++_, append-assoc}
+use Prim.Native.Nat.{ℕ, zero, suc, _+_, _-_, _*_, _≤_, _<_}
+use native.Mathlib.Nat.{not-suc-le-zero, le-of-suc-le-suc}
+use native.Mathlib.Omega.{arith}
+use lib.ListN.{length, set, replicate, length-append, length-replicate}
+use lib.Seq.{sets}
+use Rattle.rules.specs.Lists.{fitted}
+use Rattle.rules.specs.Digits.{digits, leBytes}
+use Rattle.rules.specs.Record.{Record, startsFrom, recordSize, wordBytes, recordBytes}
+use Rattle.rules.proofs.Digits.{length-leBytes, length-digits}
+use Rattle.rules.proofs.Runs.{sets-past, sets-front, sets-over, sets-fitted, sets-next}
+use Rattle.rules.proofs.Sizes.{length-words, length-starts}
+use Rattle.op_batch.specs.Stores.{startsSet, flagSet, numberSet, countSet, recordSet, withStarts, withFlag, withNumber, withCount, packed}
+
+-- a record of nine starts, eight flags and eight numbers
+pub record Whole (r : Record) : Type 0 where
+  pub starts : length (r .starts) ≡ 9
+  pub flags : length (r .flags) ≡ 8
+  pub numbers : length (r .numbers) ≡ 8
+
+module _ (r : Record) (w : Whole r) where
+  words : length (wordBytes (r .numbers)) ≡ 64
+  words = length-words (r .numbers) ∙ ap (λ (k : ℕ). 8 * k) (w .numbers)
+
+  pub record-length : length (recordBytes r) ≡ recordSize
+  unfolding recordBytes
+  record-length = simp length-append (omega (arith, w .starts, w .flags, words))
+
+-- ---- a run that holds some bytes p, and a record after them, as far as it goes: stores to the record's parts
+
+-- a store to one of the parts that lie one after another
+module _ (n : ℕ) (s s′ : List ℕ) (k i : ℕ) (vs : List ℕ) (e : sets s k vs ≡ s′) (h : k + length vs ≤ length s) where
+  part1 : (p q : List ℕ) → i ≡ length p + k → sets (fitted n (p ++ (s ++ q))) i vs ≡ fitted n (p ++ (s′ ++ q))
+  part1 p q j =
+      let a = length-append p (s ++ q) in
+      let b = length-append s q in
+      rw j (sets-fitted n (p ++ (s ++ q)) (length p + k) vs (omega arith) ∙ ap (fitted n) (sets-past p (s ++ q) k vs ∙ rw (sets-front s q k vs h, e)))
+
+  part2 : (p a q : List ℕ) → i ≡ length p + length a + k → sets (fitted n (p ++ (a ++ (s ++ q)))) i vs ≡ fitted n (p ++ (a ++ (s′ ++ q)))
+  part2 p a q j = rw (← append-assoc p a (s ++ q), ← append-assoc p a (s′ ++ q)) (part1 (p ++ a) q (omega (arith, length-append p a)))
+
+  part3 : (p a b q : List ℕ) → i ≡ length p + length a + length b + k → sets (fitted n (p ++ (a ++ (b ++ (s ++ q))))) i vs ≡ fitted n (p ++ (a ++ (b ++ (s′ ++ q))))
+  part3 p a b q j = rw (← append-assoc p a (b ++ (s ++ q)), ← append-assoc p a (b ++ (s′ ++ q))) (part2 (p ++ a) b q (omega (arith, length-append p a)))
+
+  part4 : (p a b c q : List ℕ) → i ≡ length p + length a + length b + length c + k
+      → sets (fitted n (p ++ (a ++ (b ++ (c ++ (s ++ q)))))) i vs ≡ fitted n (p ++ (a ++ (b ++ (c ++ (s′ ++ q)))))
+  part4 p a b c q j = rw (← append-assoc p a (b ++ (c ++ (s ++ q))), ← append-assoc p a (b ++ (c ++ (s′ ++ q)))) (part3 (p ++ a) b c q (omega (arith, length-append p a)))
+
+words-set : (ns : List ℕ) (j v : ℕ) → j < length ns → sets (wordBytes ns) (8 * j) (leBytes 8 v) ≡ wordBytes (set ns j v)
+unfolding wordBytes
+words-set [] j v h = absurd (not-suc-le-zero h)
+words-set (n ∷ ns) zero v h = sets-over (leBytes 8 n) (wordBytes ns) (leBytes 8 v) (length-leBytes 8 v ∙ sym (length-leBytes 8 n))
+words-set (n ∷ ns) (suc j) v h =
+    let e : 8 * suc j ≡ length (leBytes 8 n) + 8 * j = omega (arith, length-leBytes 8 n) in
+    ap (λ (k : ℕ). sets (leBytes 8 n ++ wordBytes ns) k (leBytes 8 v)) e
+    ∙ sets-past (leBytes 8 n) (wordBytes ns) (8 * j) (leBytes 8 v)
+    ∙ ap (λ (l : List ℕ). leBytes 8 n ++ l) (words-set ns j v (le-of-suc-le-suc h))
+
+module _ (n : ℕ) (p : List ℕ) (b : ℕ) (at : length p ≡ recordSize * b) (r : Record) (w : Whole r) where
+  pub starts-set : (g v : ℕ) → g ≤ 9 → startsSet b g v (fitted n (p ++ recordBytes r)) ≡ fitted n (p ++ recordBytes (withStarts g v r))
+  unfolding startsSet recordBytes
+  starts-set g v h =
+      let l = length-replicate {A = ℕ} (9 - g) v in
+      let s = w .starts in
+      part1 n (r .starts) (sets (r .starts) g (replicate (9 - g) v)) g (recordSize * b + g) (replicate (9 - g) v) refl (omega arith) p (r .flags ++ (wordBytes (r .numbers) ++ (r .count ∷ []))) (omega arith)
+
+  pub flag-set : (g v : ℕ) → g < 8 → flagSet b g v (fitted n (p ++ recordBytes r)) ≡ fitted n (p ++ recordBytes (withFlag g v r))
+  unfolding flagSet recordBytes
+  flag-set g v h =
+      let s = w .starts in
+      let f = w .flags in
+      part2 n (r .flags) (set (r .flags) g v) g (recordSize * b + 9 + g) (v ∷ []) refl (omega arith) p (r .starts) (wordBytes (r .numbers) ++ (r .count ∷ [])) (omega arith)
+
+  pub number-set : (g v : ℕ) → g < 8 → numberSet b g v (fitted n (p ++ recordBytes r)) ≡ fitted n (p ++ recordBytes (withNumber g v r))
+  unfolding numberSet recordBytes
+  number-set g v h =
+      let s = w .starts in
+      let f = w .flags in
+      let k = w .numbers in
+      let l = length-leBytes 8 v in
+      part3 n (wordBytes (r .numbers)) (wordBytes (set (r .numbers) g v)) (8 * g) (recordSize * b + 17 + 8 * g) (leBytes 8 v) (words-set (r .numbers) g v (omega arith)) (omega (arith, words r w)) p (r .starts) (r .flags) (r .count ∷ []) (omega arith)
+
+  pub count-set : (v : ℕ) → countSet b v (fitted n (p ++ recordBytes r)) ≡ fitted n (p ++ recordBytes (withCount v r))
+  unfolding countSet recordBytes
+  count-set v =
+      let s = w .starts in
+      let f = w .flags in
+      part4 n (r .count ∷ []) (v ∷ []) 0 (recordSize * b + 81) (v ∷ []) refl (omega arith) p (r .starts) (r .flags) (wordBytes (r .numbers)) [] (omega (arith, words r w))
+
+-- ---- a record by its packed forms
+
+module _ (v f : ℕ) (ns : List ℕ) (c : ℕ) (n : length ns ≡ 8) where
+  pub packed-whole : Whole (packed v f ns c)
+  unfolding packed
+  packed-whole = record { starts = length-starts 0 (digits 16 8 v) ∙ ap suc (length-digits 16 8 v); flags = length-digits 2 8 f; numbers = n }
+
+  -- its four parts, stored one after the other
+  pub packed-stored : (l : List ℕ) (b : ℕ)
+      → set (sets (sets (sets l (recordSize * b) (startsFrom 0 (digits 16 8 v))) (recordSize * b + 9) (digits 2 8 f)) (recordSize * b + 17) (wordBytes ns)) (recordSize * b + 81) c ≡ recordSet b (packed v f ns c) l
+  unfolding recordSet recordBytes packed
+  packed-stored l b =
+      let at = recordSize * b in
+      let starts : length (startsFrom 0 (digits 16 8 v)) ≡ 9 = length-starts 0 (digits 16 8 v) ∙ ap suc (length-digits 16 8 v) in
+      let words : length (wordBytes ns) ≡ 64 = length-words ns ∙ omega arith in
+      sets-next (sets (sets l at (startsFrom 0 (digits 16 8 v))) (at + 9) (digits 2 8 f)) (at + 17) (wordBytes ns) (at + 81) (c ∷ []) (omega (arith, words))
+      ∙ sets-next (sets l at (startsFrom 0 (digits 16 8 v))) (at + 9) (digits 2 8 f) (at + 17) (wordBytes ns ++ (c ∷ [])) (omega (arith, length-digits 2 8 f))
+      ∙ sets-next l at (startsFrom 0 (digits 16 8 v)) (at + 9) (digits 2 8 f ++ (wordBytes ns ++ (c ∷ []))) (omega (arith, starts))
