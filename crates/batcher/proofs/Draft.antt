@@ -1,33 +1,24 @@
--- The record of a batch in the making, byte by byte in its lent run: what a closed group, a placed immediate and the count change. Assumes nothing.
+-- The record of a batch in the making: what a closed group, a placed immediate and the count change in it, and in the lent run that holds it. Assumes nothing.
 use mathlib.Core.Path.{_≡_, refl, sym, ap, ap₂, _∙_}
 use mathlib.Core.Bool.{Bool, false}
-use mathlib.Core.List.{List, [], _∷_, _++_, map, append-assoc}
-use Prim.Native.Nat.{ℕ, zero, suc, _+_, _-_, _*_, _≤_, _<_}
-use native.Mathlib.Nat.{add-zero, not-suc-le-zero, le-of-suc-le-suc}
+use mathlib.Core.List.{List, [], _∷_, _++_, map}
+use Prim.Native.Nat.{ℕ, zero, suc, _+_, _-_, _*_, _<_}
+use native.Mathlib.Nat.{add-zero, not-suc-le-zero}
+use native.Mathlib.Numerals.{add-one}
 use native.Mathlib.Omega.{arith}
-use lib.ListN.{length, set, replicate, length-append, length-map, length-replicate}
-use lib.Seq.{sets}
+use lib.ListN.{length, set, replicate, length-append, length-map, length-replicate, length-set}
+use lib.Seq.{sets, length-sets}
 use Rattle.rules.specs.Lists.{fitted, total}
-use Rattle.rules.specs.Digits.{digits, number, leBytes}
+use Rattle.rules.specs.Digits.{digits, number}
 use Rattle.rules.specs.Operations.{Op, codes}
 use Rattle.rules.specs.Batching.{Group, ops, imm}
-use Rattle.rules.specs.Record.{startsFrom, recordBy, opsIn, sizeOf, flagOf, codesNumber, numberOf, recordOf, opsOf, wordBytes, recordBytes}
-use Rattle.batcher.specs.Going.{startsOf, flagsOf, wordsOf, bytesWith}
-use Rattle.rules.proofs.Digits.{length-leBytes}
-use Rattle.rules.proofs.Runs.{fitted-length, fitted-zeros, sets-past, sets-front, sets-over, sets-fitted, sets-all}
-use Rattle.rules.proofs.Sizes.{length-words, length-starts}
-
--- ---- numbers of eight bytes
-
-words-set : (ns : List ℕ) (j v : ℕ) → j < length ns → sets (wordBytes ns) (8 * j) (leBytes 8 v) ≡ wordBytes (set ns j v)
-unfolding wordBytes
-words-set [] j v h = absurd (not-suc-le-zero h)
-words-set (n ∷ ns) zero v h = sets-over (leBytes 8 n) (wordBytes ns) (leBytes 8 v) (length-leBytes 8 v ∙ sym (length-leBytes 8 n))
-words-set (n ∷ ns) (suc j) v h =
-    let e : 8 * suc j ≡ length (leBytes 8 n) + 8 * j = omega (arith, length-leBytes 8 n) in
-    ap (λ (k : ℕ). sets (leBytes 8 n ++ wordBytes ns) k (leBytes 8 v)) e
-    ∙ sets-past (leBytes 8 n) (wordBytes ns) (8 * j) (leBytes 8 v)
-    ∙ ap (λ (l : List ℕ). leBytes 8 n ++ l) (words-set ns j v (le-of-suc-le-suc h))
+use Rattle.rules.specs.Record.{Record, startsFrom, recordBy, opsIn, sizeOf, flagOf, codesNumber, numberOf, recordOf, opsOf, recordSize, wordBytes, recordBytes}
+use Rattle.rules.proofs.Runs.{fitted-length, fitted-zeros, sets-all}
+use Rattle.rules.proofs.Sizes.{length-starts}
+use Rattle.op_batch.specs.Stores.{startsSet, flagSet, numberSet, countSet, withStarts, withFlag, withNumber}
+use Rattle.op_batch.proofs.Stores.{Whole, record-length, starts-set, flag-set, number-set, count-set}
+use Rattle.batcher.specs.Good.{recordGroups}
+use Rattle.batcher.specs.Going.{recordWith}
 
 -- ---- a view of each group, cut or filled up: one group replaced, one more, one more whose view is 0
 
@@ -97,131 +88,107 @@ sizes-imm zero xs g vs = refl
 sizes-imm (suc n) [] g vs = ap (λ (l : List ℕ). sizeOf g ∷ l) (sizes-none n vs)
 sizes-imm (suc n) (x ∷ xs) g vs = ap (λ (l : List ℕ). sizeOf x ∷ l) (sizes-imm n xs g vs)
 
-starts-close : (xs : List Group) (ys : List Op) (p : Bool) (vs : List ℕ) (tot : ℕ) → length xs < 8 → tot ≡ length (opsOf xs) + length ys
-    → sets (startsFrom 0 (fitted 8 (map sizeOf (xs ++ ops [] false ∷ map imm vs)))) (suc (length xs)) (replicate (8 - length xs) tot)
+starts-close : (xs : List Group) (ys : List Op) (p : Bool) (vs : List ℕ) (tot : ℕ) → length xs < recordGroups → tot ≡ length (opsOf xs) + length ys
+    → sets (startsFrom 0 (fitted 8 (map sizeOf (xs ++ ops [] false ∷ map imm vs)))) (length xs + 1) (replicate (9 - (length xs + 1)) tot)
     ≡ startsFrom 0 (fitted 8 (map sizeOf (xs ++ ops ys p ∷ map imm vs)))
 unfolding sizeOf opsIn
 starts-close xs ys p vs tot h e =
     let l : length (map sizeOf xs) ≡ length xs = length-map xs sizeOf in
-    rw (sizes-imm 8 xs (ops [] false) vs, sizes-imm 8 xs (ops ys p) vs, fitted-zeros 8 (map sizeOf xs) 1, ← l)
-    (starts-more 8 0 (map sizeOf xs) (length ys) (8 - length (map sizeOf xs)) tot (omega arith) (omega arith) (omega (arith, sizes-total xs)))
-
--- ---- a store to one of the parts that lie one after another in a lent run
-
-module _ (n : ℕ) (s s′ : List ℕ) (k i : ℕ) (vs : List ℕ) (e : sets s k vs ≡ s′) (h : k + length vs ≤ length s) where
-  part1 : (p q : List ℕ) → i ≡ length p + k → sets (fitted n (p ++ (s ++ q))) i vs ≡ fitted n (p ++ (s′ ++ q))
-  part1 p q j =
-      let a = length-append p (s ++ q) in
-      let b = length-append s q in
-      rw j (sets-fitted n (p ++ (s ++ q)) (length p + k) vs (omega arith) ∙ ap (fitted n) (sets-past p (s ++ q) k vs ∙ rw (sets-front s q k vs h, e)))
-
-  part2 : (p a q : List ℕ) → i ≡ length p + length a + k → sets (fitted n (p ++ (a ++ (s ++ q)))) i vs ≡ fitted n (p ++ (a ++ (s′ ++ q)))
-  part2 p a q j = rw (← append-assoc p a (s ++ q), ← append-assoc p a (s′ ++ q)) (part1 (p ++ a) q (omega (arith, length-append p a)))
-
-  part3 : (p a b q : List ℕ) → i ≡ length p + length a + length b + k → sets (fitted n (p ++ (a ++ (b ++ (s ++ q))))) i vs ≡ fitted n (p ++ (a ++ (b ++ (s′ ++ q))))
-  part3 p a b q j = rw (← append-assoc p a (b ++ (s ++ q)), ← append-assoc p a (b ++ (s′ ++ q))) (part2 (p ++ a) b q (omega (arith, length-append p a)))
-
-  part4 : (p a b c q : List ℕ) → i ≡ length p + length a + length b + length c + k
-      → sets (fitted n (p ++ (a ++ (b ++ (c ++ (s ++ q)))))) i vs ≡ fitted n (p ++ (a ++ (b ++ (c ++ (s′ ++ q)))))
-  part4 p a b c q j = rw (← append-assoc p a (b ++ (c ++ (s ++ q))), ← append-assoc p a (b ++ (c ++ (s′ ++ q)))) (part3 (p ++ a) b c q (omega (arith, length-append p a)))
+    rw (sizes-imm 8 xs (ops [] false) vs, sizes-imm 8 xs (ops ys p) vs, fitted-zeros 8 (map sizeOf xs) 1, ← l, add-one (length (map sizeOf xs)))
+    (starts-more 8 0 (map sizeOf xs) (length ys) (9 - suc (length (map sizeOf xs))) tot (omega arith) (omega arith) (omega (arith, sizes-total xs)))
 
 -- ---- the record of the groups so far
 
-record Lengths (gs : List Group) : Type 0 where
-  starts : length (startsOf gs) ≡ 9
-  flags : length (flagsOf gs) ≡ 8
-  words : length (wordsOf gs) ≡ 64
-
-lengths : (gs : List Group) → Lengths gs
-lengths gs =
+whole : (c : ℕ) (gs : List Group) → Whole (recordWith c gs)
+unfolding recordWith
+whole c gs =
     record {
       starts = length-starts 0 (fitted 8 (map sizeOf gs)) ∙ ap suc (fitted-length 8 (map sizeOf gs));
       flags = fitted-length 8 (map flagOf gs);
-      words = length-words (fitted 8 (map numberOf gs)) ∙ ap (λ (k : ℕ). 8 * k) (fitted-length 8 (map numberOf gs));
+      numbers = fitted-length 8 (map numberOf gs);
     }
 
-abbrev pub closeAt : ℕ → ℕ → ℕ → ℕ → ℕ → List ℕ → List ℕ
-closeAt at cur tot pad num xs = sets (set (sets xs (at + cur + 1) (replicate (8 - cur) tot)) (at + 9 + cur) pad) (at + 17 + 8 * cur) (leBytes 8 num)
+-- a group closed: later starts, its flag, its number
+abbrev closeAt : ℕ → ℕ → ℕ → ℕ → Record → Record
+closeAt cur tot pad num r = withNumber cur num (withFlag cur pad (withStarts (cur + 1) tot r))
 
--- the number of the j-th group replaced
-words-replace : (gs hs : List Group) (j v : ℕ) → j < 8 → set (fitted 8 (map numberOf gs)) j v ≡ fitted 8 (map numberOf hs) → sets (wordsOf gs) (8 * j) (leBytes 8 v) ≡ wordsOf hs
-words-replace gs hs j v h e = words-set (fitted 8 (map numberOf gs)) j v (rw (fitted-length 8 (map numberOf gs)) h) ∙ ap wordBytes e
+record-close : (c : ℕ) (xs : List Group) (ys : List Op) (f : Bool) (vs : List ℕ) (tot : ℕ) → length xs < recordGroups → tot ≡ length (opsOf xs) + length ys
+    → closeAt (length xs) tot (flagOf (ops ys f)) (codesNumber ys) (recordWith c (xs ++ ops [] false ∷ map imm vs)) ≡ recordWith c (xs ++ ops ys f ∷ map imm vs)
+unfolding recordWith numberOf
+record-close c xs ys f vs tot h e =
+    let s = starts-close xs ys f vs tot h e in
+    let m = fit-replace flagOf 8 xs (ops [] false) (ops ys f) (map imm vs) in
+    let k = fit-replace numberOf 8 xs (ops [] false) (ops ys f) (map imm vs) in
+    λ j. record { starts = s j; flags = m j; numbers = k j; count = c }
 
--- the group that was open is closed
-pub bytes-close : (n : ℕ) (p : List ℕ) (c : ℕ) (xs : List Group) (ys : List Op) (f : Bool) (vs : List ℕ) (tot : ℕ) → length xs < 8 → tot ≡ length (opsOf xs) + length ys
-    → closeAt (length p) (length xs) tot (flagOf (ops ys f)) (codesNumber ys) (fitted n (p ++ bytesWith c (xs ++ ops [] false ∷ map imm vs)))
-    ≡ fitted n (p ++ bytesWith c (xs ++ ops ys f ∷ map imm vs))
-unfolding bytesWith numberOf
-bytes-close n p c xs ys f vs tot h e =
-    let gs = xs ++ ops [] false ∷ map imm vs in
-    let hs = xs ++ ops ys f ∷ map imm vs in
-    let k = length xs in
-    let lg = lengths gs in
-    let lh = lengths hs in
-    let r = length-replicate {A = ℕ} (8 - k) tot in
-    let b = length-leBytes 8 (codesNumber ys) in
-    rw (
-      part1 n (startsOf gs) (startsOf hs) (suc k) (length p + k + 1) (replicate (8 - k) tot) (starts-close xs ys f vs tot h e) (omega arith) p (flagsOf gs ++ (wordsOf gs ++ (c ∷ []))) (omega arith),
-      part2 n (flagsOf gs) (flagsOf hs) k (length p + 9 + k) (flagOf (ops ys f) ∷ []) (fit-replace flagOf 8 xs (ops [] false) (ops ys f) (map imm vs)) (omega arith) p (startsOf hs) (wordsOf gs ++ (c ∷ [])) (omega arith),
-    )
-    (part3 n (wordsOf gs) (wordsOf hs) (8 * k) (length p + 17 + 8 * k) (leBytes 8 (codesNumber ys)) (words-replace gs hs k (codesNumber ys) h (fit-replace numberOf 8 xs (ops [] false) (ops ys f) (map imm vs))) (omega arith) p (startsOf hs) (flagsOf hs) (c ∷ []) (omega arith))
+-- one more group of which only the number is seen
+record-more : (c : ℕ) (gs : List Group) (g : Group) → opsIn g ≡ [] → flagOf g ≡ 0 → withNumber (length gs) (numberOf g) (recordWith c gs) ≡ recordWith c (gs ++ (g ∷ []))
+unfolding recordWith sizeOf
+record-more c gs g o f =
+    let s = ap (startsFrom 0) (sym (fit-none sizeOf 8 gs g (ap length o))) in
+    let m = sym (fit-none flagOf 8 gs g f) in
+    let k = fit-more numberOf 8 gs g in
+    λ j. record { starts = s j; flags = m j; numbers = k j; count = c }
 
--- one more group without operations and without a flag is not seen in the starts and the flags
-starts-more-none : (gs : List Group) (g : Group) → opsIn g ≡ [] → startsOf (gs ++ (g ∷ [])) ≡ startsOf gs
-unfolding sizeOf
-starts-more-none gs g e = ap (startsFrom 0) (fit-none sizeOf 8 gs g (ap length e))
+-- a group of which nothing is seen changes nothing: one that is opened, and an immediate of value 0
+record-unseen : (c : ℕ) (gs : List Group) (g : Group) → opsIn g ≡ [] → flagOf g ≡ 0 → numberOf g ≡ 0 → recordWith c (gs ++ (g ∷ [])) ≡ recordWith c gs
+unfolding recordWith sizeOf
+record-unseen c gs g o f n = rw (fit-none sizeOf 8 gs g (ap length o), fit-none flagOf 8 gs g f, fit-none numberOf 8 gs g n)
 
-flags-none : (gs : List Group) (g : Group) → flagOf g ≡ 0 → flagsOf (gs ++ (g ∷ [])) ≡ flagsOf gs
-flags-none gs g e = fit-none flagOf 8 gs g e
-
--- an immediate is placed
-pub bytes-imm : (n : ℕ) (p : List ℕ) (c : ℕ) (gs : List Group) (v : ℕ) → length gs < 8
-    → sets (fitted n (p ++ bytesWith c gs)) (length p + 17 + 8 * length gs) (leBytes 8 v) ≡ fitted n (p ++ bytesWith c (gs ++ (imm v ∷ [])))
-unfolding bytesWith opsIn flagOf numberOf
-bytes-imm n p c gs v h =
-    let hs = gs ++ (imm v ∷ []) in
-    let l = lengths gs in
-    let b = length-leBytes 8 v in
-    part3 n (wordsOf gs) (wordsOf hs) (8 * length gs) (length p + 17 + 8 * length gs) (leBytes 8 v) (words-replace gs hs (length gs) v h (fit-more numberOf 8 gs (imm v))) (omega arith) p (startsOf gs) (flagsOf gs) (c ∷ []) (omega arith)
-    ∙ rw (starts-more-none gs (imm v) refl, flags-none gs (imm v) refl)
-
--- a group of which nothing is seen changes no byte: one that is opened, and an immediate of value 0
-pub bytes-unseen : (c : ℕ) (gs : List Group) (g : Group) → opsIn g ≡ [] → flagOf g ≡ 0 → numberOf g ≡ 0 → bytesWith c (gs ++ (g ∷ [])) ≡ bytesWith c gs
-unfolding bytesWith
-bytes-unseen c gs g o f n = rw (starts-more-none gs g o, flags-none gs g f, ap wordBytes (fit-none numberOf 8 gs g n))
-
-pub bytes-open : (c : ℕ) (gs : List Group) → bytesWith c (gs ++ (ops [] false ∷ [])) ≡ bytesWith c gs
+pub record-open : (c : ℕ) (gs : List Group) → recordWith c (gs ++ (ops [] false ∷ [])) ≡ recordWith c gs
 unfolding opsIn flagOf numberOf codesNumber codes number
-bytes-open c gs = bytes-unseen c gs (ops [] false) refl refl refl
+record-open c gs = record-unseen c gs (ops [] false) refl refl refl
 
-pub bytes-zero : (n : ℕ) (p : List ℕ) (c : ℕ) (gs : List Group) → length gs < 8 → sets (fitted n (p ++ bytesWith c gs)) (length p + 17 + 8 * length gs) (leBytes 8 0) ≡ fitted n (p ++ bytesWith c gs)
-unfolding opsIn flagOf numberOf
-bytes-zero n p c gs h = bytes-imm n p c gs 0 h ∙ ap (λ (l : List ℕ). fitted n (p ++ l)) (bytes-unseen c gs (imm 0) refl refl refl)
+-- with the count the record is the batch's
+record-done : (gs : List Group) → recordWith (length gs) gs ≡ recordOf gs
+unfolding recordWith recordOf recordBy
+record-done gs = rw (length-map gs numberOf)
 
--- the count
-pub bytes-count : (n : ℕ) (p : List ℕ) (c d : ℕ) (gs : List Group) → set (fitted n (p ++ bytesWith c gs)) (length p + 81) d ≡ fitted n (p ++ bytesWith d gs)
-unfolding bytesWith
-bytes-count n p c d gs =
-    let l = lengths gs in
-    part4 n (c ∷ []) (d ∷ []) 0 (length p + 81) (d ∷ []) refl (omega arith) p (startsOf gs) (flagsOf gs) (wordsOf gs) [] (omega arith)
+pub length-record : (gs : List Group) → length (recordBytes (recordOf gs)) ≡ recordSize
+length-record gs = ap (λ (r : Record). length (recordBytes r)) (sym (record-done gs)) ∙ record-length (recordWith (length gs) gs) (whole (length gs) gs)
 
--- and with it the record is the batch's
-pub bytes-record : (gs : List Group) → bytesWith (length gs) gs ≡ recordBytes (recordOf gs)
-unfolding bytesWith recordBytes recordOf recordBy
-bytes-record gs = rw (length-map gs numberOf)
+-- ---- and a run that holds p and that record after it, as far as it goes
 
-pub record-length : (gs : List Group) → length (recordBytes (recordOf gs)) ≡ 82
-unfolding bytesWith
-record-length gs =
-    let l = lengths gs in
-    let c = length gs ∷ [] in
-    sym (ap length (bytes-record gs))
-    ∙ omega (arith, length-append (startsOf gs) (flagsOf gs ++ (wordsOf gs ++ c)), length-append (flagsOf gs) (wordsOf gs ++ c), length-append (wordsOf gs) c)
-
--- an empty record is zeros
-zeros : bytesWith 0 (ops [] false ∷ []) ≡ replicate 82 0
-unfolding bytesWith startsFrom opsIn sizeOf flagOf numberOf codesNumber codes number wordBytes fitted digits
+zeros : recordBytes (recordWith 0 (ops [] false ∷ [])) ≡ replicate recordSize 0
+unfolding recordWith recordBytes startsFrom opsIn sizeOf flagOf numberOf codesNumber codes number wordBytes fitted digits
 zeros = refl
 
-pub bytes-empty : (n : ℕ) (p : List ℕ) → fitted n (p ++ bytesWith 0 (ops [] false ∷ [])) ≡ fitted n p
-bytes-empty n p = ap (λ (l : List ℕ). fitted n (p ++ l)) zeros ∙ fitted-zeros n p 82
+-- an empty record is zeros
+pub run-empty : (n : ℕ) (p : List ℕ) → fitted n (p ++ recordBytes (recordWith 0 (ops [] false ∷ []))) ≡ fitted n p
+run-empty n p = ap (λ (l : List ℕ). fitted n (p ++ l)) zeros ∙ fitted-zeros n p recordSize
+
+module _ (n : ℕ) (p : List ℕ) (b : ℕ) (at : length p ≡ recordSize * b) where
+  abbrev Run : Record → List ℕ
+  Run r = fitted n (p ++ recordBytes r)
+
+  closed-run : (r : Record) → Whole r → (cur tot pad num : ℕ) → cur < recordGroups → numberSet b cur num (flagSet b cur pad (startsSet b (cur + 1) tot (Run r))) ≡ Run (closeAt cur tot pad num r)
+  closed-run r w cur tot pad num h =
+      let r1 = withStarts (cur + 1) tot r in
+      let w1 : Whole r1 = record { starts = length-sets (r .starts) (cur + 1) (replicate (9 - (cur + 1)) tot) ∙ w .starts; flags = w .flags; numbers = w .numbers } in
+      let w2 : Whole (withFlag cur pad r1) = record { starts = w1 .starts; flags = length-set (r .flags) cur pad ∙ w .flags; numbers = w .numbers } in
+      ap (λ (l : List ℕ). numberSet b cur num (flagSet b cur pad l)) (starts-set n p b at r w (cur + 1) tot (omega arith))
+      ∙ ap (numberSet b cur num) (flag-set n p b at r1 w1 cur pad h)
+      ∙ number-set n p b at (withFlag cur pad r1) w2 cur num h
+
+  -- the group that was open is closed
+  pub run-shut : (c : ℕ) (xs : List Group) (ys : List Op) (f : Bool) (vs : List ℕ) (tot : ℕ) → length xs < recordGroups → tot ≡ length (opsOf xs) + length ys
+      → numberSet b (length xs) (codesNumber ys) (flagSet b (length xs) (flagOf (ops ys f)) (startsSet b (length xs + 1) tot (Run (recordWith c (xs ++ ops [] false ∷ map imm vs)))))
+      ≡ Run (recordWith c (xs ++ ops ys f ∷ map imm vs))
+  run-shut c xs ys f vs tot h e =
+      let r = recordWith c (xs ++ ops [] false ∷ map imm vs) in
+      closed-run r (whole c (xs ++ ops [] false ∷ map imm vs)) (length xs) tot (flagOf (ops ys f)) (codesNumber ys) h ∙ ap Run (record-close c xs ys f vs tot h e)
+
+  -- an immediate is placed
+  pub run-imm : (c : ℕ) (gs : List Group) (v : ℕ) → length gs < recordGroups → numberSet b (length gs) v (Run (recordWith c gs)) ≡ Run (recordWith c (gs ++ (imm v ∷ [])))
+  unfolding opsIn flagOf numberOf
+  run-imm c gs v h = number-set n p b at (recordWith c gs) (whole c gs) (length gs) v h ∙ ap Run (record-more c gs (imm v) refl refl)
+
+  -- an immediate of value 0 is there already
+  pub run-zero : (c : ℕ) (gs : List Group) → length gs < recordGroups → numberSet b (length gs) 0 (Run (recordWith c gs)) ≡ Run (recordWith c gs)
+  unfolding opsIn flagOf numberOf
+  run-zero c gs h = run-imm c gs 0 h ∙ ap Run (record-unseen c gs (imm 0) refl refl refl)
+
+  -- the count makes the record whole
+  pub run-count : (c : ℕ) (gs : List Group) → countSet b (length gs) (Run (recordWith c gs)) ≡ Run (recordOf gs)
+  unfolding recordWith
+  run-count c gs = count-set n p b at (recordWith c gs) (whole c gs) (length gs) ∙ ap Run (record-done gs)

@@ -146,9 +146,9 @@ module _ (imm b : Bool) (a : OpBatchAccumulator) (e : imm ≡ b) where
   unfolding addedAcc
   added-as c = ap (λ (k : Bool). joinedAcc c imm (cond k (slottedAcc (readyAcc imm a)) (readyAcc imm a))) e
 
-  pub run-as : (v at : ℕ) (xs : List ℕ) → addedRun imm v at a xs ≡ cond b (slottedRun v at (readyAcc imm a) (readyRun imm at a xs)) (readyRun imm at a xs)
+  pub run-as : (v nb : ℕ) (xs : List ℕ) → addedRun imm v nb a xs ≡ cond b (slottedRun v nb (readyAcc imm a) (readyRun imm nb a xs)) (readyRun imm nb a xs)
   unfolding addedRun
-  run-as v at xs = ap (λ (k : Bool). cond k (slottedRun v at (readyAcc imm a) (readyRun imm at a xs)) (readyRun imm at a xs)) e
+  run-as v nb xs = ap (λ (k : Bool). cond k (slottedRun v nb (readyAcc imm a) (readyRun imm nb a xs)) (readyRun imm nb a xs)) e
 
 -- ---- the end of a batch
 
@@ -175,9 +175,9 @@ module _ (n : ℕ) (a : OpBatchAccumulator) where
   unfolding filledAcc
   filled-turn h = ap (λ (k : ℕ). filledAcc k a) (left h)
 
-  pub run-turn : (at : ℕ) (xs : List ℕ) → a .next < n → filledRun (n - turnedAcc a .next) at (turnedAcc a) (closedRun at a xs) ≡ filledRun (n - a .next) at a xs
+  pub run-turn : (nb : ℕ) (xs : List ℕ) → a .next < n → filledRun (n - turnedAcc a .next) nb (turnedAcc a) (closedRun nb a xs) ≡ filledRun (n - a .next) nb a xs
   unfolding filledRun
-  run-turn at xs h = ap (λ (k : ℕ). filledRun k at a xs) (left h)
+  run-turn nb xs h = ap (λ (k : ℕ). filledRun k nb a xs) (left h)
 
   none : n ≤ a .next → n - a .next ≡ 0
   none h = omega arith
@@ -186,9 +186,9 @@ module _ (n : ℕ) (a : OpBatchAccumulator) where
   unfolding filledAcc
   filled-none h = rw (none h)
 
-  pub run-none : (at : ℕ) (xs : List ℕ) → n ≤ a .next → filledRun (n - a .next) at a xs ≡ xs
+  pub run-none : (nb : ℕ) (xs : List ℕ) → n ≤ a .next → filledRun (n - a .next) nb a xs ≡ xs
   unfolding filledRun
-  run-none at xs h = rw (none h)
+  run-none nb xs h = rw (none h)
 
 filled-good : {w : ℕ} (k : ℕ) (a : OpBatchAccumulator) → Good w a → a .next + k ≤ w → Good w (filledAcc k a)
 unfolding filledAcc

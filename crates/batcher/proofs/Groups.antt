@@ -12,10 +12,10 @@ use Rattle.rules.specs.Lists.{fitted}
 use Rattle.rules.specs.Digits.{number}
 use Rattle.rules.specs.Operations.{Op, noop, codes, hasImmediate}
 use Rattle.rules.specs.Batching.{Group, ops, imm, Batch, nextFree, wantsNoop, closeGroup, groups, turned, joined, ready, full, added, turnedTimes, target, ended}
-use Rattle.rules.specs.Record.{opsIn, codesNumber, opsOf, paddedOf, recordOf, recordBytes, recordsBytes}
+use Rattle.rules.specs.Record.{opsIn, codesNumber, opsOf, paddedOf, recordOf, recordSize, recordBytes, recordsBytes}
 use Rattle.rules.proofs.Runs.{fitted-zeros}
 use Rattle.batcher.specs.Going.{endsIn, written}
-use Rattle.batcher.proofs.Draft.{record-length}
+use Rattle.batcher.proofs.Draft.{length-record}
 
 -- ---- a group
 
@@ -169,8 +169,8 @@ records-more [] b = append-nil (recordBytes (recordOf b))
 records-more (a ∷ bs) b =
     ap (λ (l : List ℕ). recordBytes (recordOf a) ++ l) (records-more bs b) ∙ sym (append-assoc (recordBytes (recordOf a)) (recordsBytes (map recordOf bs)) (recordBytes (recordOf b)))
 
-pub records-length : (bs : List (List Group)) → length (recordsBytes (map recordOf bs)) ≡ 82 * length bs
+pub records-length : (bs : List (List Group)) → length (recordsBytes (map recordOf bs)) ≡ recordSize * length bs
 unfolding recordsBytes
 records-length [] = refl
 records-length (b ∷ bs) =
-    omega (arith, length-append (recordBytes (recordOf b)) (recordsBytes (map recordOf bs)), record-length b, records-length bs)
+    omega (arith, length-append (recordBytes (recordOf b)) (recordsBytes (map recordOf bs)), length-record b, records-length bs)

@@ -6,28 +6,27 @@ use Prim.Native.Nat.{ℕ, _+_, _-_, _*_, _≤_, _<_}
 use native.Mathlib.Omega.{arith}
 use lib.ListN.{length, getD, drop, set, length-append, length-map}
 use lib.Dec.{eqb}
-use lib.Seq.{sets}
 use Rattle.rules.specs.Lists.{fitted}
 use Rattle.rules.specs.Answer.{Answer, good, refused, refuseFirst}
-use Rattle.rules.specs.Digits.{leBytes}
 use Rattle.rules.specs.Operations.{Op, operations, codes, values, noop, hasImmediate, opFault}
 use Rattle.rules.specs.Batching as rule
 use Rattle.rules.specs.Batching.{Group, Batch, empty, nextFree, fits, ready, added, ended, start, endBatch, room, step, steps, batchesOf}
-use Rattle.rules.specs.Record.{opsOf, paddedOf, recordOf, recordsBytes, Block, blockOf, noBlock}
+use Rattle.rules.specs.Record.{opsOf, paddedOf, recordOf, recordSize, recordBytes, recordsBytes, Block, blockOf, noBlock}
 use Rattle.rules.specs.Functions.{Arena, arena, filled}
+use Rattle.op_batch.specs.Stores.{numberSet}
 use Rattle.rules.proofs.Answer.{clash, value, first-turn, first-stop, first-done}
 use Rattle.rules.proofs.Operations.{op, kind-at, admitted, operations-turn, operations-end}
 use Rattle.rules.proofs.Runs.{fitted-length, fitted-set}
 use Rattle.batcher.specs.declared.OpBatchAccumulator.{OpBatchAccumulator}
 use Rattle.batcher.specs.declared.Work.{Work}
 use Rattle.batcher.specs.Good.{recordGroups, Good}
-use Rattle.batcher.specs.Going.{accOf, written, drafted, bytesWith, Held, Going}
+use Rattle.batcher.specs.Going.{accOf, written, drafted, recordWith, Held, Going}
 use Rattle.batcher.specs.declared.Batches.the-variants.{Done, Fault}
 use Rattle.batcher.specs.Batched.{listed, batchesIn, Batched}
 use Rattle.batcher.specs.Model.{newAcc, fitsIn, readyAcc, addedAcc, addedRun, endedTotal, endedRun, endedWork, endedWorkRun, roomWork, roomRun, steppedWork, steppedRun, lastPlace}
 use Rattle.batcher.proofs.Good as good
 use Rattle.batcher.proofs.Keeps.{roomy}
-use Rattle.batcher.proofs.Draft.{bytes-empty}
+use Rattle.batcher.proofs.Draft.{run-empty}
 use Rattle.batcher.proofs.Groups.{unseen-ended, unseen-ready, seen-added, added-length, padded-more, records-more, records-length}
 use Rattle.batcher.proofs.View.{acc-empty, acc-fits, acc-total, acc-next, acc-ready, acc-added, closed-free, ended-count, run-added, run-kept, run-ended}
 
@@ -65,22 +64,22 @@ value-noop : valueOf noop ≡ 0
 unfolding noop
 value-noop = refl
 
-draft-empty : (n : ℕ) (p : List ℕ) → fitted n (p ++ bytesWith 0 (drafted empty)) ≡ fitted n p
+draft-empty : (n : ℕ) (p : List ℕ) → fitted n (p ++ recordBytes (recordWith 0 (drafted empty))) ≡ fitted n p
 unfolding drafted empty
-draft-empty n p = bytes-empty n p
+draft-empty n p = run-empty n p
 
 module _ (w : ℕ) (e : Arena) (t : List ℕ) (d : rule.Work) (s : Work) (a : Arena) (h : Held w e t d s a) (wide : w ≤ recordGroups) where
   free : nextFree (d .current) ≤ recordGroups
   free = let f : nextFree (d .current) ≤ w = rw (acc-next t (d .current)) at (h .good .high) in omega arith
 
-  place : 82 * s .batches ≡ length (recordsOf (d .batches))
-  place = ap (λ (k : ℕ). 82 * k) (h .batches) ∙ sym (records-length (d .batches))
+  before : length (recordsOf (d .batches)) ≡ recordSize * s .batches
+  before = records-length (d .batches) ∙ ap (λ (k : ℕ). recordSize * k) (sym (h .batches))
 
   -- 0 in the next free slot is there already
-  pub held-kept : s .acc .next < recordGroups → sets (a .records) (82 * s .batches + 17 + 8 * s .acc .next) (leBytes 8 0) ≡ a .records
+  pub held-kept : s .acc .next < recordGroups → numberSet (s .batches) (s .acc .next) 0 (a .records) ≡ a .records
   held-kept l =
       let n = ap (λ (x : OpBatchAccumulator). x .next) (h .acc) ∙ acc-next t (d .current) in
-      (λ j. sets (h .records j) (place j + 17 + 8 * n j) (leBytes 8 0)) ∙ run-kept (length (e .records)) (recordsOf (d .batches)) t (d .current) (omega arith) ∙ sym (h .records)
+      (λ j. numberSet (s .batches) (n j) 0 (h .records j)) ∙ run-kept (length (e .records)) (recordsOf (d .batches)) (s .batches) before t (d .current) (omega arith) ∙ sym (h .records)
 
   -- ---- the batch in hand is ended
 
@@ -94,14 +93,12 @@ module _ (w : ℕ) (e : Arena) (t : List ℕ) (d : rule.Work) (s : Work) (a : Ar
       ∙ sym (length-append (paddedOf (d .batches)) (opsOf (ended t (d .current))))
       ∙ sym (ap length (padded-more (d .batches) (ended t (d .current))))
 
-  end-records : endedWorkRun s (a .records) ≡ fitted (length (e .records)) (recordsOf more ++ bytesWith 0 (drafted empty))
+  end-records : endedWorkRun s (a .records) ≡ fitted (length (e .records)) (recordsOf more ++ recordBytes (recordWith 0 (drafted empty)))
   unfolding endedWorkRun more
   end-records =
       let n = length (e .records) in
-      let begin : endedRun (82 * s .batches) (s .acc) (a .records) ≡ endedRun (length (recordsOf (d .batches))) (accOf t (d .current)) (fitted n (recordsOf (d .batches) ++ bytesWith 0 (drafted (d .current)))) =
-      λ j. endedRun (place j) (h .acc j) (h .records j) in
-      begin
-      ∙ run-ended n (recordsOf (d .batches)) t (d .current) free
+      (λ j. endedRun (s .batches) (h .acc j) (h .records j))
+      ∙ run-ended n (recordsOf (d .batches)) (s .batches) before t (d .current) free
       ∙ ap (fitted n) (sym (records-more (d .batches) (ended t (d .current))))
       ∙ sym (draft-empty n (recordsOf (d .batches ++ (ended t (d .current) ∷ []))))
 
@@ -142,19 +139,15 @@ module _ (w : ℕ) (e : Arena) (t : List ℕ) (d : rule.Work) (s : Work) (a : Ar
         let k : nextFree (ready t x (d .current)) < w = rw (acc-next t (ready t x (d .current))) at f in
         omega arith
 
-    put-records : addedRun (hasImmediate t x) (x .value) (82 * s .batches) (s .acc) (a .records)
-        ≡ fitted (length (e .records)) (recordsOf (d .batches) ++ bytesWith 0 (drafted (added t x (d .current))))
+    put-records : addedRun (hasImmediate t x) (x .value) (s .batches) (s .acc) (a .records)
+        ≡ fitted (length (e .records)) (recordsOf (d .batches) ++ recordBytes (recordWith 0 (drafted (added t x (d .current)))))
     put-records =
-        let n = length (e .records) in
-        let p = recordsOf (d .batches) in
-        let begin : addedRun (hasImmediate t x) (x .value) (82 * s .batches) (s .acc) (a .records)
-        ≡ addedRun (hasImmediate t x) (x .value) (length p) (accOf t (d .current)) (fitted n (p ++ bytesWith 0 (drafted (d .current)))) =
-        λ j. addedRun (hasImmediate t x) (x .value) (place j) (h .acc j) (h .records j) in
-        begin ∙ run-added n p t x (d .current) (omega (arith, closed-free (d .current), free)) put-slot
+        (λ j. addedRun (hasImmediate t x) (x .value) (s .batches) (h .acc j) (h .records j))
+        ∙ run-added (length (e .records)) (recordsOf (d .batches)) (s .batches) before t x (d .current) (omega (arith, closed-free (d .current), free)) put-slot
 
     held-put : Held w e t (record { batches = d .batches; current = added t x (d .current) })
         (record { acc = addedAcc (x .code) (hasImmediate t x) (s .acc); base = s .base; batches = s .batches })
-        (arena (set (a .codes) putPlace (x .code)) (set (a .values) putPlace (x .value)) (addedRun (hasImmediate t x) (x .value) (82 * s .batches) (s .acc) (a .records)))
+        (arena (set (a .codes) putPlace (x .code)) (set (a .values) putPlace (x .value)) (addedRun (hasImmediate t x) (x .value) (s .batches) (s .acc) (a .records)))
     unfolding codes values
     held-put =
         record {
@@ -331,7 +324,7 @@ done w e t d s a c h =
     let cs : a .codes ≡ fitted (length (e .codes)) (codes (paddedOf (d .batches))) = h .codes ∙ ap (λ (l : List Op). fitted (length (e .codes)) (codes l)) q in
     let vs : a .values ≡ fitted (length (e .values)) (values (paddedOf (d .batches))) = h .values ∙ ap (λ (l : List Op). fitted (length (e .values)) (values l)) q in
     let rs : a .records ≡ fitted (length (e .records)) (recordsOf (d .batches)) =
-    h .records ∙ ap (λ (b : Batch). fitted (length (e .records)) (recordsOf (d .batches) ++ bytesWith 0 (drafted b))) c ∙ draft-empty (length (e .records)) (recordsOf (d .batches)) in
+    h .records ∙ ap (λ (b : Batch). fitted (length (e .records)) (recordsOf (d .batches) ++ recordBytes (recordWith 0 (drafted b)))) c ∙ draft-empty (length (e .records)) (recordsOf (d .batches)) in
     (h .batches ∙ sym (length-map (d .batches) recordOf), h .base, λ j. arena (cs j) (vs j) (rs j))
 
 end-empty : (t : List ℕ) (d : rule.Work) → endBatch t d .current ≡ empty

@@ -8,9 +8,8 @@ use native.Mathlib.Nat.{add-zero}
 use native.Mathlib.Omega.{arith}
 use borrow.Author.Tests.{ltb-true, lt-ltb, lt-leb, eq-eqb, ne-eqb}
 use lib.ListN.{length, getD, set}
-use lib.Seq.{sets}
 use lib.Dec.{ltb, eqb}
-use Rattle.rules.specs.Digits.{leBytes}
+use Rattle.op_batch.specs.Stores.{numberSet}
 use Rattle.rules.specs.Operations.{assigned, valued, field, valueRight, admissible, opFault}
 use Rattle.rules.specs.Functions.{Arena, arena}
 use Rattle.rules.proofs.Operations.{op, kind-at, fault-none, Admissible, admitted}
@@ -56,7 +55,7 @@ module _ (w : ℕ) (imm : Bool) (s : Work) (f : fitsIn w imm (s .acc) ≡ true) 
   unfolding steppedWork roomWork addedAcc readyAcc
   stays-work c = rw (f, o)
 
-  stays-run : (v : ℕ) (xs : List ℕ) → steppedRun w imm v s xs ≡ cond imm (slottedRun v (82 * s .batches) (s .acc) xs) xs
+  stays-run : (v : ℕ) (xs : List ℕ) → steppedRun w imm v s xs ≡ cond imm (slottedRun v (s .batches) (s .acc) xs) xs
   unfolding steppedRun roomWork roomRun addedRun readyAcc readyRun
   stays-run v xs = rw (f, o)
 
@@ -67,16 +66,16 @@ here-acc c (suc zero) a b = refl
 here-acc c (suc (suc n)) a b = absurd (omega arith)
 
 -- what is kept is the immediate, or 0 where 0 is
-here-run : (k v at : ℕ) (a : OpBatchAccumulator) (xs : List ℕ) → a .next + k ≤ recordGroups → k < 2 → (k ≡ 0 → v ≡ 0) → (a .next < recordGroups → sets xs (at + 17 + 8 * a .next) (leBytes 8 0) ≡ xs)
-    → keptRun v at (a .next) xs ≡ cond (eqb k 1) (slottedRun v at a xs) xs
+here-run : (k v nb : ℕ) (a : OpBatchAccumulator) (xs : List ℕ) → a .next + k ≤ recordGroups → k < 2 → (k ≡ 0 → v ≡ 0) → (a .next < recordGroups → numberSet nb (a .next) 0 xs ≡ xs)
+    → keptRun v nb (a .next) xs ≡ cond (eqb k 1) (slottedRun v nb a xs) xs
 unfolding keptRun slottedRun
-here-run zero v at a xs o b z f = rw (z refl) (go (ltb (a .next) recordGroups) refl)
+here-run zero v nb a xs o b z f = rw (z refl) (go (ltb (a .next) recordGroups) refl)
   where
-    go : (x : Bool) → ltb (a .next) recordGroups ≡ x → cond x (sets xs (at + 17 + 8 * a .next) (leBytes 8 0)) xs ≡ xs
+    go : (x : Bool) → ltb (a .next) recordGroups ≡ x → cond x (numberSet nb (a .next) 0 xs) xs ≡ xs
     go true e = f (ltb-true (a .next) recordGroups e)
     go false e = refl
-here-run (suc zero) v at a xs o b z f = rw (lt-ltb (a .next) recordGroups (omega arith))
-here-run (suc (suc n)) v at a xs o b z f = absurd (omega arith)
+here-run (suc zero) v nb a xs o b z f = rw (lt-ltb (a .next) recordGroups (omega arith))
+here-run (suc (suc n)) v nb a xs o b z f = absurd (omega arith)
 
 -- ---- a turn of the fast path
 
@@ -102,16 +101,16 @@ module _ {w : ℕ} {e : Arena} {t xs ys : List ℕ} {i left k : ℕ} {s : Work} 
   work : steppedWork w c (eqb k 1) s ≡ hereWork
   work = stays-work w (eqb k 1) s (tests .0) (tests .1) c ∙ ap (λ (x : OpBatchAccumulator). record { acc = x; base = s .base; batches = s .batches }) (here-acc c k (s .acc) b)
 
-  run : steppedRun w (eqb k 1) v s (a .records) ≡ keptRun v (82 * s .batches) (s .acc .next) (a .records)
+  run : steppedRun w (eqb k 1) v s (a .records) ≡ keptRun v (s .batches) (s .acc .next) (a .records)
   run =
       stays-run w (eqb k 1) s (tests .0) (tests .1) v (a .records)
-      ∙ sym (here-run k v (82 * s .batches) (s .acc) (a .records) (omega (arith, j .slot)) b (λ z. ok .plain (kind-at t c (omega (arith, ok .code)) ∙ j .kind ∙ z)) (held-kept w e t (g .work) s a (g .held) wide))
+      ∙ sym (here-run k v (s .batches) (s .acc) (a .records) (omega (arith, j .slot)) b (λ z. ok .plain (kind-at t c (omega (arith, ok .code)) ∙ j .kind ∙ z)) (held-kept w e t (g .work) s a (g .held) wide))
 
   place : lastPlace (steppedWork w c (eqb k 1) s) ≡ s .base + s .acc .total
   place = ap lastPlace work ∙ omega arith
 
   pub going-join : {s′ : Work} {a′ : Arena} → i < length xs → i < length ys → s′ ≡ hereWork
-      → a′ ≡ arena (set (a .codes) (s .base + s .acc .total) c) (set (a .values) (s .base + s .acc .total) v) (keptRun v (82 * s .batches) (s .acc .next) (a .records))
+      → a′ ≡ arena (set (a .codes) (s .base + s .acc .total) c) (set (a .values) (s .base + s .acc .total) v) (keptRun v (s .batches) (s .acc .next) (a .records))
       → Going w e t xs ys (i + 1) s′ a′
   going-join hx hy e1 e2 =
       going-turn g two wide hx hy ht (j .fine)
@@ -133,7 +132,7 @@ module _ {w : ℕ} {e : Arena} {t xs ys : List ℕ} (s : Work) (i : ℕ) {a : Ar
 
   pub going-more : {left k : ℕ} {rs : List ℕ} (n next number place : ℕ) → Going w e t xs ys (i + n) (takenWork t xs s i n next number place) a → 2 ≤ w → w ≤ recordGroups → length t ≡ 128
       → Joins w t (getD xs (i + n) 0) (getD ys (i + n) 0) next left k → k < 2 → s .acc .inside + n + left ≤ 9 → i + n < length xs → i + n < length ys
-      → rs ≡ keptRun (getD ys (i + n) 0) (82 * s .batches) next (a .records)
+      → rs ≡ keptRun (getD ys (i + n) 0) (s .batches) next (a .records)
       → Going w e t xs ys (i + (n + 1)) (takenWork t xs s i (n + 1) (next + k) (number + getD xs (i + n) 0 * place) (place * 128))
       (arena (set (a .codes) (s .base + s .acc .total + n) (getD xs (i + n) 0)) (set (a .values) (s .base + s .acc .total + n) (getD ys (i + n) 0)) rs)
   going-more {left} {k} {rs} n next number place g two wide ht j b r hx hy q =

@@ -6,18 +6,18 @@ use Prim.Native.Nat.{ℕ, zero, suc, _+_, _-_, _*_, _^_, _≤_, _<_}
 use native.Mathlib.Nat.{add-zero, zero-mul, pow-suc}
 use native.Mathlib.Numerals.{add-one}
 use native.Mathlib.Omega.{arith}
-use lib.ListN.{length, set, length-append, length-map}
-use lib.Seq.{sets}
+use lib.ListN.{length, length-append, length-map}
 use Rattle.rules.specs.Lists.{fitted}
-use Rattle.rules.specs.Digits.{number, leBytes}
+use Rattle.rules.specs.Digits.{number}
 use Rattle.rules.specs.Operations.{Op, codes, noop, hasImmediate}
 use Rattle.rules.specs.Batching.{Group, ops, imm, Batch, empty, nextFree, fits, wantsNoop, closeGroup, groups, turned, full, joined, ready, added, target, turnedTimes, ended}
-use Rattle.rules.specs.Record.{flagOf, codesNumber, opsOf, recordOf, recordBytes}
+use Rattle.rules.specs.Record.{Record, flagOf, codesNumber, opsOf, recordOf, recordSize, recordBytes}
+use Rattle.op_batch.specs.Stores.{startsSet, flagSet, numberSet, countSet}
 use Rattle.batcher.specs.declared.OpBatchAccumulator.{OpBatchAccumulator}
 use Rattle.batcher.specs.Good.{recordGroups}
 use Rattle.batcher.specs.Model.{newAcc, fitsIn, pads, padOf, closedRun, turnedAcc, slottedAcc, slottedRun, joinedAcc, crosses, readyAcc, readyRun, addedAcc, addedRun, filledAcc, filledRun, lastAcc, endedTotal, endedRun}
-use Rattle.batcher.specs.Going.{endsIn, accOf, written, drafted, bytesWith}
-use Rattle.batcher.proofs.Draft.{closeAt, bytes-close, bytes-imm, bytes-open, bytes-zero, bytes-count, bytes-record}
+use Rattle.batcher.specs.Going.{endsIn, accOf, written, drafted, recordWith}
+use Rattle.batcher.proofs.Draft.{record-open, run-shut, run-imm, run-zero, run-count}
 use Rattle.batcher.proofs.Groups.{wants-ends, ends-snoc, number-snoc, pad, groups-ops, groups-length, written-length, free-turned, free-times, ended-length}
 use Rattle.batcher.proofs.Good.{target-bounds}
 
@@ -146,79 +146,79 @@ pub closed-free : (b : Batch) → length (b .closed) < nextFree b
 unfolding nextFree
 closed-free b = omega arith
 
--- a run of n bytes that begins with p and the record of a batch in the making
-module _ (n : ℕ) (p t : List ℕ) where
+-- a run of n bytes that begins with p, which are nb records, and the record of a batch in the making
+module _ (n : ℕ) (p : List ℕ) (nb : ℕ) (at : length p ≡ recordSize * nb) (t : List ℕ) where
   abbrev Run : List Group → List ℕ
-  Run gs = fitted n (p ++ bytesWith 0 gs)
+  Run gs = fitted n (p ++ recordBytes (recordWith 0 gs))
 
-  run-close : (b : Batch) → length (b .closed) < recordGroups → closedRun (length p) (accOf t b) (Run (drafted b)) ≡ Run (groups t b)
+  run-close : (b : Batch) → length (b .closed) < recordGroups → closedRun nb (accOf t b) (Run (drafted b)) ≡ Run (groups t b)
   unfolding closedRun accOf drafted groups closeGroup flagOf
   run-close b h = rw (← wants-ends t (b .current)) (go (wantsNoop t (b .current)))
     where
       shut : (ys : List Op) (f : Bool) (tot : ℕ) → tot ≡ length (opsOf (b .closed)) + length ys
-          → closeAt (length p) (length (b .closed)) tot (cond f 1 0) (codesNumber ys) (Run (b .closed ++ ops [] false ∷ map imm (b .placed))) ≡ Run (b .closed ++ ops ys f ∷ map imm (b .placed))
-      shut ys f tot e = bytes-close n p 0 (b .closed) ys f (b .placed) tot h e
+          → numberSet nb (length (b .closed)) (codesNumber ys) (flagSet nb (length (b .closed)) (cond f 1 0) (startsSet nb (length (b .closed) + 1) tot (Run (b .closed ++ ops [] false ∷ map imm (b .placed)))))
+          ≡ Run (b .closed ++ ops ys f ∷ map imm (b .placed))
+      shut ys f tot e = run-shut n p nb at 0 (b .closed) ys f (b .placed) tot h e
 
       go : (w : Bool)
-          → closeAt (length p) (length (b .closed)) (length (opsOf (b .closed)) + length (b .current) + cond w 1 0) (cond w 1 0) (codesNumber (b .current)) (Run (b .closed ++ ops [] false ∷ map imm (b .placed)))
+          → numberSet nb (length (b .closed)) (codesNumber (b .current)) (flagSet nb (length (b .closed)) (cond w 1 0) (startsSet nb (length (b .closed) + 1) (length (opsOf (b .closed)) + length (b .current) + cond w 1 0) (Run (b .closed ++ ops [] false ∷ map imm (b .placed)))))
           ≡ Run (b .closed ++ cond w (ops (b .current ++ (noop ∷ [])) true) (ops (b .current) false) ∷ map imm (b .placed))
       go true = rw (noop-number (b .current)) (shut (b .current ++ (noop ∷ [])) true (length (opsOf (b .closed)) + length (b .current) + 1) (omega (arith, length-append (b .current) (noop ∷ []))))
       go false = shut (b .current) false (length (opsOf (b .closed)) + length (b .current) + 0) (omega arith)
 
-  run-turned : (b : Batch) → length (b .closed) < recordGroups → closedRun (length p) (accOf t b) (Run (drafted b)) ≡ Run (drafted (turned t b))
+  run-turned : (b : Batch) → length (b .closed) < recordGroups → closedRun nb (accOf t b) (Run (drafted b)) ≡ Run (drafted (turned t b))
   unfolding drafted turned
-  run-turned b h = run-close b h ∙ ap (λ (l : List ℕ). fitted n (p ++ l)) (sym (bytes-open 0 (groups t b)))
+  run-turned b h = run-close b h ∙ ap (λ (r : Record). fitted n (p ++ recordBytes r)) (sym (record-open 0 (groups t b)))
 
-  run-ready : (x : Op) (b : Batch) → length (b .closed) < recordGroups → readyRun (hasImmediate t x) (length p) (accOf t b) (Run (drafted b)) ≡ Run (drafted (ready t x b))
+  run-ready : (x : Op) (b : Batch) → length (b .closed) < recordGroups → readyRun (hasImmediate t x) nb (accOf t b) (Run (drafted b)) ≡ Run (drafted (ready t x b))
   unfolding readyRun ready
   run-ready x b h = rw (acc-full t x b) (go (full t x b))
     where
-      go : (w : Bool) → cond w (closedRun (length p) (accOf t b) (Run (drafted b))) (Run (drafted b)) ≡ Run (drafted (cond w (turned t b) b))
+      go : (w : Bool) → cond w (closedRun nb (accOf t b) (Run (drafted b))) (Run (drafted b)) ≡ Run (drafted (cond w (turned t b) b))
       go true = run-turned b h
       go false = refl
 
-  run-times : (k : ℕ) (b : Batch) → nextFree b + k ≤ recordGroups → filledRun k (length p) (accOf t b) (Run (drafted b)) ≡ Run (drafted (turnedTimes k t b))
+  run-times : (k : ℕ) (b : Batch) → nextFree b + k ≤ recordGroups → filledRun k nb (accOf t b) (Run (drafted b)) ≡ Run (drafted (turnedTimes k t b))
   unfolding filledRun turnedTimes
   run-times zero b h = refl
   run-times (suc k) b h =
-      ap₂ (λ (a : OpBatchAccumulator) (l : List ℕ). filledRun k (length p) a l) (acc-turned t b) (run-turned b (omega (arith, closed-free b)))
+      ap₂ (λ (a : OpBatchAccumulator) (l : List ℕ). filledRun k nb a l) (acc-turned t b) (run-turned b (omega (arith, closed-free b)))
       ∙ run-times k (turned t b) (omega (arith, free-turned t b))
 
-  run-last : (b : Batch) → nextFree b ≤ recordGroups → closedRun (length p) (lastAcc (accOf t b)) (filledRun (target (accOf t b .next) - accOf t b .next) (length p) (accOf t b) (Run (drafted b))) ≡ Run (ended t b)
+  run-last : (b : Batch) → nextFree b ≤ recordGroups → closedRun nb (lastAcc (accOf t b)) (filledRun (target (accOf t b .next) - accOf t b .next) nb (accOf t b) (Run (drafted b))) ≡ Run (ended t b)
   unfolding lastOf
   run-last b h =
       let g = target-bounds (nextFree b) h in
       let k = target (nextFree b) - nextFree b in
       let m = free-times k t b in
-      ap₂ (λ (a : OpBatchAccumulator) (l : List ℕ). closedRun (length p) a l) (acc-last t b) (ap (λ (m : ℕ). filledRun (target m - m) (length p) (accOf t b) (Run (drafted b))) (acc-next t b) ∙ run-times k b (omega arith))
+      ap₂ (λ (a : OpBatchAccumulator) (l : List ℕ). closedRun nb a l) (acc-last t b) (ap (λ (m : ℕ). filledRun (target m - m) nb (accOf t b) (Run (drafted b))) (acc-next t b) ∙ run-times k b (omega arith))
       ∙ run-close (lastOf t b) (omega (arith, closed-free (turnedTimes k t b)))
       ∙ ap Run (ended-last t b)
 
-  pub run-ended : (b : Batch) → nextFree b ≤ recordGroups → endedRun (length p) (accOf t b) (Run (drafted b)) ≡ fitted n (p ++ recordBytes (recordOf (ended t b)))
+  pub run-ended : (b : Batch) → nextFree b ≤ recordGroups → endedRun nb (accOf t b) (Run (drafted b)) ≡ fitted n (p ++ recordBytes (recordOf (ended t b)))
   unfolding endedRun
   run-ended b h =
-      ap₂ (λ (l : List ℕ) (k : ℕ). set l (length p + 81) k) (run-last b h) (ap target (acc-next t b) ∙ sym (ended-length t b (target-bounds (nextFree b) h .0)))
-      ∙ bytes-count n p 0 (length (ended t b)) (ended t b)
-      ∙ ap (λ (l : List ℕ). fitted n (p ++ l)) (bytes-record (ended t b))
+      ap₂ (λ (l : List ℕ) (k : ℕ). countSet nb k l) (run-last b h) (ap target (acc-next t b) ∙ sym (ended-length t b (target-bounds (nextFree b) h .0)))
+      ∙ run-count n p nb at 0 (ended t b)
 
   map-snoc : (vs : List ℕ) (v : ℕ) → map imm (vs ++ (v ∷ [])) ≡ map imm vs ++ (imm v ∷ [])
   map-snoc [] v = refl
   map-snoc (u ∷ vs) v = ap (λ (l : List Group). imm u ∷ l) (map-snoc vs v)
 
   run-slotted : (v : ℕ) (b : Batch) → nextFree b < recordGroups
-      → slottedRun v (length p) (accOf t b) (Run (drafted b)) ≡ Run (drafted (record { closed = b .closed; current = b .current; placed = b .placed ++ (v ∷ []) }))
+      → slottedRun v nb (accOf t b) (Run (drafted b)) ≡ Run (drafted (record { closed = b .closed; current = b .current; placed = b .placed ++ (v ∷ []) }))
   unfolding slottedRun drafted
   run-slotted v b h =
       let e : length (b .closed ++ ops [] false ∷ map imm (b .placed)) ≡ nextFree b = drafted-length b in
       rw (acc-next t b, ← e, map-snoc (b .placed) v, ← append-assoc (b .closed) (ops [] false ∷ map imm (b .placed)) (imm v ∷ []))
-      (bytes-imm n p 0 (b .closed ++ ops [] false ∷ map imm (b .placed)) v (omega arith))
+      (run-imm n p nb at 0 (b .closed ++ ops [] false ∷ map imm (b .placed)) v (omega arith))
 
   -- 0 in the next free slot is there already
-  pub run-kept : (b : Batch) → nextFree b < recordGroups → sets (Run (drafted b)) (length p + 17 + 8 * nextFree b) (leBytes 8 0) ≡ Run (drafted b)
-  run-kept b h = let e = drafted-length b in rw (← e) (bytes-zero n p 0 (drafted b) (omega arith))
+  pub run-kept : (b : Batch) → nextFree b < recordGroups → numberSet nb (nextFree b) 0 (Run (drafted b)) ≡ Run (drafted b)
+  run-kept b h = let e = drafted-length b in rw (← e) (run-zero n p nb at 0 (drafted b) (omega arith))
 
   pub run-added : (x : Op) (b : Batch) → length (b .closed) < recordGroups → (hasImmediate t x ≡ true → nextFree (ready t x b) < recordGroups)
-      → addedRun (hasImmediate t x) (x .value) (length p) (accOf t b) (Run (drafted b)) ≡ Run (drafted (added t x b))
+      → addedRun (hasImmediate t x) (x .value) nb (accOf t b) (Run (drafted b)) ≡ Run (drafted (added t x b))
   unfolding addedRun added joined drafted
   run-added x b h k = rw (acc-ready t x b, run-ready x b h) (go (hasImmediate t x) k)
     where
@@ -226,7 +226,7 @@ module _ (n : ℕ) (p t : List ℕ) where
       r = ready t x b
 
       go : (i : Bool) → (i ≡ true → nextFree r < recordGroups)
-          → cond i (slottedRun (x .value) (length p) (accOf t r) (Run (drafted r))) (Run (drafted r))
+          → cond i (slottedRun (x .value) nb (accOf t r) (Run (drafted r))) (Run (drafted r))
           ≡ Run (r .closed ++ ops [] false ∷ map imm (cond i (r .placed ++ (x .value ∷ [])) (r .placed)))
       go true k = run-slotted (x .value) r (k refl)
       go false k = refl

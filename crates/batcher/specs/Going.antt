@@ -9,7 +9,7 @@ use Rattle.rules.specs.Answer.{good, refuseFirst}
 use Rattle.rules.specs.Operations.{Op, operations, codes, values, opFault}
 use Rattle.rules.specs.Batching as rule
 use Rattle.rules.specs.Batching.{Group, ops, imm, Batch, nextFree, wantsNoop, start, steps, batchesOf}
-use Rattle.rules.specs.Record.{startsFrom, sizeOf, flagOf, numberOf, codesNumber, opsOf, paddedOf, recordOf, blockOf, wordBytes, recordsBytes}
+use Rattle.rules.specs.Record.{Record, startsFrom, sizeOf, flagOf, numberOf, codesNumber, opsOf, paddedOf, recordOf, blockOf, recordBytes, recordsBytes}
 use Rattle.rules.specs.Functions.{Arena}
 use Rattle.batcher.specs.declared.OpBatchAccumulator.{OpBatchAccumulator}
 use Rattle.batcher.specs.declared.Work.{Work}
@@ -39,24 +39,15 @@ accOf t b =
 unfoldable pub written : Batch → List Op
 written b = opsOf (b .closed) ++ b .current
 
--- ---- the bytes of its record
+-- ---- its record
 
 -- the groups so far, the current one still empty
 unfoldable pub drafted : Batch → List Group
 drafted b = b .closed ++ ops [] false ∷ map imm (b .placed)
 
-abbrev pub startsOf : List Group → List ℕ
-startsOf gs = startsFrom 0 (fitted 8 (map sizeOf gs))
-
-abbrev pub flagsOf : List Group → List ℕ
-flagsOf gs = fitted 8 (map flagOf gs)
-
-abbrev pub wordsOf : List Group → List ℕ
-wordsOf gs = wordBytes (fitted 8 (map numberOf gs))
-
 -- the record of the groups so far, with c for the count
-unfoldable pub bytesWith : ℕ → List Group → List ℕ
-bytesWith c gs = startsOf gs ++ (flagsOf gs ++ (wordsOf gs ++ (c ∷ [])))
+unfoldable pub recordWith : ℕ → List Group → Record
+recordWith c gs = record { starts = startsFrom 0 (fitted 8 (map sizeOf gs)); flags = fitted 8 (map flagOf gs); numbers = fitted 8 (map numberOf gs); count = c }
 
 -- ---- the work in hand: `e` are the runs as they came, `a` as they are now; `w` is the width
 
@@ -67,7 +58,7 @@ pub record Held (w : ℕ) (e : Arena) (t : List ℕ) (d : rule.Work) (s : Work) 
   pub batches : s .batches ≡ length (d .batches)
   pub codes : a .codes ≡ fitted (length (e .codes)) (codes (paddedOf (d .batches) ++ written (d .current)))
   pub values : a .values ≡ fitted (length (e .values)) (values (paddedOf (d .batches) ++ written (d .current)))
-  pub records : a .records ≡ fitted (length (e .records)) (recordsBytes (map recordOf (d .batches)) ++ bytesWith 0 (drafted (d .current)))
+  pub records : a .records ≡ fitted (length (e .records)) (recordsBytes (map recordOf (d .batches)) ++ recordBytes (recordWith 0 (drafted (d .current))))
 
 -- No operation so far is at fault, and what is left of the lists takes the work in hand to the whole result.
 pub record Going (w : ℕ) (e : Arena) (t xs ys : List ℕ) (i : ℕ) (s : Work) (a : Arena) : Type 0 where

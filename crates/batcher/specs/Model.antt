@@ -4,13 +4,12 @@ use mathlib.Core.Path.{_≡_}
 use mathlib.Core.Bool.{Bool, true, false, cond}
 use mathlib.Core.List.{List}
 use Prim.Native.Nat.{ℕ, zero, suc, _+_, _-_, _*_, _≤_, _<_}
-use lib.ListN.{getD, set, replicate}
-use lib.Seq.{sets}
+use lib.ListN.{getD}
 use lib.Dec.{leb, ltb, eqb}
-use Rattle.rules.specs.Digits.{leBytes}
 use Rattle.rules.specs.Operations.{opFault}
 use Rattle.rules.specs.Batching.{target}
 use Rattle.operation.specs.Verdict.{op}
+use Rattle.op_batch.specs.Stores.{startsSet, flagSet, numberSet, countSet}
 use Rattle.batcher.specs.declared.OpBatchAccumulator.{OpBatchAccumulator}
 use Rattle.batcher.specs.declared.Work.{Work}
 use Rattle.batcher.specs.Good.{recordGroups}
@@ -27,10 +26,9 @@ pads a = cond (eqb (a .inside) 0) true (a .tail)
 abbrev pub padOf : OpBatchAccumulator → ℕ
 padOf a = cond (pads a) 1 0
 
--- the current group closed in the record at `at`: later starts, its flag, its number
+-- the current group closed in the b-th record: later starts, its flag, its number
 unfoldable pub closedRun : ℕ → OpBatchAccumulator → List ℕ → List ℕ
-closedRun at a xs =
-    sets (set (sets xs (at + a .cur + 1) (replicate (recordGroups - a .cur) (a .total + padOf a))) (at + 9 + a .cur) (padOf a)) (at + 17 + 8 * a .cur) (leBytes 8 (a .number))
+closedRun b a xs = numberSet b (a .cur) (a .number) (flagSet b (a .cur) (padOf a) (startsSet b (a .cur + 1) (a .total + padOf a) xs))
 
 -- and the group at next free opened
 unfoldable pub turnedAcc : OpBatchAccumulator → OpBatchAccumulator
@@ -41,7 +39,7 @@ unfoldable pub slottedAcc : OpBatchAccumulator → OpBatchAccumulator
 slottedAcc a = record { cur = a .cur; next = a .next + 1; inside = a .inside; number = a .number; place = a .place; total = a .total; tail = a .tail }
 
 unfoldable pub slottedRun : ℕ → ℕ → OpBatchAccumulator → List ℕ → List ℕ
-slottedRun v at a xs = sets xs (at + 17 + 8 * a .next) (leBytes 8 v)
+slottedRun v b a xs = numberSet b (a .next) v xs
 
 unfoldable pub joinedAcc : ℕ → Bool → OpBatchAccumulator → OpBatchAccumulator
 joinedAcc c imm a =
@@ -54,13 +52,13 @@ unfoldable pub readyAcc : Bool → OpBatchAccumulator → OpBatchAccumulator
 readyAcc imm a = cond (crosses imm a) (turnedAcc a) a
 
 unfoldable pub readyRun : Bool → ℕ → OpBatchAccumulator → List ℕ → List ℕ
-readyRun imm at a xs = cond (crosses imm a) (closedRun at a xs) xs
+readyRun imm b a xs = cond (crosses imm a) (closedRun b a xs) xs
 
 unfoldable pub addedAcc : ℕ → Bool → OpBatchAccumulator → OpBatchAccumulator
 addedAcc c imm a = joinedAcc c imm (cond imm (slottedAcc (readyAcc imm a)) (readyAcc imm a))
 
 unfoldable pub addedRun : Bool → ℕ → ℕ → OpBatchAccumulator → List ℕ → List ℕ
-addedRun imm v at a xs = cond imm (slottedRun v at (readyAcc imm a) (readyRun imm at a xs)) (readyRun imm at a xs)
+addedRun imm v b a xs = cond imm (slottedRun v b (readyAcc imm a) (readyRun imm b a xs)) (readyRun imm b a xs)
 
 -- k groups closed and opened
 unfoldable pub filledAcc : ℕ → OpBatchAccumulator → OpBatchAccumulator
@@ -68,8 +66,8 @@ filledAcc zero a = a
 filledAcc (suc k) a = filledAcc k (turnedAcc a)
 
 unfoldable pub filledRun : ℕ → ℕ → OpBatchAccumulator → List ℕ → List ℕ
-filledRun zero at a xs = xs
-filledRun (suc k) at a xs = filledRun k at (turnedAcc a) (closedRun at a xs)
+filledRun zero b a xs = xs
+filledRun (suc k) b a xs = filledRun k b (turnedAcc a) (closedRun b a xs)
 
 unfoldable pub lastAcc : OpBatchAccumulator → OpBatchAccumulator
 lastAcc a = filledAcc (target (a .next) - a .next) a
@@ -78,7 +76,7 @@ unfoldable pub endedTotal : OpBatchAccumulator → ℕ
 endedTotal a = lastAcc a .total + padOf (lastAcc a)
 
 unfoldable pub endedRun : ℕ → OpBatchAccumulator → List ℕ → List ℕ
-endedRun at a xs = set (closedRun at (lastAcc a) (filledRun (target (a .next) - a .next) at a xs)) (at + 81) (target (a .next))
+endedRun b a xs = countSet b (target (a .next)) (closedRun b (lastAcc a) (filledRun (target (a .next) - a .next) b a xs))
 
 -- ---- the driver
 
@@ -86,7 +84,7 @@ unfoldable pub endedWork : Work → Work
 endedWork s = record { acc = newAcc; base = s .base + endedTotal (s .acc); batches = s .batches + 1 }
 
 unfoldable pub endedWorkRun : Work → List ℕ → List ℕ
-endedWorkRun s xs = endedRun (82 * s .batches) (s .acc) xs
+endedWorkRun s xs = endedRun (s .batches) (s .acc) xs
 
 unfoldable pub roomWork : ℕ → Bool → Work → Work
 roomWork w imm s = cond (fitsIn w imm (s .acc)) s (endedWork s)
@@ -98,7 +96,7 @@ unfoldable pub steppedWork : ℕ → ℕ → Bool → Work → Work
 steppedWork w c imm s = record { acc = addedAcc c imm (roomWork w imm s .acc); base = roomWork w imm s .base; batches = roomWork w imm s .batches }
 
 unfoldable pub steppedRun : ℕ → Bool → ℕ → Work → List ℕ → List ℕ
-steppedRun w imm v s xs = addedRun imm v (82 * roomWork w imm s .batches) (roomWork w imm s .acc) (roomRun w imm s xs)
+steppedRun w imm v s xs = addedRun imm v (roomWork w imm s .batches) (roomWork w imm s .acc) (roomRun w imm s xs)
 
 -- where the last operation stands
 abbrev pub lastPlace : Work → ℕ
@@ -108,7 +106,7 @@ lastPlace s = s .base + s .acc .total - 1
 
 -- where a value is kept: in the next free slot, if the record has one more
 unfoldable pub keptRun : ℕ → ℕ → ℕ → List ℕ → List ℕ
-keptRun v at next xs = cond (ltb next recordGroups) (sets xs (at + 17 + 8 * next) (leBytes 8 v)) xs
+keptRun v b next xs = cond (ltb next recordGroups) (numberSet b next v xs) xs
 
 -- whether the last of n operations from the i-th on has an immediate; of none, what was so before
 abbrev pub lastImm : List ℕ → List ℕ → Bool → ℕ → ℕ → Bool

@@ -7,7 +7,7 @@ ghost use mathlib.Core.Bool.{true};
 ghost use Prim.Native.Nat.{_+_, _*_, _-_, _≤_, _<_, _^_};
 ghost use lib.ListN.{length, getD, set};
 ghost use Rattle.rules.specs.Batching.{target};
-ghost use Rattle.rules.specs.Record.{noBlock};
+ghost use Rattle.rules.specs.Record.{recordSize, noBlock};
 ghost use Rattle.rules.specs.Functions.{arena, filled};
 ghost use Rattle.batcher.specs.Good.{recordGroups, Good};
 ghost use Rattle.batcher.specs.Going.{Going};
@@ -19,15 +19,6 @@ const GROUP_SIZE: usize = 9;
 
 // groups in a record
 const RECORD_GROUPS: usize = 8;
-
-// a record's bytes: nine starts, eight flags, eight numbers of eight bytes, and the count
-pub const RECORD_SIZE: usize = 82;
-
-const FLAGS: usize = 9;
-
-const NUMBERS: usize = 17;
-
-const COUNT: usize = 81;
 
 struct OpBatchAccumulator {
     // the current group, and the next free one
@@ -76,47 +67,47 @@ impl OpBatchAccumulator {
         self.next < width
     }
 
-    // Adds an operation for which the record has room to the batch whose record starts at `at`.
-    fn add_op(self, code: u8, imm: bool, v: u64, at: usize, records: &mut [u8]) -> Self
+    // Adds an operation to the b-th batch, whose record has room for it.
+    fn add_op(self, code: u8, imm: bool, v: u64, b: usize, records: &mut [u8]) -> Self
         requires { ⌜ Good recordGroups self ⌝ }
         requires { ⌜ fitsIn recordGroups imm self ≡ true ⌝ }
-        requires { ⌜ (code < 128) × (at < 2 ^ 32) ⌝ }
+        requires { ⌜ (code < 128) × (b < 2 ^ 20) ⌝ }
         ensures acc { λ r. ⌜ r ≡ addedAcc code imm self ⌝ }
-        ensures run { λ _. ⌜ now (records .exit) ≡ addedRun imm v at self (now (records .entry)) ⌝ }
+        ensures run { λ _. ⌜ now (records .exit) ≡ addedRun imm v b self (now (records .entry)) ⌝ }
     {
-        let b = self.advance(imm, at, records);
+        let a = self.advance(imm, b, records);
         if imm {
-            let d = b.place_imm(v, at, records);
+            let d = a.place_imm(v, b, records);
             return d.push_op(code, imm);
         }
-        b.push_op(code, imm)
+        a.push_op(code, imm)
     }
 
     // Ends the batch: its record is whole, and its operations are returned.
-    fn into_batch(self, at: usize, records: &mut [u8]) -> u8
+    fn into_batch(self, b: usize, records: &mut [u8]) -> u8
         requires { ⌜ Good recordGroups self ⌝ }
-        requires { ⌜ at < 2 ^ 32 ⌝ }
+        requires { ⌜ b < 2 ^ 20 ⌝ }
         ensures total { λ r. ⌜ r ≡ endedTotal self ⌝ }
-        ensures run { λ _. ⌜ now (records .exit) ≡ endedRun at self (now (records .entry)) ⌝ }
+        ensures run { λ _. ⌜ now (records .exit) ≡ endedRun b self (now (records .entry)) ⌝ }
     {
         let count = target_num_groups(self.next);
         let mut a = self;
         while a.next < count {
-            a = a.finalize_op_group(at, records);
+            a = a.finalize_op_group(b, records);
         }
-        let total = a.close(at, records);
-        word::store8(records, at + COUNT, count as u8);
+        let total = a.close(b, records);
+        op_batch::set_count(records, b, count as u8);
         total
     }
 
     // Closes the current group and opens the next free one.
-    fn finalize_op_group(self, at: usize, records: &mut [u8]) -> Self
+    fn finalize_op_group(self, b: usize, records: &mut [u8]) -> Self
         requires { ⌜ Good recordGroups self ⌝ }
-        requires { ⌜ at < 2 ^ 32 ⌝ }
+        requires { ⌜ b < 2 ^ 20 ⌝ }
         ensures acc { λ r. ⌜ r ≡ turnedAcc self ⌝ }
-        ensures run { λ _. ⌜ now (records .exit) ≡ closedRun at self (now (records .entry)) ⌝ }
+        ensures run { λ _. ⌜ now (records .exit) ≡ closedRun b self (now (records .entry)) ⌝ }
     {
-        let total = self.close(at, records);
+        let total = self.close(b, records);
         OpBatchAccumulator {
             cur: self.next,
             next: self.next + 1,
@@ -130,18 +121,18 @@ impl OpBatchAccumulator {
 
     // Writes what the record says of the current group, and returns the batch's operations with its Noop. All later starts are the total
     // so far: the starts of the group's immediates, of the next group, and those that repeat the total if no group follows.
-    fn close(self, at: usize, records: &mut [u8]) -> u8
+    fn close(self, b: usize, records: &mut [u8]) -> u8
         requires { ⌜ Good recordGroups self ⌝ }
-        requires { ⌜ at < 2 ^ 32 ⌝ }
+        requires { ⌜ b < 2 ^ 20 ⌝ }
         ensures total { λ r. ⌜ r ≡ self .total + padOf self ⌝ }
-        ensures run { λ _. ⌜ now (records .exit) ≡ closedRun at self (now (records .entry)) ⌝ }
+        ensures run { λ _. ⌜ now (records .exit) ≡ closedRun b self (now (records .entry)) ⌝ }
     {
         let pad = self.padding();
         let cur = self.cur;
         let total = self.total + pad;
-        word::fill_few(records, at + cur + 1, RECORD_GROUPS - cur, total);
-        word::store8(records, at + FLAGS + cur, pad);
-        word::store_le8(records, at + NUMBERS + 8 * cur, self.number);
+        op_batch::set_starts(records, b, cur + 1, total);
+        op_batch::set_flag(records, b, cur, pad);
+        op_batch::set_number(records, b, cur, self.number);
         total
     }
 
@@ -195,26 +186,26 @@ impl OpBatchAccumulator {
         GROUP_SIZE <= self.inside
     }
 
-    fn advance(self, imm: bool, at: usize, records: &mut [u8]) -> Self
+    fn advance(self, imm: bool, b: usize, records: &mut [u8]) -> Self
         requires { ⌜ Good recordGroups self ⌝ }
-        requires { ⌜ at < 2 ^ 32 ⌝ }
+        requires { ⌜ b < 2 ^ 20 ⌝ }
         ensures acc { λ r. ⌜ r ≡ readyAcc imm self ⌝ }
-        ensures run { λ _. ⌜ now (records .exit) ≡ readyRun imm at self (now (records .entry)) ⌝ }
+        ensures run { λ _. ⌜ now (records .exit) ≡ readyRun imm b self (now (records .entry)) ⌝ }
     {
         if self.full(imm) {
-            return self.finalize_op_group(at, records);
+            return self.finalize_op_group(b, records);
         }
         self
     }
 
     // An immediate takes the next free group.
-    fn place_imm(self, v: u64, at: usize, records: &mut [u8]) -> Self
-        requires { ⌜ (self .next < recordGroups) × (at < 2 ^ 32) ⌝ }
+    fn place_imm(self, v: u64, b: usize, records: &mut [u8]) -> Self
+        requires { ⌜ (self .next < recordGroups) × (b < 2 ^ 20) ⌝ }
         ensures acc { λ r. ⌜ r ≡ slottedAcc self ⌝ }
-        ensures run { λ _. ⌜ now (records .exit) ≡ slottedRun v at self (now (records .entry)) ⌝ }
+        ensures run { λ _. ⌜ now (records .exit) ≡ slottedRun v b self (now (records .entry)) ⌝ }
     {
         let next = self.next;
-        word::store_le8(records, at + NUMBERS + 8 * next, v);
+        op_batch::set_number(records, b, next, v);
         OpBatchAccumulator {
             cur: self.cur,
             next: next + 1,
@@ -261,7 +252,7 @@ fn end_batch(work: Work, records: &mut [u8]) -> Work
 {
     let a = work.acc;
     let k = work.batches;
-    let total = a.into_batch(RECORD_SIZE * k, records);
+    let total = a.into_batch(k, records);
     let n = total as usize;
     let fresh = OpBatchAccumulator::new();
     Work {
@@ -307,7 +298,7 @@ fn step(
     let b = r.acc;
     let base = r.base;
     let k = r.batches;
-    let a = b.add_op(code, imm, v, RECORD_SIZE * k, records);
+    let a = b.add_op(code, imm, v, k, records);
     let n = a.total as usize;
     let at = base + n - 1;
     word::store8(codes, at, code);
@@ -360,19 +351,19 @@ fn slots(width: usize, table: &[u8], code: u8, v: u64, next: usize, left: usize)
 }
 
 // A value in the next free slot, if the record has one more.
-fn keep(v: u64, at: usize, next: usize, records: &mut [u8])
-    requires { ⌜ (at < 2 ^ 32) × (at + 82 ≤ length (now records)) ⌝ }
-    ensures { λ _. ⌜ now (records .exit) ≡ keptRun v at next (now (records .entry)) ⌝ }
+fn keep(v: u64, b: usize, next: usize, records: &mut [u8])
+    requires { ⌜ recordSize * b + recordSize ≤ length (now records) ⌝ }
+    ensures { λ _. ⌜ now (records .exit) ≡ keptRun v b next (now (records .entry)) ⌝ }
 {
     if next < RECORD_GROUPS {
-        word::put8(records, at + NUMBERS + 8 * next, v);
+        op_batch::put_number(records, b, next, v);
     }
 }
 
-// Whether runs of these lengths have room for a whole group and for the record.
-fn room_ahead(from: usize, at: usize, codes: usize, values: usize, records: usize) -> bool
-    requires { ⌜ (from < 2 ^ 32) × (at < 2 ^ 32) ⌝ }
-    ensures { λ r. ⌜ (r ≡ true → (from + 9 ≤ codes) × (from + 9 ≤ values) × (at + 82 ≤ records)) ⌝ }
+// Whether runs of these lengths have room for a whole group and for the b-th record.
+fn room_ahead(from: usize, b: usize, codes: usize, values: usize, records: usize) -> bool
+    requires { ⌜ (from < 2 ^ 32) × (b < 2 ^ 20) ⌝ }
+    ensures { λ r. ⌜ (r ≡ true → (from + 9 ≤ codes) × (from + 9 ≤ values) × (recordSize * b + recordSize ≤ records)) ⌝ }
 {
     if codes < from + GROUP_SIZE {
         return false;
@@ -380,7 +371,7 @@ fn room_ahead(from: usize, at: usize, codes: usize, values: usize, records: usiz
     if values < from + GROUP_SIZE {
         return false;
     }
-    at + RECORD_SIZE <= records
+    op_batch::RECORD * b + op_batch::RECORD <= records
 }
 
 // How many operations can join at most: what is left of the group, or of the list.
@@ -461,10 +452,10 @@ fn join_ops(
     ensures going { λ r. ⌜ Going width (arena (now («out_codes» .entry)) (now («out_values» .entry)) (now (records .entry))) (now (table .entry)) (now (codes .entry)) (now (values .entry)) (r .upto) (r .work) (arena (now («out_codes» .exit)) (now («out_values» .exit)) (now (records .exit))) ⌝ }
 {
     let a = work.acc;
-    let at = RECORD_SIZE * work.batches;
+    let b = work.batches;
     let t = a.total as usize;
     let from = work.base + t;
-    if !room_ahead(from, at, out_codes.len(), out_values.len(), records.len()) {
+    if !room_ahead(from, b, out_codes.len(), out_values.len(), records.len()) {
         return Taken { work, upto: i };
     }
     let end = most(a.inside, i, codes.len());
@@ -479,7 +470,7 @@ fn join_ops(
         if 1 < k {
             return gather(work, table, codes, i, n, next, number, place);
         }
-        keep(v, at, next, records);
+        keep(v, b, next, records);
         out_codes[from + n] = code;
         out_values[from + n] = v;
         number = number + word::wide(code) * place;

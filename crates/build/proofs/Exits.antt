@@ -8,7 +8,7 @@ use lib.ListN.{length}
 use lib.Dec.{leb}
 use Rattle.rules.specs.Answer.{Answer, good, refused, refuse, refuseFirst}
 use Rattle.rules.specs.Operations.{operations, opFault}
-use Rattle.rules.specs.Record.{Block, noBlock}
+use Rattle.rules.specs.Record.{Block, recordSize, noBlock}
 use Rattle.rules.specs.Block.{Room}
 use Rattle.rules.specs.Functions.{Arena, roomIn, filled, roomFor, built, blockLeft}
 use Rattle.rules.proofs.Runs.{fitted-length}
@@ -105,13 +105,13 @@ module _ (w : ℕ) (t cs vs : List ℕ) (v : Verdict) (r : Batches) (e a a′ : 
     holds = m .runs (blockFor w t cs vs) whole ∙ refill e a (same e a noBlock z) (blockFor w t cs vs)
 
     -- the room that is found is the room that the rules ask
-    found : (leb o (length (a′ .codes)) && (leb o (length (a′ .values)) && leb k (length (a′ .records) / 82))) ≡ roomFor (blockFor w t cs vs) (roomIn e)
+    found : (leb o (length (a′ .codes)) && (leb o (length (a′ .values)) && leb k (length (a′ .records) / recordSize))) ≡ roomFor (blockFor w t cs vs) (roomIn e)
     unfolding roomFor roomIn
     found =
         let l = same e a′ (blockFor w t cs vs) holds in
         rw (ap padded counts, ap batches counts, l .0, l .1, l .2)
 
-    module _ (x : Bool) (g : x ≡ (leb o (length (a′ .codes)) && (leb o (length (a′ .values)) && leb k (length (a′ .records) / 82)))) where
+    module _ (x : Bool) (g : x ≡ (leb o (length (a′ .codes)) && (leb o (length (a′ .values)) && leb k (length (a′ .records) / recordSize)))) where
       decided : (y : Bool) → x ≡ y → built w t cs vs (roomIn e) ≡ refuse (not y) 13 0 (good (blockFor w t cs vs))
       decided y i = decides (Done k o) f ∙ ap (λ (u : Bool). refuse (not u) 13 0 (good (blockFor w t cs vs))) (sym (g ∙ found) ∙ i)
 

@@ -13,12 +13,6 @@ make-room-requires c κs =
     let a = c .before .before .before .before in
     (good-wider (a .args .work .acc) (a .pre .0 .1) (a .pre .0 .2), (omega (arith, a .pre .1), omega (arith, a .pre .1)))
 
-mul-add-op : tie.Need-mul-add-op
-mul-add-op c =
-    let a = c .before .before .before .before .before .before .before .before in
-    let r = roomy (a .args .width) (a .args .imm) (a .args .work) (a .pre .0 .0) (a .pre .0 .1) (a .pre .0 .2) in
-    rw (c .before .before .before .make-room .ensures .0) (omega (arith, r .batches, a .pre .1))
-
 add-op-requires : tie.Need-add-op-requires
 add-op-requires c κs =
     let a = c .before .before .before .before .before .before .before .before .before in
@@ -69,7 +63,6 @@ step-spec =
     tie.close
     (tie.spec
     make-room-requires
-    mul-add-op
     add-op-requires
     cast-n
     add-at

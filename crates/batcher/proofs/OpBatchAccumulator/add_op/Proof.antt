@@ -36,7 +36,7 @@ returns c =
     let p = c .before .before .before .place-imm .ensures in
     let t = c .before .before .before .before .before .if1 .taken in (
       c .push-op .ensures ∙ ap (joinedAcc (a .code) (a .imm)) (p .0 ∙ ap slottedAcc (e .0)) ∙ sym (added-as (a .imm) true (a .self) t (a .code)),
-      p .1 ∙ ap₂ (λ (x : OpBatchAccumulator) (l : List ℕ). slottedRun (a .v) (a .at) x l) (e .0) (e .1) ∙ sym (run-as (a .imm) true (a .self) t (a .v) (a .at) _),
+      p .1 ∙ ap₂ (λ (x : OpBatchAccumulator) (l : List ℕ). slottedRun (a .v) (a .b) x l) (e .0) (e .1) ∙ sym (run-as (a .imm) true (a .self) t (a .v) (a .b) _),
     )
 
 push-op-requires-2 : tie.Need-push-op-requires-2
@@ -53,7 +53,7 @@ returns-2 c =
     let a = c .before .before .before .before .before .before .before .args in
     let e = c .before .before .before .before .advance .ensures in
     let t = c .before .if1 .left in
-    (c .push-op2 .ensures ∙ ap (joinedAcc (a .code) (a .imm)) (e .0) ∙ sym (added-as (a .imm) false (a .self) t (a .code)), e .1 ∙ sym (run-as (a .imm) false (a .self) t (a .v) (a .at) _))
+    (c .push-op2 .ensures ∙ ap (joinedAcc (a .code) (a .imm)) (e .0) ∙ sym (added-as (a .imm) false (a .self) t (a .code)), e .1 ∙ sym (run-as (a .imm) false (a .self) t (a .v) (a .b) _))
 
 pub add-op-spec : {M : Type 1} → statement M
 add-op-spec =

@@ -11,38 +11,17 @@ padding-requires c κs = search needs
 add-total : tie.Need-add-total
 add-total c = search needs
 
-add-fill-few : tie.Need-add-fill-few
-add-fill-few c = search needs
+add-set-starts : tie.Need-add-set-starts
+add-set-starts c = search needs
 
-add-fill-few-2 : tie.Need-add-fill-few-2
-add-fill-few-2 c = search needs
+set-starts-requires : tie.Need-set-starts-requires
+set-starts-requires c κs = search needs
 
-sub-fill-few : tie.Need-sub-fill-few
-sub-fill-few c = search needs
+set-flag-requires : tie.Need-set-flag-requires
+set-flag-requires c κs = search needs
 
-fill-few-requires : tie.Need-fill-few-requires
-fill-few-requires c κs = search needs
-
-add-store8 : tie.Need-add-store8
-add-store8 c = search needs
-
-add-store8-2 : tie.Need-add-store8-2
-add-store8-2 c = search needs
-
-store8-requires : tie.Need-store8-requires
-store8-requires c κs = search needs
-
-add-store-le8 : tie.Need-add-store-le8
-add-store-le8 c = search needs
-
-mul-store-le8 : tie.Need-mul-store-le8
-mul-store-le8 c = search needs
-
-add-store-le8-2 : tie.Need-add-store-le8-2
-add-store-le8-2 c = search needs
-
-store-le8-requires : tie.Need-store-le8-requires
-store-le8-requires c κs = search needs
+set-number-requires : tie.Need-set-number-requires
+set-number-requires c κs = search needs
 
 same-length : tie.Need-same-length
 same-length c = search needs
@@ -51,7 +30,7 @@ returns : tie.Need-returns
 unfolding closedRun
 returns c =
     let e = c .before .before .before .before .before .before .before .before .before .before .before .before .before .padding .ensures .0 in
-    (ap (λ (k : ℕ). c .before .before .before .before .before .before .before .before .before .before .before .before .before .before .before .args .self .total + k) e, c .before .before .store-le8 .ensures ∙ rw (c .before .before .before .before .before .before .store8 .ensures, c .before .before .before .before .before .before .before .before .before .before .fill-few .ensures, e))
+    (ap (λ (k : ℕ). c .before .before .before .before .before .before .before .before .before .before .before .before .before .before .before .args .self .total + k) e, c .before .before .set-number .ensures ∙ rw (c .before .before .before .before .before .before .set-flag .ensures, c .before .before .before .before .before .before .before .before .before .before .set-starts .ensures, e))
 
 pub close-spec : {M : Type 1} → statement M
 close-spec =
@@ -59,16 +38,9 @@ close-spec =
     (tie.spec
     padding-requires
     add-total
-    add-fill-few
-    add-fill-few-2
-    sub-fill-few
-    fill-few-requires
-    add-store8
-    add-store8-2
-    store8-requires
-    add-store-le8
-    mul-store-le8
-    add-store-le8-2
-    store-le8-requires
+    add-set-starts
+    set-starts-requires
+    set-flag-requires
+    set-number-requires
     same-length
     returns)

@@ -2,9 +2,10 @@ use mathlib.Core.Path.{_≡_, refl, sym, ap, ap₂, _∙_}
 use mathlib.Core.List.{List}
 use Prim.Native.Nat.{ℕ, _+_, _-_, _≤_}
 use native.Mathlib.Omega.{arith}
-use lib.ListN.{length, set}
+use lib.ListN.{length}
 use borrow.Author.Needs.{needs}
 use Rattle.rules.specs.Batching.{target}
+use Rattle.op_batch.specs.Stores.{countSet}
 use Rattle.batcher.specs.declared.OpBatchAccumulator.{OpBatchAccumulator}
 use Rattle.batcher.specs.Good.{recordGroups, Good}
 use Rattle.batcher.specs.Model.{padOf, closedRun, filledAcc, filledRun, lastAcc, endedTotal, endedRun}
@@ -13,16 +14,16 @@ use Rattle.batcher.proofs.OpBatchAccumulator.into_batch.Statement.{stat
 use Rattle.batcher.proofs.OpBatchAccumulator.into_batch.Tie as tie
 
 abbrev Inv-loop : tie.InvT-loop
-Inv-loop at records₀ count a₀ records a =
+Inv-loop b records₀ count a₀ records a =
     Good recordGroups a
     × (a .next ≤ count)
     × (count ≤ recordGroups)
     × (length records ≡ length records₀)
     × (filledAcc (count - a .next) a ≡ filledAcc (count - a₀ .next) a₀)
-    × (filledRun (count - a .next) at a records ≡ filledRun (count - a₀ .next) at a₀ records₀)
+    × (filledRun (count - a .next) b a records ≡ filledRun (count - a₀ .next) b a₀ records₀)
 
 abbrev μ-loop : tie.MeasureT-loop
-μ-loop at records₀ count a₀ records a = count - a .next
+μ-loop b records₀ count a₀ records a = count - a .next
 
 target-num-groups-requires : tie.Need-target-num-groups-requires Inv-loop μ-loop
 target-num-groups-requires c κs = search needs
@@ -51,17 +52,14 @@ loop-again c =
 close-requires : tie.Need-close-requires Inv-loop μ-loop
 close-requires c κs = (c .before .before .before .loop .inv .0, c .before .before .before .before .before .before .pre .1)
 
-add-store8 : tie.Need-add-store8 Inv-loop μ-loop
-add-store8 c = search needs
+cast-set-count : tie.Need-cast-set-count Inv-loop μ-loop
+cast-set-count c = omega (arith, c .before .before .before .before .before .before .before .loop .inv .2)
 
-cast-store8 : tie.Need-cast-store8 Inv-loop μ-loop
-cast-store8 c = omega (arith, c .before .before .before .before .before .before .before .loop .inv .2)
-
-store8-requires : tie.Need-store8-requires Inv-loop μ-loop
-store8-requires c κs = search needs
+set-count-requires : tie.Need-set-count-requires Inv-loop μ-loop
+set-count-requires c κs = search needs
 
 same-length : tie.Need-same-length Inv-loop μ-loop
-same-length c = omega (arith, c .before .before .store8 .kept, c .before .before .before .before .before .before .close .kept, c .before .before .before .before .before .before .before .before .before .before .loop .inv .3)
+same-length c = omega (arith, c .before .before .set-count .kept, c .before .before .before .before .before .before .close .kept, c .before .before .before .before .before .before .before .before .before .before .loop .inv .3)
 
 returns : tie.Need-returns Inv-loop μ-loop
 unfolding lastAcc endedTotal endedRun
@@ -72,9 +70,9 @@ returns c =
     let a = c .before .before .before .before .before .before .before .before .before .before .before .before .before .args in
     let k = c .before .before .before .before .before .before .close .ensures in
     let la : l .a ≡ lastAcc (a .self) = sym (filled-none _ (l .a) h) ∙ l .inv .4 ∙ rw g in
-    let lr : l .records ≡ filledRun (target (a .self .next) - a .self .next) (a .at) (a .self) (a .records .now) = sym (run-none _ (l .a) (a .at) (l .records) h) ∙ l .inv .5 ∙ rw g in (
+    let lr : l .records ≡ filledRun (target (a .self .next) - a .self .next) (a .b) (a .self) (a .records .now) = sym (run-none _ (l .a) (a .b) (l .records) h) ∙ l .inv .5 ∙ rw g in (
       k .0 ∙ ap (λ (x : OpBatchAccumulator). x .total + padOf x) la,
-      c .before .before .store8 .ensures ∙ ap₂ (λ (x : List ℕ) (n : ℕ). set x (a .at + 81) n) (k .1 ∙ ap₂ (λ (x : OpBatchAccumulator) (y : List ℕ). closedRun (a .at) x y) la lr) g,
+      c .before .before .set-count .ensures ∙ ap₂ (λ (x : List ℕ) (n : ℕ). countSet (a .b) n x) (k .1 ∙ ap₂ (λ (x : OpBatchAccumulator) (y : List ℕ). closedRun (a .b) x y) la lr) g,
     )
 
 pub into-batch-spec : {M : Type 1} → statement M
@@ -89,8 +87,7 @@ into-batch-spec =
     loop-less
     loop-again
     close-requires
-    add-store8
-    cast-store8
-    store8-requires
+    cast-set-count
+    set-count-requires
     same-length
     returns)
