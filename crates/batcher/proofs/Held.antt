@@ -17,18 +17,20 @@ use Rattle.op_batch.specs.Stores.{numberSet}
 use Rattle.rules.proofs.Answer.{clash, value, first-turn, first-stop, first-done}
 use Rattle.rules.proofs.Operations.{op, kind-at, admitted, operations-turn, operations-end}
 use Rattle.rules.proofs.Runs.{fitted-length, fitted-set}
-use Rattle.batcher.specs.declared.OpBatchAccumulator.{OpBatchAccumulator}
+use Rattle.accumulator.specs.declared.OpBatchAccumulator.{OpBatchAccumulator}
 use Rattle.batcher.specs.declared.Work.{Work}
-use Rattle.batcher.specs.Good.{recordGroups, Good}
-use Rattle.batcher.specs.Going.{accOf, written, drafted, recordWith, Held, Going}
+use Rattle.accumulator.specs.Good.{recordGroups, Good}
+use Rattle.accumulator.specs.View.{accOf, written, drafted, recordWith}
+use Rattle.batcher.specs.Going.{Held, Going}
 use Rattle.batcher.specs.declared.Batches.the-variants.{Done, Fault}
 use Rattle.batcher.specs.Batched.{listed, batchesIn, Batched}
-use Rattle.batcher.specs.Model.{newAcc, fitsIn, readyAcc, addedAcc, addedRun, endedTotal, endedRun, endedWork, endedWorkRun, roomWork, roomRun, steppedWork, steppedRun, lastPlace}
-use Rattle.batcher.proofs.Good as good
+use Rattle.accumulator.specs.Model.{newAcc, fitsIn, readyAcc, addedAcc, addedRun, endedTotal, endedRun}
+use Rattle.batcher.specs.Model.{endedWork, endedWorkRun, roomWork, roomRun, steppedWork, steppedRun, lastPlace}
+use Rattle.accumulator.proofs.Good as good
 use Rattle.batcher.proofs.Keeps.{roomy}
-use Rattle.batcher.proofs.Draft.{run-empty}
-use Rattle.batcher.proofs.Groups.{unseen-ended, unseen-ready, seen-added, added-length, padded-more, records-more, records-length}
-use Rattle.batcher.proofs.View.{acc-empty, acc-fits, acc-total, acc-next, acc-ready, acc-added, closed-free, ended-count, run-added, run-kept, run-ended}
+use Rattle.accumulator.proofs.Draft.{run-empty}
+use Rattle.accumulator.proofs.Groups.{unseen-ended, unseen-ready, seen-added, added-length, padded-more, records-more, records-length}
+use Rattle.accumulator.proofs.View.{acc-empty, acc-fits, acc-total, acc-next, acc-ready, acc-added, closed-free, ended-count, run-added, run-kept, run-ended}
 
 abbrev recordsOf : List (List Group) → List ℕ
 recordsOf bs = recordsBytes (map recordOf bs)

@@ -13,10 +13,11 @@ use Rattle.op_batch.specs.Stores.{numberSet}
 use Rattle.rules.specs.Operations.{assigned, valued, field, valueRight, admissible, opFault}
 use Rattle.rules.specs.Functions.{Arena, arena}
 use Rattle.rules.proofs.Operations.{op, kind-at, fault-none, Admissible, admitted}
-use Rattle.batcher.specs.declared.OpBatchAccumulator.{OpBatchAccumulator}
+use Rattle.accumulator.specs.declared.OpBatchAccumulator.{OpBatchAccumulator}
 use Rattle.batcher.specs.declared.Work.{Work}
-use Rattle.batcher.specs.Good.{recordGroups}
-use Rattle.batcher.specs.Model.{fitsIn, crosses, slottedAcc, slottedRun, joinedAcc, readyAcc, readyRun, addedAcc, addedRun, roomWork, roomRun, steppedWork, steppedRun, lastPlace, keptRun, lastImm, takenWork, Joins}
+use Rattle.accumulator.specs.Good.{recordGroups}
+use Rattle.accumulator.specs.Model.{fitsIn, crosses, slottedAcc, slottedRun, joinedAcc, readyAcc, readyRun, addedAcc, addedRun}
+use Rattle.batcher.specs.Model.{roomWork, roomRun, steppedWork, steppedRun, lastPlace, keptRun, lastImm, takenWork, Joins}
 use Rattle.batcher.specs.Going.{Going}
 use Rattle.batcher.proofs.Held.{held-kept, steppedRuns, going-turn}
 

@@ -4,9 +4,10 @@ use mathlib.Core.Bool.{Bool, true, false, cond}
 use Prim.Native.Nat.{ℕ, _+_, _≤_, _<_}
 use native.Mathlib.Omega.{arith}
 use Rattle.batcher.specs.declared.Work.{Work}
-use Rattle.batcher.specs.Good.{recordGroups, Good}
-use Rattle.batcher.specs.Model.{fitsIn, addedAcc, endedWork, roomWork}
-use Rattle.batcher.proofs.Good.{good-wider, ended-total, added-good, added-total, new-good, new-fits, total-le}
+use Rattle.accumulator.specs.Good.{recordGroups, Good}
+use Rattle.accumulator.specs.Model.{fitsIn, addedAcc}
+use Rattle.batcher.specs.Model.{endedWork, roomWork}
+use Rattle.accumulator.proofs.Good.{good-wider, ended-total, added-good, added-total, new-good, new-fits, total-le}
 
 pub record Roomy (w : ℕ) (imm : Bool) (s r : Work) : Type 0 where
   pub good : Good w (r .acc)

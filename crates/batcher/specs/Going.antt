@@ -1,53 +1,19 @@
 -- No public contract cites this page: how the work in hand and the three lent runs hold the rules' work, and what each turn of the driver keeps.
 use mathlib.Core.Path.{_≡_}
-use mathlib.Core.Bool.{Bool, false}
-use mathlib.Core.List.{List, [], _∷_, _++_, map}
-use Prim.Native.Nat.{ℕ, _+_, _*_, _^_, _≤_}
+use mathlib.Core.List.{List, _++_, map}
+use Prim.Native.Nat.{ℕ, _*_, _≤_}
 use lib.ListN.{length, drop}
 use Rattle.rules.specs.Lists.{fitted}
 use Rattle.rules.specs.Answer.{good, refuseFirst}
-use Rattle.rules.specs.Operations.{Op, operations, codes, values, opFault}
+use Rattle.rules.specs.Operations.{operations, codes, values, opFault}
 use Rattle.rules.specs.Batching as rule
-use Rattle.rules.specs.Batching.{Group, ops, imm, Batch, nextFree, wantsNoop, start, steps, batchesOf}
-use Rattle.rules.specs.Record.{Record, startsFrom, sizeOf, flagOf, numberOf, codesNumber, opsOf, paddedOf, recordOf, blockOf, recordBytes, recordsBytes}
+use Rattle.rules.specs.Batching.{start, steps, batchesOf}
+use Rattle.rules.specs.Record.{paddedOf, recordOf, blockOf, recordBytes, recordsBytes}
 use Rattle.rules.specs.Functions.{Arena}
-use Rattle.batcher.specs.declared.OpBatchAccumulator.{OpBatchAccumulator}
+use Rattle.accumulator.specs.Good.{Good}
+use Rattle.accumulator.specs.View.{accOf, written, drafted, recordWith}
 use Rattle.batcher.specs.declared.Work.{Work}
-use Rattle.batcher.specs.Good.{Good}
 use Rattle.batcher.specs.Batched.{listed}
-
--- ---- the accumulator's numbers, as a view of a batch of the rules
-
--- whether a group that is not empty ends in an operation with an immediate
-unfoldable pub endsIn : List ℕ → List Op → Bool
-endsIn t [] = false
-endsIn t (x ∷ xs) = wantsNoop t (x ∷ xs)
-
-unfoldable pub accOf : List ℕ → Batch → OpBatchAccumulator
-accOf t b =
-    record {
-      cur = length (b .closed);
-      next = nextFree b;
-      inside = length (b .current);
-      number = codesNumber (b .current);
-      place = 128 ^ length (b .current);
-      total = length (opsOf (b .closed)) + length (b .current);
-      tail = endsIn t (b .current);
-    }
-
--- the operations written so far
-unfoldable pub written : Batch → List Op
-written b = opsOf (b .closed) ++ b .current
-
--- ---- its record
-
--- the groups so far, the current one still empty
-unfoldable pub drafted : Batch → List Group
-drafted b = b .closed ++ ops [] false ∷ map imm (b .placed)
-
--- the record of the groups so far, with c for the count
-unfoldable pub recordWith : ℕ → List Group → Record
-recordWith c gs = record { starts = startsFrom 0 (fitted 8 (map sizeOf gs)); flags = fitted 8 (map flagOf gs); numbers = fitted 8 (map numberOf gs); count = c }
 
 -- ---- the work in hand: `e` are the runs as they came, `a` as they are now; `w` is the width
 

@@ -1,240 +1,16 @@
-// The greedy batcher (document 01, "Batching (000)"): an accumulator of plain numbers that goes in and out by value, and records that are
-// written to a lent run as groups close and immediates are placed, and never read back. A Noop is opcode 0 and value 0, so that a padding is
-// stored by not being stored: the runs come in all zero. How many groups a batch may have, its width, is handed in; a record has room for
-// eight whatever the width.
+// The greedy driver (document 01, "Batching (000)"): it hands one operation after the other to the accumulator, and ends the batch where one does not
+// fit. The lent runs come in all zero.
+use accumulator::OpBatchAccumulator;
 ghost use mathlib.Core.Path.{_≡_};
 ghost use mathlib.Core.Bool.{true};
 ghost use Prim.Native.Nat.{_+_, _*_, _-_, _≤_, _<_, _^_};
 ghost use lib.ListN.{length, getD, set};
-ghost use Rattle.rules.specs.Batching.{target};
 ghost use Rattle.rules.specs.Record.{recordSize, noBlock};
 ghost use Rattle.rules.specs.Functions.{arena, filled};
-ghost use Rattle.batcher.specs.Good.{recordGroups, Good};
+ghost use Rattle.accumulator.specs.Good.{recordGroups, Good};
 ghost use Rattle.batcher.specs.Going.{Going};
 ghost use Rattle.batcher.specs.Batched.{listed, Batched};
-ghost use Rattle.batcher.specs.Model.{newAcc, fitsIn, padOf, closedRun, turnedAcc, slottedAcc, slottedRun, joinedAcc, crosses, readyAcc, readyRun, addedAcc, addedRun, endedTotal, endedRun, endedWork, endedWorkRun, roomWork, roomRun, steppedWork, steppedRun, lastPlace, keptRun, lastImm, takenWork, Joins};
-
-// operations in a group
-const GROUP_SIZE: usize = 9;
-
-// groups in a record
-const RECORD_GROUPS: usize = 8;
-
-struct OpBatchAccumulator {
-    // the current group, and the next free one
-    cur: usize,
-    next: usize,
-    // operations in the current group, and its number so far
-    inside: usize,
-    number: u64,
-    // what the next opcode counts there: 128 to the power of its position
-    place: u64,
-    // operations in the batch so far
-    total: u8,
-    // whether the last operation of the current group has an immediate
-    tail: bool,
-}
-
-impl OpBatchAccumulator {
-    fn new() -> Self
-        ensures { λ r. ⌜ r ≡ newAcc ⌝ }
-    {
-        OpBatchAccumulator {
-            cur: 0,
-            next: 1,
-            inside: 0,
-            number: 0,
-            place: 1,
-            total: 0,
-            tail: false,
-        }
-    }
-
-    // Whether an operation fits, with an immediate or without, in a batch of so many groups.
-    fn can_accept_op(self, width: usize, imm: bool) -> bool
-        requires { ⌜ self .next ≤ recordGroups ⌝ }
-        ensures { λ r. ⌜ r ≡ fitsIn width imm self ⌝ }
-    {
-        if imm {
-            if self.inside < GROUP_SIZE - 1 {
-                return self.next < width;
-            }
-            return self.next + 1 < width;
-        }
-        if self.inside < GROUP_SIZE {
-            return true;
-        }
-        self.next < width
-    }
-
-    // Adds an operation to the b-th batch, whose record has room for it.
-    fn add_op(self, code: u8, imm: bool, v: u64, b: usize, records: &mut [u8]) -> Self
-        requires { ⌜ Good recordGroups self ⌝ }
-        requires { ⌜ fitsIn recordGroups imm self ≡ true ⌝ }
-        requires { ⌜ (code < 128) × (b < 2 ^ 20) ⌝ }
-        ensures acc { λ r. ⌜ r ≡ addedAcc code imm self ⌝ }
-        ensures run { λ _. ⌜ now (records .exit) ≡ addedRun imm v b self (now (records .entry)) ⌝ }
-    {
-        let a = self.advance(imm, b, records);
-        if imm {
-            let d = a.place_imm(v, b, records);
-            return d.push_op(code, imm);
-        }
-        a.push_op(code, imm)
-    }
-
-    // Ends the batch: its record is whole, and its operations are returned.
-    fn into_batch(self, b: usize, records: &mut [u8]) -> u8
-        requires { ⌜ Good recordGroups self ⌝ }
-        requires { ⌜ b < 2 ^ 20 ⌝ }
-        ensures total { λ r. ⌜ r ≡ endedTotal self ⌝ }
-        ensures run { λ _. ⌜ now (records .exit) ≡ endedRun b self (now (records .entry)) ⌝ }
-    {
-        let count = target_num_groups(self.next);
-        let mut a = self;
-        while a.next < count {
-            a = a.finalize_op_group(b, records);
-        }
-        let total = a.close(b, records);
-        op_batch::set_count(records, b, count as u8);
-        total
-    }
-
-    // Closes the current group and opens the next free one.
-    fn finalize_op_group(self, b: usize, records: &mut [u8]) -> Self
-        requires { ⌜ Good recordGroups self ⌝ }
-        requires { ⌜ b < 2 ^ 20 ⌝ }
-        ensures acc { λ r. ⌜ r ≡ turnedAcc self ⌝ }
-        ensures run { λ _. ⌜ now (records .exit) ≡ closedRun b self (now (records .entry)) ⌝ }
-    {
-        let total = self.close(b, records);
-        OpBatchAccumulator {
-            cur: self.next,
-            next: self.next + 1,
-            inside: 0,
-            number: 0,
-            place: 1,
-            total,
-            tail: false,
-        }
-    }
-
-    // Writes what the record says of the current group, and returns the batch's operations with its Noop. All later starts are the total
-    // so far: the starts of the group's immediates, of the next group, and those that repeat the total if no group follows.
-    fn close(self, b: usize, records: &mut [u8]) -> u8
-        requires { ⌜ Good recordGroups self ⌝ }
-        requires { ⌜ b < 2 ^ 20 ⌝ }
-        ensures total { λ r. ⌜ r ≡ self .total + padOf self ⌝ }
-        ensures run { λ _. ⌜ now (records .exit) ≡ closedRun b self (now (records .entry)) ⌝ }
-    {
-        let pad = self.padding();
-        let cur = self.cur;
-        let total = self.total + pad;
-        op_batch::set_starts(records, b, cur + 1, total);
-        op_batch::set_flag(records, b, cur, pad);
-        op_batch::set_number(records, b, cur, self.number);
-        total
-    }
-
-    // The operation joins the current group.
-    fn push_op(self, code: u8, imm: bool) -> Self
-        requires { ⌜ Good recordGroups self ⌝ }
-        requires { ⌜ (code < 128) × (self .inside < 9) ⌝ }
-        ensures { λ r. ⌜ r ≡ joinedAcc code imm self ⌝ }
-    {
-        let number = self.number_with(code);
-        OpBatchAccumulator {
-            cur: self.cur,
-            next: self.next,
-            inside: self.inside + 1,
-            number,
-            place: self.place * 128,
-            total: self.total + 1,
-            tail: imm,
-        }
-    }
-
-    // 1 where the current group wants a Noop: it is empty, or ends in an operation with an immediate.
-    fn padding(self) -> u8
-        ensures { λ r. ⌜ (r ≡ padOf self) × (r ≤ 1) ⌝ }
-    {
-        if self.inside == 0 {
-            return 1;
-        }
-        if self.tail {
-            return 1;
-        }
-        0
-    }
-
-    // The current group's number with one opcode more.
-    fn number_with(self, code: u8) -> u64
-        requires { ⌜ Good recordGroups self ⌝ }
-        requires { ⌜ (code < 128) × (self .inside < 9) ⌝ }
-        ensures { λ r. ⌜ r ≡ self .number + code * self .place ⌝ }
-    {
-        self.number + word::wide(code) * self.place
-    }
-
-    // Whether the current group cannot take the operation: no immediate is ninth.
-    fn full(self, imm: bool) -> bool
-        ensures { λ r. ⌜ r ≡ crosses imm self ⌝ }
-    {
-        if imm {
-            return GROUP_SIZE - 1 <= self.inside;
-        }
-        GROUP_SIZE <= self.inside
-    }
-
-    fn advance(self, imm: bool, b: usize, records: &mut [u8]) -> Self
-        requires { ⌜ Good recordGroups self ⌝ }
-        requires { ⌜ b < 2 ^ 20 ⌝ }
-        ensures acc { λ r. ⌜ r ≡ readyAcc imm self ⌝ }
-        ensures run { λ _. ⌜ now (records .exit) ≡ readyRun imm b self (now (records .entry)) ⌝ }
-    {
-        if self.full(imm) {
-            return self.finalize_op_group(b, records);
-        }
-        self
-    }
-
-    // An immediate takes the next free group.
-    fn place_imm(self, v: u64, b: usize, records: &mut [u8]) -> Self
-        requires { ⌜ (self .next < recordGroups) × (b < 2 ^ 20) ⌝ }
-        ensures acc { λ r. ⌜ r ≡ slottedAcc self ⌝ }
-        ensures run { λ _. ⌜ now (records .exit) ≡ slottedRun v b self (now (records .entry)) ⌝ }
-    {
-        let next = self.next;
-        op_batch::set_number(records, b, next, v);
-        OpBatchAccumulator {
-            cur: self.cur,
-            next: next + 1,
-            inside: self.inside,
-            number: self.number,
-            place: self.place,
-            total: self.total,
-            tail: self.tail,
-        }
-    }
-}
-
-// How many groups a batch is filled up to: the next power of two, up to 8.
-fn target_num_groups(n: usize) -> usize
-    ensures { λ r. ⌜ r ≡ target n ⌝ }
-{
-    if n <= 1 {
-        return 1;
-    }
-    if n <= 2 {
-        return 2;
-    }
-    if n <= 4 {
-        return 4;
-    }
-    8
-}
-
-// ---- the driver
+ghost use Rattle.batcher.specs.Model.{endedWork, endedWorkRun, roomWork, roomRun, steppedWork, steppedRun, lastPlace, keptRun, lastImm, takenWork, Joins};
 
 // The batch in hand, and how many padded operations and batches stand before it.
 struct Work {
@@ -355,7 +131,7 @@ fn keep(v: u64, b: usize, next: usize, records: &mut [u8])
     requires { ⌜ recordSize * b + recordSize ≤ length (now records) ⌝ }
     ensures { λ _. ⌜ now (records .exit) ≡ keptRun v b next (now (records .entry)) ⌝ }
 {
-    if next < RECORD_GROUPS {
+    if next < accumulator::RECORD_GROUPS {
         op_batch::put_number(records, b, next, v);
     }
 }
@@ -365,10 +141,10 @@ fn room_ahead(from: usize, b: usize, codes: usize, values: usize, records: usize
     requires { ⌜ (from < 2 ^ 32) × (b < 2 ^ 20) ⌝ }
     ensures { λ r. ⌜ (r ≡ true → (from + 9 ≤ codes) × (from + 9 ≤ values) × (recordSize * b + recordSize ≤ records)) ⌝ }
 {
-    if codes < from + GROUP_SIZE {
+    if codes < from + accumulator::GROUP_SIZE {
         return false;
     }
-    if values < from + GROUP_SIZE {
+    if values < from + accumulator::GROUP_SIZE {
         return false;
     }
     op_batch::RECORD * b + op_batch::RECORD <= records
@@ -379,10 +155,10 @@ fn most(inside: usize, i: usize, len: usize) -> usize
     requires { ⌜ (inside ≤ 9) × (i ≤ len) ⌝ }
     ensures { λ r. ⌜ (inside + r ≤ 9) × (i + r ≤ len) ⌝ }
 {
-    if len - i < GROUP_SIZE - inside {
+    if len - i < accumulator::GROUP_SIZE - inside {
         return len - i;
     }
-    GROUP_SIZE - inside
+    accumulator::GROUP_SIZE - inside
 }
 
 // Whether the last of n operations has an immediate: looked up once they have joined, so that the loop has one thing less in hand.

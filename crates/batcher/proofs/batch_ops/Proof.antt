@@ -6,7 +6,7 @@ use lib.ListN.{length}
 use Rattle.rules.specs.Functions.{arena}
 use Rattle.rules.proofs.Operations.{admitted}
 use Rattle.batcher.specs.Going.{Going}
-use Rattle.batcher.proofs.Good.{good-wider}
+use Rattle.accumulator.proofs.Good.{good-wider}
 use Rattle.batcher.proofs.Held.{going-start, going-good, going-turn, going-here, going-back, going-lengths, going-end, going-fault}
 use Rattle.batcher.proofs.batch_ops.Statement.{statement}
 use Rattle.batcher.proofs.batch_ops.Tie as tie

@@ -1,5 +1,5 @@
 use borrow.Author.Tests.{not-false}
-use Rattle.batcher.proofs.Good.{good-wider, joined-fits, total-le}
+use Rattle.accumulator.proofs.Good.{good-wider, joined-fits, total-le}
 use mathlib.Core.Path.{_≡_}
 use Prim.Native.Nat.{_+_, _-_, _≤_, _<_}
 use native.Mathlib.Omega.{arith}

@@ -1,5 +1,5 @@
 use borrow.Author.Tests.{le-ltb, lt-ltb}
-use Rattle.batcher.specs.Good.{recordGroups}
+use Rattle.accumulator.specs.Good.{recordGroups}
 use Rattle.batcher.specs.Model.{keptRun}
 use borrow.Author.Needs.{needs}
 use Rattle.batcher.proofs.keep.Statement.{statement}

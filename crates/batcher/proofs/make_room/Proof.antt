@@ -1,6 +1,7 @@
 use mathlib.Core.Path.{_≡_, sym, _∙_}
 use mathlib.Core.Bool.{true, false}
-use Rattle.batcher.specs.Model.{fitsIn, roomWork, roomRun}
+use Rattle.accumulator.specs.Model.{fitsIn}
+use Rattle.batcher.specs.Model.{roomWork, roomRun}
 use borrow.Author.Needs.{needs}
 use Rattle.batcher.proofs.make_room.Statement.{statement}
 use Rattle.batcher.proofs.make_room.Tie as tie

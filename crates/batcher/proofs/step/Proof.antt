@@ -1,8 +1,8 @@
 use mathlib.Core.Path.{_∙_}
 use native.Mathlib.Omega.{arith}
-use Rattle.batcher.specs.Good.{recordGroups}
+use Rattle.accumulator.specs.Good.{recordGroups}
 use Rattle.batcher.specs.Model.{roomWork, steppedWork, steppedRun}
-use Rattle.batcher.proofs.Good.{good-wider, fits-wider}
+use Rattle.accumulator.proofs.Good.{good-wider, fits-wider}
 use Rattle.batcher.proofs.Keeps.{roomy, stepped-total}
 use borrow.Author.Needs.{needs}
 use Rattle.batcher.proofs.step.Statement.{statement}
