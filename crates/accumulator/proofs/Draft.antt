@@ -8,17 +8,18 @@ use native.Mathlib.Numerals.{add-one}
 use native.Mathlib.Omega.{arith}
 use lib.ListN.{length, set, replicate, length-append, length-map, length-replicate, length-set}
 use lib.Seq.{sets, length-sets}
-use Rattle.rules.specs.Lists.{fitted, total}
+use Rattle.rules.specs.Lists.{fitted, total, inRow}
 use Rattle.rules.specs.Digits.{digits, number}
 use Rattle.rules.specs.Operations.{Op, codes}
 use Rattle.rules.specs.Batching.{Group, ops, imm}
-use Rattle.rules.specs.Record.{Record, startsFrom, recordBy, opsIn, sizeOf, flagOf, codesNumber, numberOf, recordOf, opsOf, recordSize, wordBytes, recordBytes}
+use Rattle.rules.specs.Record.{Record, startsFrom, recordBy, opsIn, sizeOf, flagOf, codesNumber, numberOf, recordOf, opsOf, recordSize, recordBytes, NineAndEight}
 use Rattle.rules.proofs.Runs.{fitted-length, fitted-zeros, sets-all}
 use Rattle.rules.proofs.Sizes.{length-starts}
 use Rattle.op_batch.specs.Stores.{startsSet, flagSet, numberSet, countSet, withStarts, withFlag, withNumber}
-use Rattle.op_batch.proofs.Stores.{Whole, record-length, starts-set, flag-set, number-set, count-set}
+use Rattle.op_batch.proofs.Stores.{starts-set, flag-set, number-set, count-set}
 use Rattle.accumulator.specs.Good.{recordGroups}
 use Rattle.accumulator.specs.View.{recordWith}
+use Rattle.rules.proofs.Records.{record-length}
 
 -- ---- a view of each group, cut or filled up: one group replaced, one more, one more whose view is 0
 
@@ -71,7 +72,7 @@ starts-more (suc k) n (x ∷ ks) j m tot e h t =
     ∙ ap (λ (l : List ℕ). n ∷ l) (starts-more k (n + x) ks j m tot (omega arith) h (omega arith))
 
 sizes-total : (gs : List Group) → total (map sizeOf gs) ≡ length (opsOf gs)
-unfolding total sizeOf opsOf
+unfolding total sizeOf inRow
 sizes-total [] = refl
 sizes-total (g ∷ gs) = omega (arith, sizes-total gs, length-append (opsIn g) (opsOf gs))
 
@@ -99,7 +100,7 @@ starts-close xs ys p vs tot h e =
 
 -- ---- the record of the groups so far
 
-whole : (c : ℕ) (gs : List Group) → Whole (recordWith c gs)
+whole : (c : ℕ) (gs : List Group) → NineAndEight (recordWith c gs)
 unfolding recordWith
 whole c gs =
     record {
@@ -150,7 +151,7 @@ length-record gs = ap (λ (r : Record). length (recordBytes r)) (sym (record-don
 -- ---- and a run that holds p and that record after it, as far as it goes
 
 zeros : recordBytes (recordWith 0 (ops [] false ∷ [])) ≡ replicate recordSize 0
-unfolding recordWith recordBytes startsFrom opsIn sizeOf flagOf numberOf codesNumber codes number wordBytes fitted digits
+unfolding recordWith recordBytes startsFrom opsIn sizeOf flagOf numberOf codesNumber codes number inRow fitted digits
 zeros = refl
 
 -- an empty record is zeros
@@ -161,11 +162,11 @@ module _ (n : ℕ) (p : List ℕ) (b : ℕ) (at : length p ≡ recordSize * b) w
   abbrev Run : Record → List ℕ
   Run r = fitted n (p ++ recordBytes r)
 
-  closed-run : (r : Record) → Whole r → (cur tot pad num : ℕ) → cur < recordGroups → numberSet b cur num (flagSet b cur pad (startsSet b (cur + 1) tot (Run r))) ≡ Run (closeAt cur tot pad num r)
+  closed-run : (r : Record) → NineAndEight r → (cur tot pad num : ℕ) → cur < recordGroups → numberSet b cur num (flagSet b cur pad (startsSet b (cur + 1) tot (Run r))) ≡ Run (closeAt cur tot pad num r)
   closed-run r w cur tot pad num h =
       let r1 = withStarts (cur + 1) tot r in
-      let w1 : Whole r1 = record { starts = length-sets (r .starts) (cur + 1) (replicate (9 - (cur + 1)) tot) ∙ w .starts; flags = w .flags; numbers = w .numbers } in
-      let w2 : Whole (withFlag cur pad r1) = record { starts = w1 .starts; flags = length-set (r .flags) cur pad ∙ w .flags; numbers = w .numbers } in
+      let w1 : NineAndEight r1 = record { starts = length-sets (r .starts) (cur + 1) (replicate (9 - (cur + 1)) tot) ∙ w .starts; flags = w .flags; numbers = w .numbers } in
+      let w2 : NineAndEight (withFlag cur pad r1) = record { starts = w1 .starts; flags = length-set (r .flags) cur pad ∙ w .flags; numbers = w .numbers } in
       ap (λ (l : List ℕ). numberSet b cur num (flagSet b cur pad l)) (starts-set n p b at r w (cur + 1) tot (omega arith))
       ∙ ap (numberSet b cur num) (flag-set n p b at r1 w1 cur pad h)
       ∙ number-set n p b at (withFlag cur pad r1) w2 cur num h

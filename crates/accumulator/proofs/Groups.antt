@@ -8,7 +8,7 @@ use native.Mathlib.Omega.{arith}
 use borrow.Author.Tests.{ne-eqb}
 use lib.Dec.{eqb}
 use lib.ListN.{length, length-append, length-map}
-use Rattle.rules.specs.Lists.{fitted}
+use Rattle.rules.specs.Lists.{fitted, inRow}
 use Rattle.rules.specs.Digits.{number}
 use Rattle.rules.specs.Operations.{Op, noop, codes, hasImmediate}
 use Rattle.rules.specs.Batching.{Group, ops, imm, Batch, nextFree, wantsNoop, closeGroup, groups, turned, joined, ready, full, added, turnedTimes, target, ended}
@@ -57,12 +57,12 @@ ops-closed t xs = go (wantsNoop t xs)
 -- ---- a batch in the making
 
 ops-append : (xs ys : List Group) → opsOf (xs ++ ys) ≡ opsOf xs ++ opsOf ys
-unfolding opsOf
+unfolding inRow
 ops-append [] ys = refl
 ops-append (x ∷ xs) ys = ap (λ (l : List Op). opsIn x ++ l) (ops-append xs ys) ∙ sym (append-assoc (opsIn x) (opsOf xs) (opsOf ys))
 
 ops-imm : (vs : List ℕ) → opsOf (map imm vs) ≡ []
-unfolding opsOf opsIn
+unfolding inRow opsIn
 ops-imm [] = refl
 ops-imm (v ∷ vs) = ops-imm vs
 
@@ -71,7 +71,7 @@ unfolding written
 written-length b = length-append (opsOf (b .closed)) (b .current)
 
 pub groups-ops : (t : List ℕ) (b : Batch) → opsOf (groups t b) ≡ written b ++ pad t (b .current)
-unfolding groups written opsOf
+unfolding groups written inRow
 groups-ops t b =
     ops-append (b .closed) (closeGroup t (b .current) ∷ map imm (b .placed))
     ∙ ap (λ (l : List Op). opsOf (b .closed) ++ l) (ap₂ (λ (x y : List Op). x ++ y) (ops-closed t (b .current)) (ops-imm (b .placed)) ∙ append-nil (b .current ++ pad t (b .current)))
@@ -159,18 +159,18 @@ module _ (f : Op → ℕ) (z : f noop ≡ 0) (n : ℕ) (q : List Op) where
 -- ---- several batches
 
 pub padded-more : (bs : List (List Group)) (b : List Group) → paddedOf (bs ++ (b ∷ [])) ≡ paddedOf bs ++ opsOf b
-unfolding paddedOf
+unfolding inRow
 padded-more [] b = append-nil (opsOf b)
 padded-more (a ∷ bs) b = ap (λ (l : List Op). opsOf a ++ l) (padded-more bs b) ∙ sym (append-assoc (opsOf a) (paddedOf bs) (opsOf b))
 
 pub records-more : (bs : List (List Group)) (b : List Group) → recordsBytes (map recordOf (bs ++ (b ∷ []))) ≡ recordsBytes (map recordOf bs) ++ recordBytes (recordOf b)
-unfolding recordsBytes
+unfolding inRow
 records-more [] b = append-nil (recordBytes (recordOf b))
 records-more (a ∷ bs) b =
     ap (λ (l : List ℕ). recordBytes (recordOf a) ++ l) (records-more bs b) ∙ sym (append-assoc (recordBytes (recordOf a)) (recordsBytes (map recordOf bs)) (recordBytes (recordOf b)))
 
 pub records-length : (bs : List (List Group)) → length (recordsBytes (map recordOf bs)) ≡ recordSize * length bs
-unfolding recordsBytes
+unfolding inRow
 records-length [] = refl
 records-length (b ∷ bs) =
     omega (arith, length-append (recordBytes (recordOf b)) (recordsBytes (map recordOf bs)), length-record b, records-length bs)

@@ -7,7 +7,7 @@ use native.Mathlib.Nat.{add-zero, zero-mul, pow-suc}
 use native.Mathlib.Numerals.{add-one}
 use native.Mathlib.Omega.{arith}
 use lib.ListN.{length, length-append, length-map}
-use Rattle.rules.specs.Lists.{fitted}
+use Rattle.rules.specs.Lists.{fitted, inRow}
 use Rattle.rules.specs.Digits.{number}
 use Rattle.rules.specs.Operations.{Op, codes, noop, hasImmediate}
 use Rattle.rules.specs.Batching.{Group, ops, imm, Batch, empty, nextFree, fits, wantsNoop, closeGroup, groups, turned, full, joined, ready, added, target, turnedTimes, ended}
@@ -28,7 +28,7 @@ drafted-length b = omega (arith, length-append (b .closed) (ops [] false ∷ map
 -- ---- the numbers
 
 pub acc-empty : (t : List ℕ) → newAcc ≡ accOf t empty
-unfolding accOf empty nextFree endsIn codesNumber codes number opsOf
+unfolding accOf empty nextFree endsIn codesNumber codes number inRow
 acc-empty t = refl
 
 pub acc-next : (t : List ℕ) (b : Batch) → accOf t b .next ≡ nextFree b

@@ -6,7 +6,7 @@ use Prim.Native.Nat.{ℕ, _+_, _-_, _*_, _≤_, _<_}
 use native.Mathlib.Omega.{arith}
 use lib.ListN.{length, getD, drop, set, length-append, length-map}
 use lib.Dec.{eqb}
-use Rattle.rules.specs.Lists.{fitted}
+use Rattle.rules.specs.Lists.{fitted, inRow}
 use Rattle.rules.specs.Answer.{Answer, good, refused, refuseFirst}
 use Rattle.rules.specs.Operations.{Op, operations, codes, values, noop, hasImmediate, opFault}
 use Rattle.rules.specs.Batching as rule
@@ -40,7 +40,7 @@ recordsOf bs = recordsBytes (map recordOf bs)
 module _ (f : Op → ℕ) (z : f noop ≡ 0) (n : ℕ) (t : List ℕ) where
   -- at the end of a batch nothing is stored
   view-end : (bs : List (List Group)) (b : Batch) → fitted n (map f (paddedOf bs ++ written b)) ≡ fitted n (map f (paddedOf (bs ++ (ended t b ∷ [])) ++ written empty))
-  unfolding written empty opsOf
+  unfolding written empty inRow
   view-end bs b =
       sym (unseen-ended f z n (paddedOf bs) t b) ∙ ap (λ (l : List Op). fitted n (map f l)) (sym (padded-more bs (ended t b)) ∙ sym (append-nil (paddedOf (bs ++ (ended t b ∷ [])))))
 
@@ -202,7 +202,7 @@ held-step w e t d s a h two wide x hc =
 -- ---- the loop
 
 pub going-start : (w : ℕ) → 2 ≤ w → (t xs ys : List ℕ) (e : Arena) → e ≡ filled e noBlock → Going w e t xs ys 0 (record { acc = newAcc; base = 0; batches = 0 }) e
-unfolding filled noBlock start written empty codes values opsOf paddedOf recordsBytes
+unfolding filled noBlock start written empty codes values inRow
 going-start w two t xs ys e z =
     record {
       work = start;
@@ -315,7 +315,7 @@ going-turn {w} {e} {t} {xs} {ys} {i} {s} {s′} {a} {a′} g two wide hx hy ht f
 -- ---- the end: what is held is what the driver promises
 
 written-none : (q : List Op) → q ++ written empty ≡ q
-unfolding written empty opsOf
+unfolding written empty inRow
 written-none q = append-nil q
 
 done : (w : ℕ) (e : Arena) (t : List ℕ) (d : rule.Work) (s : Work) (a : Arena) → d .current ≡ empty → Held w e t d s a

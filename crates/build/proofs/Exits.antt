@@ -7,10 +7,11 @@ use native.Mathlib.Omega.{arith}
 use lib.ListN.{length}
 use lib.Dec.{leb}
 use Rattle.rules.specs.Answer.{Answer, good, refused, refuse, refuseFirst}
+use Rattle.rules.specs.Refusals.{no-room₁₃}
 use Rattle.rules.specs.Operations.{operations, opFault}
 use Rattle.rules.specs.Record.{Block, recordSize, noBlock}
 use Rattle.rules.specs.Block.{Room}
-use Rattle.rules.specs.Functions.{Arena, roomIn, filled, roomFor, built, blockLeft}
+use Rattle.rules.specs.Functions.{Arena, roomIn, filled, roomFor, built, leaves}
 use Rattle.rules.proofs.Runs.{fitted-length}
 use Rattle.operation.specs.declared.Verdict.{Verdict}
 use Rattle.operation.specs.declared.Verdict.the-variants as verdict
@@ -39,8 +40,8 @@ refill e a l d = rw (l .0, l .1, l .2)
 pub same-again : (e a : Arena) (b : Block) → a ≡ filled e b → a ≡ filled a b
 same-again e a b p = p ∙ sym (refill e a (same e a b p) b)
 
-outcome : {answer : Room → Answer Block} {r : Built} {e a : Arena} (x : Answer Block) → answer (roomIn e) ≡ x → r ≡ builtOf x → a ≡ filled e (blockLeft x) → Outcome answer r e a
-outcome {answer} {r} {e} {a} x q p s = record { reply = p ∙ ap builtOf (sym q); runs = s ∙ ap (λ (y : Answer Block). filled e (blockLeft y)) (sym q) }
+outcome : {answer : Room → Answer Block} {r : Built} {e a : Arena} (x : Answer Block) → answer (roomIn e) ≡ x → r ≡ builtOf x → a ≡ filled e (leaves noBlock x) → Outcome answer r e a
+outcome {answer} {r} {e} {a} x q p s = record { reply = p ∙ ap builtOf (sym q); runs = s ∙ ap (λ (y : Answer Block). filled e (leaves noBlock y)) (sym q) }
 
 -- what is left once the input has passed
 abbrev left : ℕ → List ℕ → List ℕ → List ℕ → Room → Answer Block
@@ -119,4 +120,4 @@ module _ (w : ℕ) (t cs vs : List ℕ) (v : Verdict) (r : Batches) (e a a′ : 
       made i = outcome (good (blockFor w t cs vs)) (decided true i) (ap (λ (u : Batches). Made (batches u) (padded u)) counts) holds
 
       pub no-room : (a″ : Arena) → x ≡ false → a″ ≡ filled a′ noBlock → Outcome (built w t cs vs) (Refused 13 0) e a″
-      no-room a″ i y = outcome (refused 13 0) (decided false i) refl (y ∙ refill e a′ (same e a′ (blockFor w t cs vs) holds) noBlock)
+      no-room a″ i y = outcome (refused no-room₁₃ 0) (decided false i) refl (y ∙ refill e a′ (same e a′ (blockFor w t cs vs) holds) noBlock)

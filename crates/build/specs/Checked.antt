@@ -5,6 +5,7 @@ use mathlib.Core.List.{List, map}
 use Prim.Native.Nat.{ℕ, _≤_}
 use lib.ListN.{length}
 use Rattle.rules.specs.Answer.{Answer, good, refused, refuse, refuseFirst}
+use Rattle.rules.specs.Refusals.{no-room₁₃}
 use Rattle.rules.specs.Operations.{operations, opFault}
 use Rattle.rules.specs.Batching.{batchesOf}
 use Rattle.rules.specs.Record.{Block, blockOf}
@@ -20,7 +21,7 @@ heard (Refused n p) r = refused n p
 
 -- the last guard: what is left to decide once the operations have passed
 abbrev pub placed : Block → Room → Answer Block
-placed b room = refuse (not (roomFor b room)) 13 0 (good b)
+placed b room = refuse (not (roomFor b room)) no-room₁₃ 0 (good b)
 
 -- the block of a list
 abbrev pub blockFor : ℕ → List ℕ → List ℕ → List ℕ → Block

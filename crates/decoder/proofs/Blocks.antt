@@ -6,6 +6,7 @@ use Prim.Native.Nat.{ℕ, _+_, _≤_, _<_}
 use borrow.Author.Tests.{lt-ltb, le-ltb, lt-leb, le-leb}
 use lib.ListN.{length}
 use Rattle.rules.specs.Answer.{good, refused, Read, found, _then_}
+use Rattle.rules.specs.Refusals.{past-end₁, over-limit₃, left-over₁₁, no-room₁₃, bad-table₁₄}
 use Rattle.rules.specs.Operations.{Op, codes, values, goodTable}
 use Rattle.rules.specs.Record.{Record, Block}
 use Rattle.rules.specs.Bytes.{countAt, nibblesAt, flagsAt}
@@ -23,14 +24,14 @@ module _ (w : ℕ) (t s : List ℕ) (xs : List Op) (k at : ℕ) where
 
   module _ (nss : List (List ℕ)) (next : ℕ) (e : nibblesAt w s k at 0 ≡ found nss next) (z : Sized w s k at nss next) (a : flagsAt w s k next 0 ≡ found (flagsFrom k s next) (next + k)) where
     abbrev pub each : Read (List Record)
-    each = batchesAt w t xs 0 0 (sizesFrom k s at) (flagsFrom k s next)
+    each = batchesAt w t xs (sizesFrom k s at) (flagsFrom k s next)
 
     pub records-lost : (n p : ℕ) → each ≡ refused n p → recordsAt w t s xs k at ≡ refused n p
     unfolding recordsAt layoutAt batchesBy
     records-lost n p f = rw (e, z .sizes, a, f)
 
     module _ (rs : List Record) (end : ℕ) (f : each ≡ found rs end) where
-      pub records-11 : end < length xs → recordsAt w t s xs k at ≡ refused 11 0
+      pub records-11 : end < length xs → recordsAt w t s xs k at ≡ refused left-over₁₁ 0
       unfolding recordsAt layoutAt batchesBy
       records-11 h = rw (e, z .sizes, a, f, lt-ltb end (length xs) h)
 
@@ -63,11 +64,11 @@ module _ (w : ℕ) (t s : List ℕ) (at : ℕ) (room : Room) where
   block-uncounted n p e = rw e
 
   module _ (n a₁ : ℕ) (e : countAt s at ≡ found n a₁) where
-    pub block-codes : room .codes < n → blockAt w t s at room ≡ refused 13 0
+    pub block-codes : room .codes < n → blockAt w t s at room ≡ refused no-room₁₃ 0
     unfolding blockAt headAt
     block-codes h = rw (e, lt-leb n (room .codes) h)
 
-    pub block-values : n ≤ room .codes → room .values < n → blockAt w t s at room ≡ refused 13 0
+    pub block-values : n ≤ room .codes → room .values < n → blockAt w t s at room ≡ refused no-room₁₃ 0
     unfolding blockAt headAt
     block-values g h = rw (e, le-leb n (room .codes) g, lt-leb n (room .values) h)
 
@@ -90,16 +91,16 @@ module _ (w : ℕ) (t s : List ℕ) (at : ℕ) (room : Room) where
 -- ---- what is looked at first
 
 module _ (w : ℕ) (t s : List ℕ) (at : ℕ) (room : Room) where
-  pub decoded-3 : 1048576 < length s → decoded w t s at room ≡ refused 3 0
+  pub decoded-3 : 1048576 < length s → decoded w t s at room ≡ refused over-limit₃ 0
   unfolding decoded
   decoded-3 h = rw (lt-ltb 1048576 (length s) h)
 
   module _ (h : length s ≤ 1048576) where
-    pub decoded-14 : goodTable t ≡ false → decoded w t s at room ≡ refused 14 0
+    pub decoded-14 : goodTable t ≡ false → decoded w t s at room ≡ refused bad-table₁₄ 0
     unfolding decoded
     decoded-14 g = rw (le-ltb 1048576 (length s) h, g)
 
-    pub decoded-1 : goodTable t ≡ true → length s < at → decoded w t s at room ≡ refused 1 0
+    pub decoded-1 : goodTable t ≡ true → length s < at → decoded w t s at room ≡ refused past-end₁ 0
     unfolding decoded
     decoded-1 g l = rw (le-ltb 1048576 (length s) h, g, lt-ltb (length s) at l)
 

@@ -3,16 +3,17 @@ use mathlib.Core.Path.{_≡_, refl, sym, ap, _∙_}
 use Prim.Native.Nat.{ℕ, _*_, _≤_}
 use native.Mathlib.Omega.{arith}
 use lib.ListN.{length, length-take}
-use Rattle.rules.specs.Answer.{good, refused, Read}
+use Rattle.rules.specs.Answer.{good, refused, Read, itemOf}
 use Rattle.rules.specs.Operations.{codes, values}
 use Rattle.rules.specs.Record.{Block, noBlock, recordSize, recordsBytes}
-use Rattle.rules.specs.Functions.{Arena, filled, readLeft}
+use Rattle.rules.specs.Functions.{Arena, filled, leaves}
 use Rattle.rules.proofs.Runs.{zeroed}
 use Rattle.decoder.specs.Replies.{decodedOf}
 use Rattle.decoder.specs.Stages.{OpsIn, RecordsIn, Reading, tailless}
 use Rattle.decoder.specs.declared.Decoded.{Decoded}
 use Rattle.decoder.specs.declared.Decoded.the-variants as whole
 use Rattle.rules.proofs.Sizes.{length-codes, length-values}
+use Rattle.rules.specs.Lists.{inRow}
 
 -- two arenas of the same lengths
 pub record Even (a b : Arena) : Type 0 where
@@ -21,12 +22,12 @@ pub record Even (a b : Arena) : Type 0 where
   pub records : length (a .records) ≡ length (b .records)
 
 module _ (at : ℕ) (before after : Arena) (e : Even after before) where
-  no-block : (d : Read Block) (n p : ℕ) → decodedOf at d ≡ whole.Refused n p → tailless 0 0 after ≡ filled before (readLeft d)
-  unfolding filled noBlock codes values recordsBytes
+  no-block : (d : Read Block) (n p : ℕ) → decodedOf at d ≡ whole.Refused n p → tailless 0 0 after ≡ filled before (leaves noBlock (itemOf d))
+  unfolding filled noBlock codes values inRow
   no-block (good i) n p h = cc
   no-block (refused m q) n p h = rw (e .codes, e .values, e .records)
 
-  pub refused-kept : {d : Read Block} {r : Decoded} {n p : ℕ} → Reading at d after r → r ≡ whole.Refused n p → tailless 0 0 after ≡ filled before (readLeft d)
+  pub refused-kept : {d : Read Block} {r : Decoded} {n p : ℕ} → Reading at d after r → r ≡ whole.Refused n p → tailless 0 0 after ≡ filled before (leaves noBlock (itemOf d))
   refused-kept {d} {r} {n} {p} w h = no-block d n p (sym (w .reply) ∙ h)
 
   -- a block of n operations and k records
@@ -43,7 +44,7 @@ module _ (at : ℕ) (before after : Arena) (e : Even after before) where
   -- what was made
   record Made (d : Read Block) (k n : ℕ) : Type 0 where
     block : Block
-    is : readLeft d ≡ block
+    is : leaves noBlock (itemOf d) ≡ block
     batches : length (block .records) ≡ k
     ops : length (block .ops) ≡ n
     begins : OpsIn (after .codes) (after .values) (block .ops)
@@ -53,7 +54,7 @@ module _ (at : ℕ) (before after : Arena) (e : Even after before) where
   made (good i) w h = record { block = i .item; is = refl; batches = cc (w .reply); ops = cc (w .reply); begins = w .left .0; records = w .left .1 }
   made (refused m q) w h = let z : _≡_ {A = ℕ} 0 1 = cc (w .reply) in absurd (omega arith)
 
-  pub made-kept : {d : Read Block} {r : Decoded} {k n u : ℕ} → Reading at d after r → r ≡ whole.Made k n u → tailless n (recordSize * k) after ≡ filled before (readLeft d)
+  pub made-kept : {d : Read Block} {r : Decoded} {k n u : ℕ} → Reading at d after r → r ≡ whole.Made k n u → tailless n (recordSize * k) after ≡ filled before (leaves noBlock (itemOf d))
   made-kept {d} {r} {k} {n} w h = let m = made d w h in rw (m .is) (kept (m .block) k n (m .batches) (m .ops) (m .begins) (m .records))
 
   pub made-fits : {d : Read Block} {r : Decoded} {k n u : ℕ} → Reading at d after r → r ≡ whole.Made k n u → recordSize * k ≤ length (before .records)

@@ -12,7 +12,8 @@ use lib.Seq.{take-suc-set, length-take-le}
 use lib.Dec.{ltb, leb}
 use lib.Count.{trailingZeros}
 use Rattle.rules.specs.Digits.{leAt}
-use Rattle.rules.specs.Answer.{refused, Read, found}
+use Rattle.rules.specs.Answer.{refused, Read, found, row}
+use Rattle.rules.specs.Refusals.{no-room₁₃}
 use Rattle.rules.specs.Operations.{Op, operations, codes, values, kindOf, assigned, valued, field}
 use Rattle.rules.specs.Bytes.{least, countBy, countAt, opAt, valueAt, opsAt, batchCountAt}
 use Rattle.rules.specs.Block.{Head}
@@ -40,7 +41,7 @@ module _ (t s : List ℕ) (n at i : ℕ) where
   pub turn : (cs vs : List ℕ) (c v next : ℕ) → i < n → i < length cs → i < length vs → opAt t s at i ≡ found (op c v) next
       → onto (operations (take (i + 1) (set cs i c)) (take (i + 1) (set vs i v))) (opsAt t s (n - (i + 1)) next (i + 1))
       ≡ onto (operations (take i cs) (take i vs)) (opsAt t s (n - i) at i)
-  unfolding opsAt
+  unfolding row
   turn cs vs c v next hn hc hv h =
       let e : n - i ≡ suc (n - (i + 1)) = omega arith in
       let f : length (take i cs) ≡ length (take i vs) = length-take-le i cs (omega arith) ∙ sym (length-take-le i vs (omega arith)) in
@@ -48,11 +49,11 @@ module _ (t s : List ℕ) (n at i : ℕ) where
       (sym (onto-then (operations (take i cs) (take i vs)) (op c v) (opsAt t s (n - (i + 1)) next (i + 1))))
 
   pub stop : (xs : List Op) (k p : ℕ) → i < n → opAt t s at i ≡ refused k p → onto xs (opsAt t s (n - i) at i) ≡ refused k p
-  unfolding opsAt
+  unfolding row
   stop xs k p hn h = let e : n - i ≡ suc (n - (i + 1)) = omega arith in rw (e, h)
 
   pub done : (xs : List Op) → n ≤ i → onto xs (opsAt t s (n - i) at i) ≡ found xs at
-  unfolding opsAt
+  unfolding row
   done xs h = let e : n - i ≡ 0 = omega arith in rw e (onto-found xs at)
 
 -- ---- what is found
@@ -84,7 +85,7 @@ one-more c cs h f (suc k) l = f k (le-of-suc-le-suc l)
 
 -- n operations
 ops-found : (t s : List ℕ) (n at i : ℕ) → IfFound (λ (xs : List Op) (next : ℕ). (length xs ≡ n) × Coded (codes xs) × (at ≤ next)) (opsAt t s n at i)
-unfolding opsAt codes
+unfolding row codes
 ops-found t s zero at i = (refl, λ k l. absurd (omega arith), omega arith)
 ops-found t s (suc n) at i =
     if-then _ (opAt t s at i) _ (λ x next e. if-then _ (opsAt t s n next (i + 1)) _ (λ xs end f.
@@ -118,7 +119,7 @@ module _ (t s : List ℕ) (n at room : ℕ) where
     unfolding itemsAt
     items-uncounted m p f = rw (e, f)
 
-    pub items-13 : (k a₃ : ℕ) → batchCountAt s a₂ ≡ found k a₃ → room < k → itemsAt t s n at room ≡ refused 13 0
+    pub items-13 : (k a₃ : ℕ) → batchCountAt s a₂ ≡ found k a₃ → room < k → itemsAt t s n at room ≡ refused no-room₁₃ 0
     unfolding itemsAt
     items-13 k a₃ f h = rw (e, f, lt-ltb room k h)
 

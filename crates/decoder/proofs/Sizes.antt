@@ -9,7 +9,8 @@ use borrow.Author.Tests.{not-false}
 use lib.ListN.{length, getD, drop}
 use Rattle.rules.specs.Lists.{every}
 use Rattle.rules.specs.Digits.{digits, leAt}
-use Rattle.rules.specs.Answer.{refused, found}
+use Rattle.rules.specs.Answer.{refused, found, row}
+use Rattle.rules.specs.Refusals.{bad-nibble₆}
 use Rattle.rules.specs.Bytes.{upTo, sizesAt, nibblesAt, bitsAt, flagsAt}
 use Rattle.wire.specs.declared.CountRead.{CountRead}
 use Rattle.wire.specs.Stages.{counted, IfFound, Staged}
@@ -24,7 +25,7 @@ module _ (s : List ℕ) (at b : ℕ) where
   unfolding sizesAt digits every
   sizes-right h = rw h
 
-  pub sizes-wrong : upTo 9 (digits 16 8 (leAt 4 s at)) ≡ false → sizesAt 8 s at b ≡ refused 6 b
+  pub sizes-wrong : upTo 9 (digits 16 8 (leAt 4 s at)) ≡ false → sizesAt 8 s at b ≡ refused bad-nibble₆ b
   unfolding sizesAt
   sizes-wrong h = rw h
 
@@ -33,7 +34,7 @@ module _ (s : List ℕ) (at b : ℕ) where
   bits-found = refl
 
 all-flags : (s : List ℕ) (k at b : ℕ) → flagsAt 8 s k at b ≡ found (flagsFrom k s at) (at + k)
-unfolding flagsAt flagsFrom
+unfolding row flagsFrom
 all-flags s zero at b = rw add-zero
 all-flags s (suc k) at b = let e : at + 1 + k ≡ at + suc k = omega arith in rw (bits-found s at b, all-flags s k (at + 1) (b + 1), e)
 
@@ -45,17 +46,17 @@ flags-found e s k at = rw e (all-flags s k at 0)
 module _ (s : List ℕ) (k at b : ℕ) where
   pub turn : b < k → upTo 9 (digits 16 8 (leAt 4 s at)) ≡ true
       → counted (λ (l : List (List ℕ)). b + 1 + length l) (nibblesAt 8 s (k - (b + 1)) (at + 4) (b + 1)) ≡ counted (λ (l : List (List ℕ)). b + length l) (nibblesAt 8 s (k - b) at b)
-  unfolding nibblesAt
+  unfolding row
   turn h r =
       let e : k - b ≡ suc (k - (b + 1)) = omega arith in
       rw (e, sizes-right s at b r) (sym (more-then b (digits 16 8 (leAt 4 s at)) (nibblesAt 8 s (k - (b + 1)) (at + 4) (b + 1))))
 
-  pub stop : (f : List (List ℕ) → ℕ) → b < k → upTo 9 (digits 16 8 (leAt 4 s at)) ≡ false → counted f (nibblesAt 8 s (k - b) at b) ≡ counted f (refused 6 b)
-  unfolding nibblesAt
+  pub stop : (f : List (List ℕ) → ℕ) → b < k → upTo 9 (digits 16 8 (leAt 4 s at)) ≡ false → counted f (nibblesAt 8 s (k - b) at b) ≡ counted f (refused bad-nibble₆ b)
+  unfolding row
   stop f h r = let e : k - b ≡ suc (k - (b + 1)) = omega arith in rw (e, sizes-wrong s at b r)
 
   pub done : k ≤ b → counted (λ (l : List (List ℕ)). b + length l) (nibblesAt 8 s (k - b) at b) ≡ counted (λ (n : ℕ). n) (found b at)
-  unfolding nibblesAt
+  unfolding row
   done h = let e : k - b ≡ 0 = omega arith in rw (e, add-zero)
 
 -- ---- what is found, of any width
@@ -73,7 +74,7 @@ module _ (w : ℕ) (s : List ℕ) where
       if-refuse _ (not (upTo 9 ns)) 6 b _ (λ h. if-refuse _ (not (upTo 0 (drop w ns))) 6 b _ (λ z. (refl, refl, (not-false (upTo 9 ns) h, not-false (upTo 0 (drop w ns)) z))))
 
   nibbles-found : (k at b : ℕ) → IfFound (Sized w s k at) (nibblesAt w s k at b)
-  unfolding nibblesAt sizesFrom
+  unfolding row sizesFrom
   nibbles-found zero at b = record { sizes = refl; to = omega arith; right = λ j l. absurd (omega arith) }
   nibbles-found (suc k) at b =
       if-then _ (sizesAt w s at b) _ (λ ns next e. if-then _ (nibblesAt w s k next (b + 1)) _ (λ nss end f.

@@ -7,6 +7,7 @@ use lib.Dec.{ltb}
 use Rattle.rules.specs.Lists.{fitted}
 use Rattle.rules.specs.Digits.{digits, leAt}
 use Rattle.rules.specs.Answer.{Read, found, refuse, _then_}
+use Rattle.rules.specs.Refusals.{no-room₁₃}
 use Rattle.rules.specs.Operations.{Op, codes, values}
 use Rattle.rules.specs.Record.{Record, Block, recordSize, recordsBytes}
 use Rattle.rules.specs.Bytes.{opsAt, batchCountAt}
@@ -44,7 +45,7 @@ unfoldable pub itemsAt : List ℕ → List ℕ → ℕ → ℕ → ℕ → Read 
 itemsAt t s n at room =
     opsAt t s n at 0 then λ xs a₂.
     batchCountAt s a₂ then λ k a₃.
-    refuse (ltb room k) 13 0
+    refuse (ltb room k) no-room₁₃ 0
     (found (record { ops = xs; batches = k }) a₃)
 
 -- items 4 and 5, and the records of k batches

@@ -148,7 +148,7 @@ fn decode_each(
     requires { ⌜ (length (now table) ≡ 128) × (length (now codes) ≡ length (now values)) × Coded (now codes) ⌝ }
     requires { ⌜ (sizes + 4 * k ≤ length (now s)) × (flags + k ≤ length (now s)) × (recordSize * k ≤ length (now records)) ⌝ }
     requires { ⌜ (width ≤ 8) × ((b : ℕ) → b < k → RightSizes width (leAt 4 (now s) (sizes + 4 * b))) ⌝ }
-    ensures { λ r. ⌜ Staged length (λ (rs : List Record) (end : ℕ). RecordsIn (now (records .exit)) rs) (batchesAt width (now (table .entry)) (operations (now (codes .entry)) (now (values .entry))) 0 0 (sizesFrom k (now (s .entry)) sizes) (flagsFrom k (now (s .entry)) flags)) r ⌝ }
+    ensures { λ r. ⌜ Staged length (λ (rs : List Record) (end : ℕ). RecordsIn (now (records .exit)) rs) (batchesAt width (now (table .entry)) (operations (now (codes .entry)) (now (values .entry))) (sizesFrom k (now (s .entry)) sizes) (flagsFrom k (now (s .entry)) flags)) r ⌝ }
 {
     let mut b: usize = 0;
     let mut from: usize = 0;

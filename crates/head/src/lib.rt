@@ -1,6 +1,5 @@
 // How much a block needs: its head (document 01, "Block bytes", items 1 to 3) read alone, and nothing kept of its operations.
 ghost use mathlib.Core.Path.{_≡_};
-ghost use Prim.Native.Nat.{ℕ};
 ghost use lib.ListN.{length};
 ghost use Rattle.rules.specs.Bytes.{opsAt};
 ghost use Rattle.rules.specs.Block.{headAt};

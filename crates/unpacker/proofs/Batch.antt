@@ -10,6 +10,7 @@ use lib.Dec.{leb}
 use Rattle.rules.specs.Lists.{fitted, total, every}
 use Rattle.rules.specs.Digits.{digits}
 use Rattle.rules.specs.Answer.{refused, Read, found}
+use Rattle.rules.specs.Refusals.{past-operations₇, bad-padding₁₀}
 use Rattle.rules.specs.Operations.{Op}
 use Rattle.rules.specs.Record.{Record, recordBy, recordSize, recordBytes, cut}
 use Rattle.rules.specs.Bytes.{upTo}
@@ -19,7 +20,8 @@ use Rattle.rules.specs.Checks.{paddingRight}
 use Rattle.rules.proofs.Runs.{fitted-length}
 use Rattle.rules.proofs.Operations.{true-left, true-right, true-both}
 use Rattle.op_batch.specs.Stores.{recordSet, packed}
-use Rattle.op_batch.proofs.Stores.{record-length, packed-whole}
+use Rattle.op_batch.proofs.Stores.{packed-whole}
+use Rattle.rules.proofs.Records.{record-length}
 
 -- ---- sizes of which those from the width on are 0
 
@@ -53,7 +55,7 @@ module _ (w : ℕ) (t : List ℕ) (xs : List Op) (at b v f : ℕ) where
   abbrev pub batch : Read Record
   batch = batchAt w t xs at b (digits 16 8 v) (digits 2 8 f)
 
-  pub way-7 : length xs < at + total (digits 16 8 v) → batch ≡ refused 7 b
+  pub way-7 : length xs < at + total (digits 16 8 v) → batch ≡ refused past-operations₇ b
   unfolding batchAt
   way-7 h = rw (lt-ltb (length xs) (at + total (digits 16 8 v)) h)
 
@@ -66,7 +68,7 @@ module _ (w : ℕ) (t : List ℕ) (xs : List Op) (at b v f : ℕ) where
     way-slots n p e = walked ∙ rw (le-ltb (length xs) (at + total (digits 16 8 v)) h, take-digits w 8 v m, e)
 
     module _ (vs : List ℕ) (end : ℕ) (e : slots t b (digits 16 w v) [] xs at ≡ found vs end) where
-      pub way-10 : paddingRight (take (length vs) (cut (digits 16 8 v) xs at)) (digits 2 8 f) ≡ false → batch ≡ refused 10 b
+      pub way-10 : paddingRight (take (length vs) (cut (digits 16 8 v) xs at)) (digits 2 8 f) ≡ false → batch ≡ refused bad-padding₁₀ b
       unfolding batchBy
       way-10 g = walked ∙ rw (le-ltb (length xs) (at + total (digits 16 8 v)) h, take-digits w 8 v m, e, g)
 

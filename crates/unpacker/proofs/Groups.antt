@@ -13,13 +13,14 @@ use lib.Dec.{leb}
 use Rattle.rules.specs.Lists.{fitted, total, every}
 use Rattle.rules.specs.Digits.{digits, number}
 use Rattle.rules.specs.Answer.{good, refused, Read, found, _then_}
+use Rattle.rules.specs.Refusals.{no-slot₈, slot-taken₉}
 use Rattle.rules.specs.Operations.{Op, operations, hasImmediate}
 use Rattle.rules.specs.Record.{codesNumber, part, immediates}
 use Rattle.rules.specs.Bytes.{upTo}
 use Rattle.rules.proofs.Slots.{emptyBefore, slots}
 use Rattle.rules.proofs.Operations.{kind-at, operations-turn, operations-end, true-left, true-right}
 use Rattle.rules.proofs.Runs.{fitted-set, fitted-length}
-use Rattle.wire.proofs.Laws.{digits-turn, digits-end}
+use Rattle.rules.proofs.Digits.{digits-turn, digits-end}
 use Rattle.unpacker.specs.Groups.{Coded, glue, behind, onward, Placed}
 use Rattle.unpacker.proofs.Operations.{codes-operations, part-operations}
 
@@ -140,16 +141,16 @@ module _ (w : ℕ) (t : List ℕ) (b : ℕ) (xs : List Op) where
   turn-placed gs g left v due end n m h e =
       rw (digits-turn 16 w g left h, e, take-next gs g v n (omega arith)) (behind-number (take g gs) (take g gs) v (slots t b (digits 16 (w - (g + 1)) (left / 16)) due xs end))
 
-  pub stop-8 : (gs : List ℕ) (g left v : ℕ) (due : List ℕ) (end : ℕ) → w ≤ g → onward w t b xs end gs g left (v ∷ due) ≡ refused 8 b
+  pub stop-8 : (gs : List ℕ) (g left v : ℕ) (due : List ℕ) (end : ℕ) → w ≤ g → onward w t b xs end gs g left (v ∷ due) ≡ refused no-slot₈ b
   unfolding slots
   stop-8 gs g left v due end h = rw (digits-end 16 w g left h)
 
-  taken : (n : ℕ) (ns : List ℕ) (v : ℕ) (due : List ℕ) (at : ℕ) → (n ≡ 0 → ⊥) → slots t b (n ∷ ns) (v ∷ due) xs at ≡ refused 9 b
+  taken : (n : ℕ) (ns : List ℕ) (v : ℕ) (due : List ℕ) (at : ℕ) → (n ≡ 0 → ⊥) → slots t b (n ∷ ns) (v ∷ due) xs at ≡ refused slot-taken₉ b
   unfolding slots
   taken zero ns v due at h = absurd (h refl)
   taken (suc n) ns v due at h = refl
 
-  pub stop-9 : (gs : List ℕ) (g left v : ℕ) (due : List ℕ) (end : ℕ) → g < w → (left % 16 ≡ 0 → ⊥) → onward w t b xs end gs g left (v ∷ due) ≡ refused 9 b
+  pub stop-9 : (gs : List ℕ) (g left v : ℕ) (due : List ℕ) (end : ℕ) → g < w → (left % 16 ≡ 0 → ⊥) → onward w t b xs end gs g left (v ∷ due) ≡ refused slot-taken₉ b
   stop-9 gs g left v due end h e = rw (digits-turn 16 w g left h, taken (left % 16) (digits 16 (w - (g + 1)) (left / 16)) v due end e)
 
   pub done : (us ws : List ℕ) (g left at : ℕ) → w ≤ g → behind us ws (slots t b (digits 16 (w - g) left) [] xs at) ≡ found us at

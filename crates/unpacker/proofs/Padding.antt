@@ -12,7 +12,7 @@ use Rattle.rules.specs.Digits.{digits}
 use Rattle.rules.specs.Operations.{Op, codes}
 use Rattle.rules.specs.Record.{part, cut}
 use Rattle.rules.specs.Checks.{endsInNoop, paddingRight}
-use Rattle.wire.proofs.Laws.{digits-turn, digits-end}
+use Rattle.rules.proofs.Digits.{digits-turn, digits-end}
 use Rattle.rules.proofs.Sizes.{length-codes}
 
 -- ---- the last operation of a group

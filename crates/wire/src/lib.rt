@@ -1,15 +1,12 @@
-// The items of a block's bytes (document 01, "Block bytes"): count, operation, batch count, nibbles and flags, each read and written.
+// The items of a block's bytes (document 01, "Block bytes"): count, operation and batch count, each read and written, and the test of nibbles.
 ghost use mathlib.Core.Path.{_≡_};
 ghost use mathlib.Core.Bool.{true};
-ghost use Prim.Native.Nat.{ℕ, _+_, _/_, _^_, _≤_, _<_};
+ghost use Prim.Native.Nat.{_+_, _/_, _^_, _≤_, _<_};
 ghost use lib.ListN.{length};
 ghost use lib.Seq.{sets};
-ghost use lib.Dec.{leb};
-ghost use Rattle.rules.specs.Lists.{every};
 ghost use Rattle.rules.specs.Digits.{digits, number, leAt};
-ghost use Rattle.rules.specs.Record.{differences, bytesAt};
+ghost use Rattle.rules.specs.Record.{differences};
 ghost use Rattle.rules.specs.Bytes.{countAt, least, more, countBytes, opAt, valueAt, opBytes, batchCountAt, upTo};
-ghost use Rattle.rules.specs.Checks.{startsRight};
 ghost use Rattle.operation.specs.Verdict.{op};
 ghost use Rattle.wire.specs.Replies.{countReadOf, opReadOf};
 ghost use Rattle.wire.specs.Stages.{handOp};
@@ -260,7 +257,7 @@ pub fn read_batch_count(s: &[u8], at: usize) -> CountRead
     }
 }
 
-// ---- 4. nibbles: nine starts in a lent run, and the eight differences of four bytes
+// ---- 4. nibbles: eight sizes in four bytes
 
 // Whether none of v's eight nibbles is over 9.
 pub fn deltas_right(v: u64) -> bool
@@ -276,34 +273,4 @@ pub fn deltas_right(v: u64) -> bool
         i += 1;
     }
     true
-}
-
-// The nibbles of the nine starts from b on.
-pub fn pack_indptr_deltas(s: &[u8], b: usize) -> u64
-    requires { ⌜ (b + 9 ≤ length (now s)) × (startsRight (bytesAt 9 (now s) b) ≡ true) ⌝ }
-    ensures { λ r. ⌜ r ≡ number 16 (differences (bytesAt 9 (now (s .entry)) b)) ⌝ }
-{
-    let mut v: u64 = 0;
-    let mut i: usize = 8;
-    while 0 < i {
-        i = i - 1;
-        v = v * 16 + word::wide(s[b + i + 1] - s[b + i]);
-    }
-    v
-}
-
-// ---- 5. the flag byte
-
-// The byte of the eight flags from b on.
-pub fn pack_padding(s: &[u8], b: usize) -> u8
-    requires { ⌜ (b + 8 ≤ length (now s)) × (every (λ (f : ℕ). leb f 1) (bytesAt 8 (now s) b) ≡ true) ⌝ }
-    ensures { λ r. ⌜ r ≡ number 2 (bytesAt 8 (now (s .entry)) b) ⌝ }
-{
-    let mut v: u8 = 0;
-    let mut i: usize = 8;
-    while 0 < i {
-        i = i - 1;
-        v = v * 2 + s[b + i];
-    }
-    v
 }

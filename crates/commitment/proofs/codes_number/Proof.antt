@@ -8,9 +8,6 @@ use Rattle.checks.specs.Batch.{span}
 use Rattle.commitment.proofs.Numbers.{number-turn, number-none, number-fits}
 use Rattle.commitment.proofs.codes_number.Statement.{statement}
 use Rattle.commitment.proofs.codes_number.Tie as tie
-use Rattle.commitment.proofs.codes_number.Reads as reads
-use Rattle.commitment.proofs.codes_number.Lts as lts
-use Rattle.word.proofs.wide.Reads as wide-reads
 
 abbrev Inv-loop : tie.InvT-loop
 Inv-loop codes values from to sum₀ i₀ sum i = (from ≤ i) × (i ≤ to) × (sum ≡ codesNumber (span (operations codes values) i to))
