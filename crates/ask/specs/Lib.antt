@@ -2,11 +2,11 @@
 --     rt dev ask --allow-holes
 -- The checker prints what the left side computes to, after `⊢`. Write that on the right, and `refl` again: now it is proved.
 use mathlib.Core.Path.{_≡_, refl}
-use mathlib.Core.List.{List, [], _∷_}
-use Rattle.rules.specs.Answer.{Read, found, good, refused}
+use mathlib.Core.List.{[], _∷_}
+use Rattle.rules.specs.Answer.{found, good}
 use Rattle.rules.specs.Examples.{op, is, block, p1}
 use Rattle.rules.specs.Open.{document}
-use Rattle.ask.specs.Plain.{build, write, read}
+use Rattle.ask.specs.Plain.{build, read}
 pub mod Plain
 
 -- the block at byte 0 of these bytes, under table T

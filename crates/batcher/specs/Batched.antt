@@ -11,9 +11,9 @@ use Rattle.rules.specs.Functions.{Arena, filled}
 use Rattle.batcher.specs.declared.Batches.{Batches}
 use Rattle.batcher.specs.declared.Batches.the-variants.{Done, Fault}
 
--- what the rules answer for a list: the first operation that is not admissible, or the block
-abbrev pub listed : List ℕ → List ℕ → List ℕ → Answer Block
-listed t cs vs = refuseFirst 0 (map (opFault t) (operations cs vs)) (good (blockOf (batchesOf 8 t (operations cs vs))))
+-- what the rules answer for a list at width w: the first operation that is not admissible, or the block
+abbrev pub listed : ℕ → List ℕ → List ℕ → List ℕ → Answer Block
+listed w t cs vs = refuseFirst 0 (map (opFault t) (operations cs vs)) (good (blockOf (batchesOf w t (operations cs vs))))
 
 abbrev pub batchesIn : Answer Block → Batches
 batchesIn (good b) = Done (length (b .records)) (length (b .ops))

@@ -1,4 +1,3 @@
-pub mod Good
 pub mod Model
 pub mod Batched
 pub mod Going

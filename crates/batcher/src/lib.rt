@@ -1,247 +1,16 @@
-// The greedy batcher (document 01, "Batching (000)"): an accumulator of plain numbers that goes in and out by value, and records that are
-// written to a lent run as groups close and immediates are placed, and never read back. A Noop is opcode 0 and value 0, so that a padding is
-// stored by not being stored: the runs come in all zero.
+// The greedy driver (document 01, "Batching (000)"): it hands one operation after the other to the accumulator, and ends the batch where one does not
+// fit. The lent runs come in all zero.
+use accumulator::OpBatchAccumulator;
 ghost use mathlib.Core.Path.{_≡_};
 ghost use mathlib.Core.Bool.{true};
 ghost use Prim.Native.Nat.{_+_, _*_, _-_, _≤_, _<_, _^_};
 ghost use lib.ListN.{length, getD, set};
-ghost use Rattle.rules.specs.Batching.{target};
-ghost use Rattle.rules.specs.Record.{noBlock};
+ghost use Rattle.rules.specs.Record.{recordSize, noBlock};
 ghost use Rattle.rules.specs.Functions.{arena, filled};
-ghost use Rattle.batcher.specs.Good.{Good};
+ghost use Rattle.accumulator.specs.Good.{recordGroups, Good};
 ghost use Rattle.batcher.specs.Going.{Going};
 ghost use Rattle.batcher.specs.Batched.{listed, Batched};
-ghost use Rattle.batcher.specs.Model.{newAcc, fitsIn, padOf, closedRun, turnedAcc, slottedAcc, slottedRun, joinedAcc, crosses, readyAcc, readyRun, addedAcc, addedRun, endedTotal, endedRun, endedWork, endedWorkRun, roomWork, roomRun, steppedWork, steppedRun, lastPlace, keptRun, lastImm, takenWork, Joins};
-
-// groups in a batch, and operations in a group
-const BATCH_SIZE: usize = 8;
-
-const GROUP_SIZE: usize = 9;
-
-// a record's bytes: nine starts, eight flags, eight numbers of eight bytes, and the count
-pub const RECORD_SIZE: usize = 82;
-
-const FLAGS: usize = 9;
-
-const NUMBERS: usize = 17;
-
-const COUNT: usize = 81;
-
-struct OpBatchAccumulator {
-    // the current group, and the next free one
-    cur: usize,
-    next: usize,
-    // operations in the current group, and its number so far
-    inside: usize,
-    number: u64,
-    // what the next opcode counts there: 128 to the power of its position
-    place: u64,
-    // operations in the batch so far
-    total: u8,
-    // whether the last operation of the current group has an immediate
-    tail: bool,
-}
-
-impl OpBatchAccumulator {
-    fn new() -> Self
-        ensures { λ r. ⌜ r ≡ newAcc ⌝ }
-    {
-        OpBatchAccumulator {
-            cur: 0,
-            next: 1,
-            inside: 0,
-            number: 0,
-            place: 1,
-            total: 0,
-            tail: false,
-        }
-    }
-
-    // Whether an operation fits, with an immediate or without.
-    fn can_accept_op(self, imm: bool) -> bool
-        requires { ⌜ self .next ≤ 8 ⌝ }
-        ensures { λ r. ⌜ r ≡ fitsIn imm self ⌝ }
-    {
-        if imm {
-            if self.inside < GROUP_SIZE - 1 {
-                return self.next < BATCH_SIZE;
-            }
-            return self.next + 1 < BATCH_SIZE;
-        }
-        if self.inside < GROUP_SIZE {
-            return true;
-        }
-        self.next < BATCH_SIZE
-    }
-
-    // Adds an operation that fits to the batch whose record starts at `at`.
-    fn add_op(self, code: u8, imm: bool, v: u64, at: usize, records: &mut [u8]) -> Self
-        requires { ⌜ Good self ⌝ }
-        requires { ⌜ fitsIn imm self ≡ true ⌝ }
-        requires { ⌜ (code < 128) × (at < 2 ^ 32) ⌝ }
-        ensures acc { λ r. ⌜ r ≡ addedAcc code imm self ⌝ }
-        ensures run { λ _. ⌜ now (records .exit) ≡ addedRun imm v at self (now (records .entry)) ⌝ }
-    {
-        let b = self.advance(imm, at, records);
-        if imm {
-            let d = b.place_imm(v, at, records);
-            return d.push_op(code, imm);
-        }
-        b.push_op(code, imm)
-    }
-
-    // Ends the batch: its record is whole, and its operations are returned.
-    fn into_batch(self, at: usize, records: &mut [u8]) -> u8
-        requires { ⌜ Good self ⌝ }
-        requires { ⌜ at < 2 ^ 32 ⌝ }
-        ensures total { λ r. ⌜ r ≡ endedTotal self ⌝ }
-        ensures run { λ _. ⌜ now (records .exit) ≡ endedRun at self (now (records .entry)) ⌝ }
-    {
-        let count = target_num_groups(self.next);
-        let mut a = self;
-        while a.next < count {
-            a = a.finalize_op_group(at, records);
-        }
-        let total = a.close(at, records);
-        word::store8(records, at + COUNT, count as u8);
-        total
-    }
-
-    // Closes the current group and opens the next free one.
-    fn finalize_op_group(self, at: usize, records: &mut [u8]) -> Self
-        requires { ⌜ Good self ⌝ }
-        requires { ⌜ at < 2 ^ 32 ⌝ }
-        ensures acc { λ r. ⌜ r ≡ turnedAcc self ⌝ }
-        ensures run { λ _. ⌜ now (records .exit) ≡ closedRun at self (now (records .entry)) ⌝ }
-    {
-        let total = self.close(at, records);
-        OpBatchAccumulator {
-            cur: self.next,
-            next: self.next + 1,
-            inside: 0,
-            number: 0,
-            place: 1,
-            total,
-            tail: false,
-        }
-    }
-
-    // Writes what the record says of the current group, and returns the batch's operations with its Noop. All later starts are the total
-    // so far: the starts of the group's immediates, of the next group, and those that repeat the total if no group follows.
-    fn close(self, at: usize, records: &mut [u8]) -> u8
-        requires { ⌜ Good self ⌝ }
-        requires { ⌜ at < 2 ^ 32 ⌝ }
-        ensures total { λ r. ⌜ r ≡ self .total + padOf self ⌝ }
-        ensures run { λ _. ⌜ now (records .exit) ≡ closedRun at self (now (records .entry)) ⌝ }
-    {
-        let pad = self.padding();
-        let cur = self.cur;
-        let total = self.total + pad;
-        word::fill_few(records, at + cur + 1, BATCH_SIZE - cur, total);
-        word::store8(records, at + FLAGS + cur, pad);
-        word::store_le8(records, at + NUMBERS + 8 * cur, self.number);
-        total
-    }
-
-    // The operation joins the current group.
-    fn push_op(self, code: u8, imm: bool) -> Self
-        requires { ⌜ Good self ⌝ }
-        requires { ⌜ (code < 128) × (self .inside < 9) ⌝ }
-        ensures { λ r. ⌜ r ≡ joinedAcc code imm self ⌝ }
-    {
-        let number = self.number_with(code);
-        OpBatchAccumulator {
-            cur: self.cur,
-            next: self.next,
-            inside: self.inside + 1,
-            number,
-            place: self.place * 128,
-            total: self.total + 1,
-            tail: imm,
-        }
-    }
-
-    // 1 where the current group wants a Noop: it is empty, or ends in an operation with an immediate.
-    fn padding(self) -> u8
-        ensures { λ r. ⌜ (r ≡ padOf self) × (r ≤ 1) ⌝ }
-    {
-        if self.inside == 0 {
-            return 1;
-        }
-        if self.tail {
-            return 1;
-        }
-        0
-    }
-
-    // The current group's number with one opcode more.
-    fn number_with(self, code: u8) -> u64
-        requires { ⌜ Good self ⌝ }
-        requires { ⌜ (code < 128) × (self .inside < 9) ⌝ }
-        ensures { λ r. ⌜ r ≡ self .number + code * self .place ⌝ }
-    {
-        self.number + word::wide(code) * self.place
-    }
-
-    // Whether the current group cannot take the operation: no immediate is ninth.
-    fn full(self, imm: bool) -> bool
-        ensures { λ r. ⌜ r ≡ crosses imm self ⌝ }
-    {
-        if imm {
-            return GROUP_SIZE - 1 <= self.inside;
-        }
-        GROUP_SIZE <= self.inside
-    }
-
-    fn advance(self, imm: bool, at: usize, records: &mut [u8]) -> Self
-        requires { ⌜ Good self ⌝ }
-        requires { ⌜ at < 2 ^ 32 ⌝ }
-        ensures acc { λ r. ⌜ r ≡ readyAcc imm self ⌝ }
-        ensures run { λ _. ⌜ now (records .exit) ≡ readyRun imm at self (now (records .entry)) ⌝ }
-    {
-        if self.full(imm) {
-            return self.finalize_op_group(at, records);
-        }
-        self
-    }
-
-    // An immediate takes the next free group.
-    fn place_imm(self, v: u64, at: usize, records: &mut [u8]) -> Self
-        requires { ⌜ (self .next < 8) × (at < 2 ^ 32) ⌝ }
-        ensures acc { λ r. ⌜ r ≡ slottedAcc self ⌝ }
-        ensures run { λ _. ⌜ now (records .exit) ≡ slottedRun v at self (now (records .entry)) ⌝ }
-    {
-        let next = self.next;
-        word::store_le8(records, at + NUMBERS + 8 * next, v);
-        OpBatchAccumulator {
-            cur: self.cur,
-            next: next + 1,
-            inside: self.inside,
-            number: self.number,
-            place: self.place,
-            total: self.total,
-            tail: self.tail,
-        }
-    }
-}
-
-// How many groups a batch is filled up to: the next power of two, up to 8.
-fn target_num_groups(n: usize) -> usize
-    ensures { λ r. ⌜ r ≡ target n ⌝ }
-{
-    if n <= 1 {
-        return 1;
-    }
-    if n <= 2 {
-        return 2;
-    }
-    if n <= 4 {
-        return 4;
-    }
-    8
-}
-
-// ---- the driver
+ghost use Rattle.batcher.specs.Model.{endedWork, endedWorkRun, roomWork, roomRun, steppedWork, steppedRun, lastPlace, keptRun, lastImm, takenWork, Joins};
 
 // The batch in hand, and how many padded operations and batches stand before it.
 struct Work {
@@ -251,41 +20,42 @@ struct Work {
 }
 
 // Ends the batch in hand and starts the next.
-fn end_batch(w: Work, records: &mut [u8]) -> Work
-    requires { ⌜ Good (w .acc) ⌝ }
-    requires { ⌜ (w .base < 2 ^ 32) × (w .batches < 2 ^ 20) ⌝ }
-    ensures work { λ r. ⌜ r ≡ endedWork w ⌝ }
-    ensures run { λ _. ⌜ now (records .exit) ≡ endedWorkRun w (now (records .entry)) ⌝ }
+fn end_batch(work: Work, records: &mut [u8]) -> Work
+    requires { ⌜ Good recordGroups (work .acc) ⌝ }
+    requires { ⌜ (work .base < 2 ^ 32) × (work .batches < 2 ^ 20) ⌝ }
+    ensures work { λ r. ⌜ r ≡ endedWork work ⌝ }
+    ensures run { λ _. ⌜ now (records .exit) ≡ endedWorkRun work (now (records .entry)) ⌝ }
 {
-    let a = w.acc;
-    let k = w.batches;
-    let total = a.into_batch(RECORD_SIZE * k, records);
+    let a = work.acc;
+    let k = work.batches;
+    let total = a.into_batch(k, records);
     let n = total as usize;
     let fresh = OpBatchAccumulator::new();
     Work {
         acc: fresh,
-        base: w.base + n,
+        base: work.base + n,
         batches: k + 1,
     }
 }
 
 // Ends the batch in hand where the operation does not fit.
-fn make_room(w: Work, imm: bool, records: &mut [u8]) -> Work
-    requires { ⌜ Good (w .acc) ⌝ }
-    requires { ⌜ (w .base < 2 ^ 32) × (w .batches < 2 ^ 20) ⌝ }
-    ensures work { λ r. ⌜ r ≡ roomWork imm w ⌝ }
-    ensures run { λ _. ⌜ now (records .exit) ≡ roomRun imm w (now (records .entry)) ⌝ }
+fn make_room(width: usize, work: Work, imm: bool, records: &mut [u8]) -> Work
+    requires { ⌜ Good recordGroups (work .acc) ⌝ }
+    requires { ⌜ (work .base < 2 ^ 32) × (work .batches < 2 ^ 20) ⌝ }
+    ensures work { λ r. ⌜ r ≡ roomWork width imm work ⌝ }
+    ensures run { λ _. ⌜ now (records .exit) ≡ roomRun width imm work (now (records .entry)) ⌝ }
 {
-    let a = w.acc;
-    if a.can_accept_op(imm) {
-        return w;
+    let a = work.acc;
+    if a.can_accept_op(width, imm) {
+        return work;
     }
-    end_batch(w, records)
+    end_batch(work, records)
 }
 
 // One operation more.
 fn step(
-    w: Work,
+    width: usize,
+    work: Work,
     code: u8,
     imm: bool,
     v: u64,
@@ -293,18 +63,18 @@ fn step(
     values: &mut [u64],
     records: &mut [u8],
 ) -> Work
-    requires { ⌜ Good (w .acc) ⌝ }
-    requires { ⌜ (w .base < 2 ^ 31) × (w .batches < 2 ^ 19) × (code < 128) ⌝ }
-    ensures work { λ r. ⌜ r ≡ steppedWork code imm w ⌝ }
-    ensures codes { λ _. ⌜ now (codes .exit) ≡ set (now (codes .entry)) (lastPlace (steppedWork code imm w)) code ⌝ }
-    ensures values { λ _. ⌜ now (values .exit) ≡ set (now (values .entry)) (lastPlace (steppedWork code imm w)) v ⌝ }
-    ensures run { λ _. ⌜ now (records .exit) ≡ steppedRun imm v w (now (records .entry)) ⌝ }
+    requires { ⌜ (2 ≤ width) × (width ≤ recordGroups) × Good width (work .acc) ⌝ }
+    requires { ⌜ (work .base < 2 ^ 31) × (work .batches < 2 ^ 19) × (code < 128) ⌝ }
+    ensures work { λ r. ⌜ r ≡ steppedWork width code imm work ⌝ }
+    ensures codes { λ _. ⌜ now (codes .exit) ≡ set (now (codes .entry)) (lastPlace (steppedWork width code imm work)) code ⌝ }
+    ensures values { λ _. ⌜ now (values .exit) ≡ set (now (values .entry)) (lastPlace (steppedWork width code imm work)) v ⌝ }
+    ensures run { λ _. ⌜ now (records .exit) ≡ steppedRun width imm v work (now (records .entry)) ⌝ }
 {
-    let r = make_room(w, imm, records);
+    let r = make_room(width, work, imm, records);
     let b = r.acc;
     let base = r.base;
     let k = r.batches;
-    let a = b.add_op(code, imm, v, RECORD_SIZE * k, records);
+    let a = b.add_op(code, imm, v, k, records);
     let n = a.total as usize;
     let at = base + n - 1;
     word::store8(codes, at, code);
@@ -331,9 +101,9 @@ struct Taken {
 
 // How many slots an operation takes that joins the current group as it is: 0 or 1. 2 where it does not, or is left to `step`. At most `left`
 // may join, and the last of them has no immediate.
-fn slots(table: &[u8], code: u8, v: u64, next: usize, left: usize) -> usize
-    requires { ⌜ (length (now table) ≡ 128) × (next ≤ 8) ⌝ }
-    ensures { λ r. ⌜ (r < 2 → Joins (now (table .entry)) code v next left r) ⌝ }
+fn slots(width: usize, table: &[u8], code: u8, v: u64, next: usize, left: usize) -> usize
+    requires { ⌜ (length (now table) ≡ 128) × (next ≤ recordGroups) ⌝ }
+    ensures { λ r. ⌜ (r < 2 → Joins width (now (table .entry)) code v next left r) ⌝ }
 {
     if 128 <= code {
         return 2;
@@ -350,34 +120,34 @@ fn slots(table: &[u8], code: u8, v: u64, next: usize, left: usize) -> usize
     if left <= k {
         return 2;
     }
-    if BATCH_SIZE < next + k {
+    if width < next + k {
         return 2;
     }
     k
 }
 
-// A value in the next free slot, if there is one.
-fn keep(v: u64, at: usize, next: usize, records: &mut [u8])
-    requires { ⌜ (at < 2 ^ 32) × (at + 82 ≤ length (now records)) ⌝ }
-    ensures { λ _. ⌜ now (records .exit) ≡ keptRun v at next (now (records .entry)) ⌝ }
+// A value in the next free slot, if the record has one more.
+fn keep(v: u64, b: usize, next: usize, records: &mut [u8])
+    requires { ⌜ recordSize * b + recordSize ≤ length (now records) ⌝ }
+    ensures { λ _. ⌜ now (records .exit) ≡ keptRun v b next (now (records .entry)) ⌝ }
 {
-    if next < BATCH_SIZE {
-        word::put8(records, at + NUMBERS + 8 * next, v);
+    if next < accumulator::RECORD_GROUPS {
+        op_batch::put_number(records, b, next, v);
     }
 }
 
-// Whether runs of these lengths have room for a whole group and for the record.
-fn room_ahead(from: usize, at: usize, codes: usize, values: usize, records: usize) -> bool
-    requires { ⌜ (from < 2 ^ 32) × (at < 2 ^ 32) ⌝ }
-    ensures { λ r. ⌜ (r ≡ true → (from + 9 ≤ codes) × (from + 9 ≤ values) × (at + 82 ≤ records)) ⌝ }
+// Whether runs of these lengths have room for a whole group and for the b-th record.
+fn room_ahead(from: usize, b: usize, codes: usize, values: usize, records: usize) -> bool
+    requires { ⌜ (from < 2 ^ 32) × (b < 2 ^ 20) ⌝ }
+    ensures { λ r. ⌜ (r ≡ true → (from + 9 ≤ codes) × (from + 9 ≤ values) × (recordSize * b + recordSize ≤ records)) ⌝ }
 {
-    if codes < from + GROUP_SIZE {
+    if codes < from + accumulator::GROUP_SIZE {
         return false;
     }
-    if values < from + GROUP_SIZE {
+    if values < from + accumulator::GROUP_SIZE {
         return false;
     }
-    at + RECORD_SIZE <= records
+    op_batch::RECORD * b + op_batch::RECORD <= records
 }
 
 // How many operations can join at most: what is left of the group, or of the list.
@@ -385,10 +155,10 @@ fn most(inside: usize, i: usize, len: usize) -> usize
     requires { ⌜ (inside ≤ 9) × (i ≤ len) ⌝ }
     ensures { λ r. ⌜ (inside + r ≤ 9) × (i + r ≤ len) ⌝ }
 {
-    if len - i < GROUP_SIZE - inside {
+    if len - i < accumulator::GROUP_SIZE - inside {
         return len - i;
     }
-    GROUP_SIZE - inside
+    accumulator::GROUP_SIZE - inside
 }
 
 // Whether the last of n operations has an immediate: looked up once they have joined, so that the loop has one thing less in hand.
@@ -405,7 +175,7 @@ fn last_imm(table: &[u8], codes: &[u8], before: bool, i: usize, n: usize) -> boo
 
 // The work put together again, with n operations that have joined from the i-th on.
 fn gather(
-    w: Work,
+    work: Work,
     table: &[u8],
     codes: &[u8],
     i: usize,
@@ -415,10 +185,10 @@ fn gather(
     place: u64,
 ) -> Taken
     requires { ⌜ (length (now table) ≡ 128) × (i + n ≤ length (now codes)) × (0 < n → getD (now codes) (i + n - 1) 0 < 128) ⌝ }
-    requires { ⌜ Good (takenWork (now table) (now codes) w i n next number place .acc) ⌝ }
-    ensures { λ r. ⌜ (r .work ≡ takenWork (now (table .entry)) (now (codes .entry)) w i n next number place) × (r .upto ≡ i + n) ⌝ }
+    requires { ⌜ Good recordGroups (takenWork (now table) (now codes) work i n next number place .acc) ⌝ }
+    ensures { λ r. ⌜ (r .work ≡ takenWork (now (table .entry)) (now (codes .entry)) work i n next number place) × (r .upto ≡ i + n) ⌝ }
 {
-    let a = w.acc;
+    let a = work.acc;
     let tail = last_imm(table, codes, a.tail, i, n);
     let acc = OpBatchAccumulator {
         cur: a.cur,
@@ -429,17 +199,21 @@ fn gather(
         total: a.total + n as u8,
         tail,
     };
-    let work = Work {
+    let taken = Work {
         acc,
-        base: w.base,
-        batches: w.batches,
+        base: work.base,
+        batches: work.batches,
     };
-    Taken { work, upto: i + n }
+    Taken {
+        work: taken,
+        upto: i + n,
+    }
 }
 
 // The operations from the i-th on that join the current group as it is, up to the first that does not.
 fn join_ops(
-    w: Work,
+    width: usize,
+    work: Work,
     i: usize,
     table: &[u8],
     codes: &[u8],
@@ -448,17 +222,17 @@ fn join_ops(
     out_values: &mut [u64],
     records: &mut [u8],
 ) -> Taken
-    requires sizes { ⌜ (length (now table) ≡ 128) × (length (now codes) ≤ 16384) × (length (now values) ≡ length (now codes)) × (i ≤ length (now codes)) ⌝ }
-    requires going { ⌜ Going (arena (now «out_codes») (now «out_values») (now records)) (now table) (now codes) (now values) i w (arena (now «out_codes») (now «out_values») (now records)) ⌝ }
+    requires sizes { ⌜ (length (now table) ≡ 128) × (length (now codes) ≤ 16384) × (length (now values) ≡ length (now codes)) × (i ≤ length (now codes)) × (2 ≤ width) × (width ≤ recordGroups) ⌝ }
+    requires going { ⌜ Going width (arena (now «out_codes») (now «out_values») (now records)) (now table) (now codes) (now values) i work (arena (now «out_codes») (now «out_values») (now records)) ⌝ }
     ensures place { λ r. ⌜ (i ≤ r .upto) × (r .upto ≤ length (now (codes .entry))) ⌝ }
-    ensures going { λ r. ⌜ Going (arena (now («out_codes» .entry)) (now («out_values» .entry)) (now (records .entry))) (now (table .entry)) (now (codes .entry)) (now (values .entry)) (r .upto) (r .work) (arena (now («out_codes» .exit)) (now («out_values» .exit)) (now (records .exit))) ⌝ }
+    ensures going { λ r. ⌜ Going width (arena (now («out_codes» .entry)) (now («out_values» .entry)) (now (records .entry))) (now (table .entry)) (now (codes .entry)) (now (values .entry)) (r .upto) (r .work) (arena (now («out_codes» .exit)) (now («out_values» .exit)) (now (records .exit))) ⌝ }
 {
-    let a = w.acc;
-    let at = RECORD_SIZE * w.batches;
+    let a = work.acc;
+    let b = work.batches;
     let t = a.total as usize;
-    let from = w.base + t;
-    if !room_ahead(from, at, out_codes.len(), out_values.len(), records.len()) {
-        return Taken { work: w, upto: i };
+    let from = work.base + t;
+    if !room_ahead(from, b, out_codes.len(), out_values.len(), records.len()) {
+        return Taken { work, upto: i };
     }
     let end = most(a.inside, i, codes.len());
     let mut next = a.next;
@@ -468,11 +242,11 @@ fn join_ops(
     while n < end {
         let code = codes[i + n];
         let v = values[i + n];
-        let k = slots(table, code, v, next, end - n);
+        let k = slots(width, table, code, v, next, end - n);
         if 1 < k {
-            return gather(w, table, codes, i, n, next, number, place);
+            return gather(work, table, codes, i, n, next, number, place);
         }
-        keep(v, at, next, records);
+        keep(v, b, next, records);
         out_codes[from + n] = code;
         out_values[from + n] = v;
         number = number + word::wide(code) * place;
@@ -480,7 +254,7 @@ fn join_ops(
         next = next + k;
         n += 1;
     }
-    gather(w, table, codes, i, n, next, number, place)
+    gather(work, table, codes, i, n, next, number, place)
 }
 
 // How much a list comes to; or the number of refusal and the place of its first operation that is not admissible.
@@ -491,6 +265,7 @@ pub enum Batches {
 
 // The batches of a list, written to runs that are all zero. What the runs have no room for falls away; what is replied does not.
 pub fn batch_ops(
+    width: usize,
     table: &[u8],
     codes: &[u8],
     values: &[u64],
@@ -498,12 +273,12 @@ pub fn batch_ops(
     out_values: &mut [u64],
     records: &mut [u8],
 ) -> Batches
-    requires sizes { ⌜ (length (now table) ≡ 128) × (length (now codes) ≤ 16384) × (length (now values) ≡ length (now codes)) ⌝ }
+    requires sizes { ⌜ (length (now table) ≡ 128) × (length (now codes) ≤ 16384) × (length (now values) ≡ length (now codes)) × (2 ≤ width) × (width ≤ recordGroups) ⌝ }
     requires zero { ⌜ arena (now «out_codes») (now «out_values») (now records) ≡ filled (arena (now «out_codes») (now «out_values») (now records)) noBlock ⌝ }
-    ensures { λ r. ⌜ Batched (listed (now (table .entry)) (now (codes .entry)) (now (values .entry))) r (arena (now («out_codes» .entry)) (now («out_values» .entry)) (now (records .entry))) (arena (now («out_codes» .exit)) (now («out_values» .exit)) (now (records .exit))) ⌝ }
+    ensures { λ r. ⌜ Batched (listed width (now (table .entry)) (now (codes .entry)) (now (values .entry))) r (arena (now («out_codes» .entry)) (now («out_values» .entry)) (now (records .entry))) (arena (now («out_codes» .exit)) (now («out_values» .exit)) (now (records .exit))) ⌝ }
 {
     let fresh = OpBatchAccumulator::new();
-    let mut w = Work {
+    let mut work = Work {
         acc: fresh,
         base: 0,
         batches: 0,
@@ -518,8 +293,9 @@ pub fn batch_ops(
         }
         let kind = table[code as usize];
         let imm = kind == 1;
-        let s = step(w, code, imm, v, out_codes, out_values, records);
+        let s = step(width, work, code, imm, v, out_codes, out_values, records);
         let t = join_ops(
+            width,
             s,
             i + 1,
             table,
@@ -529,10 +305,10 @@ pub fn batch_ops(
             out_values,
             records,
         );
-        w = t.work;
+        work = t.work;
         i = t.upto;
     }
-    let e = end_batch(w, records);
+    let e = end_batch(work, records);
     Batches::Done {
         batches: e.batches,
         operations: e.base,

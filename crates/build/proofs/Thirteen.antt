@@ -8,6 +8,7 @@ use borrow.Author.Tests.{leb-true, leb-false}
 use lib.ListN.{length}
 use lib.Dec.{leb, ltb, eqb}
 use Rattle.rules.specs.Answer.{Answer, good, refused, refuse, refuseFirst}
+use Rattle.rules.specs.Refusals.{no-room₁₃}
 use Rattle.rules.specs.Operations.{Op, operations, goodTable, admissible, opFault}
 use Rattle.rules.specs.Batching.{batchesOf}
 use Rattle.rules.specs.Record.{Block, blockOf}
@@ -76,7 +77,7 @@ module _ (answer : Room → Answer Block) (b : Block) where
       yes : (room : Room) → Enough b room → answer room ≡ good b
       yes room e = elim (room? b room) [ enough p q ↦ f room ∙ ap (λ (x : Bool). refuse (not x) 13 0 (good b)) p | short p s ↦ absurd (not-both b room e s) ]
 
-      no : (room : Room) → Short b room → answer room ≡ refused 13 0
+      no : (room : Room) → Short b room → answer room ≡ refused no-room₁₃ 0
       no room s = elim (room? b room) [ enough p e ↦ absurd (not-both b room e s) | short p q ↦ f room ∙ ap (λ (x : Bool). refuse (not x) 13 0 (good b)) p ]
 
   same-number : (m n p q : ℕ) → _≡_ {A = Answer Block} (refused m p) (refused n q) → (m ≡ n) × (p ≡ q)

@@ -1,10 +1,11 @@
--- No public contract cites this page: what the checks of the input before its operations say of the rules' answer.
+-- No public contract cites this page: what the checks of the input before its operations say of the rules' answer. `w` is the width.
 use mathlib.Core.Path.{_≡_}
 use mathlib.Core.Bool.{not}
 use mathlib.Core.List.{List, map}
 use Prim.Native.Nat.{ℕ, _≤_}
 use lib.ListN.{length}
 use Rattle.rules.specs.Answer.{Answer, good, refused, refuse, refuseFirst}
+use Rattle.rules.specs.Refusals.{no-room₁₃}
 use Rattle.rules.specs.Operations.{operations, opFault}
 use Rattle.rules.specs.Batching.{batchesOf}
 use Rattle.rules.specs.Record.{Block, blockOf}
@@ -20,11 +21,11 @@ heard (Refused n p) r = refused n p
 
 -- the last guard: what is left to decide once the operations have passed
 abbrev pub placed : Block → Room → Answer Block
-placed b room = refuse (not (roomFor b room)) 13 0 (good b)
+placed b room = refuse (not (roomFor b room)) no-room₁₃ 0 (good b)
 
 -- the block of a list
-abbrev pub blockFor : List ℕ → List ℕ → List ℕ → Block
-blockFor t cs vs = blockOf (batchesOf 8 t (operations cs vs))
+abbrev pub blockFor : ℕ → List ℕ → List ℕ → List ℕ → Block
+blockFor w t cs vs = blockOf (batchesOf w t (operations cs vs))
 
 -- what has passed can be batched
 abbrev pub Fit : List ℕ → List ℕ → List ℕ → Verdict → Type 0
@@ -33,4 +34,4 @@ Fit t cs vs (Refused n p) = Unit
 
 pub record Checked (t cs vs : List ℕ) (v : Verdict) : Type 0 where
   pub fit : Fit t cs vs v
-  pub decides : (room : Room) → built 8 t cs vs room ≡ heard v (refuseFirst 0 (map (opFault t) (operations cs vs)) (placed (blockFor t cs vs) room))
+  pub decides : (w : ℕ) (room : Room) → built w t cs vs room ≡ heard v (refuseFirst 0 (map (opFault t) (operations cs vs)) (placed (blockFor w t cs vs) room))

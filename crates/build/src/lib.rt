@@ -3,7 +3,7 @@ ghost use mathlib.Core.Path.{_≡_};
 ghost use mathlib.Core.Bool.{_&&_};
 ghost use Prim.Native.Nat.{_/_};
 ghost use lib.Dec.{leb};
-ghost use Rattle.rules.specs.Record.{noBlock};
+ghost use Rattle.rules.specs.Record.{recordSize, noBlock};
 ghost use Rattle.rules.specs.Functions.{arena, filled, built};
 ghost use Rattle.build.specs.Outcome.{Outcome};
 ghost use Rattle.build.specs.Checked.{Checked};
@@ -46,7 +46,7 @@ fn check_input(table: &[u8], codes: &[u8], values: &[u64]) -> operation::Verdict
 
 // Whether runs of these lengths hold so much.
 fn room_for(batches: usize, operations: usize, codes: usize, values: usize, records: usize) -> bool
-    ensures { λ r. ⌜ r ≡ (leb operations codes && (leb operations values && leb batches (records / 82))) ⌝ }
+    ensures { λ r. ⌜ r ≡ (leb operations codes && (leb operations values && leb batches (records / recordSize))) ⌝ }
 {
     if codes < operations {
         return false;
@@ -54,7 +54,7 @@ fn room_for(batches: usize, operations: usize, codes: usize, values: usize, reco
     if values < operations {
         return false;
     }
-    batches <= records / batcher::RECORD_SIZE
+    batches <= records / op_batch::RECORD
 }
 
 // All of the three runs 0.
@@ -82,7 +82,15 @@ pub fn build(
     if let operation::Verdict::Refused { number, place } = verdict {
         return Built::Refused { number, place };
     }
-    let answer = batcher::batch_ops(table, codes, values, out_codes, out_values, records);
+    let answer = batcher::batch_ops(
+        op_batch::WIDTH,
+        table,
+        codes,
+        values,
+        out_codes,
+        out_values,
+        records,
+    );
     match answer {
         batcher::Batches::Fault { number, place } => {
             clear(out_codes, out_values, records);

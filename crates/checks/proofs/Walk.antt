@@ -10,6 +10,7 @@ use lib.ListN.{length}
 use lib.Dec.{leb, eqb}
 use Rattle.rules.specs.Lists.{total}
 use Rattle.rules.specs.Answer.{Answer, good, refused, refuseFirst}
+use Rattle.rules.specs.Refusals.{bad-structure₁₅}
 use Rattle.rules.specs.Record.{Record, recordSize, recordAt, recordsFrom, recordsIn}
 use Rattle.rules.specs.Checks.{ninth, recordRight, structureFaults}
 use Rattle.rules.specs.Functions.{arena, blockIn, within}
@@ -45,7 +46,7 @@ module _ (w n : ℕ) (s : List ℕ) (m b sum : ℕ) where
   unfolding left faultsOf refuseFirst total
   turn h e = rw (records-turn n s b h, e, add-assoc sum (ninth (recordAt s b)) (total (map ninth (recordsFrom (n - (b + 1)) s (b + 1)))))
 
-  pub stop : b < n → recordRight w (recordAt s b) ≡ false → left w n s m b sum ≡ refused 15 b
+  pub stop : b < n → recordRight w (recordAt s b) ≡ false → left w n s m b sum ≡ refused bad-structure₁₅ b
   unfolding left faultsOf refuseFirst
   stop h e = rw (records-turn n s b h, e)
 

@@ -9,25 +9,25 @@ use borrow.Author.Tests.{ltb-false, leb-true, le-leb, eq-eqb, not-false}
 use lib.ListN.{length, getD, take, drop, length-take}
 use lib.Dec.{leb, ltb, eqb}
 use lib.Count.{trailingZeros}
-use Rattle.rules.specs.Lists.{total, every}
+use Rattle.rules.specs.Lists.{total, every, All}
 use Rattle.rules.specs.Digits.{digits, number, leAt}
 use Rattle.rules.specs.Answer.{found}
 use Rattle.rules.specs.Operations.{Op, codes, field, assigned, valued, hasImmediate, valueRight, goodTable, admissible}
 use Rattle.rules.specs.Record.{Record, Block, startsFrom, codesNumber, recordBy, part, cut, immediates}
 use Rattle.rules.specs.Bytes.{countBy, countAt, valueAt, opAt, opsAt, batchCountAt, upTo, sizesAt, bitsAt, nibblesAt, flagsAt}
-use Rattle.rules.specs.Block.{Room, batchAt, batchesAt}
-use Rattle.rules.proofs.Slots.{emptyBefore, slots, batchBy, batch-is, total-split}
+use Rattle.rules.specs.Block.{Room, batchAt}
+use Rattle.rules.proofs.Slots.{emptyBefore, slots, batchBy, batch-is, total-split, batchByBatch, batches-is}
 use Rattle.rules.specs.Checks.{ninth, startsRight, recordRight, paddingRight}
 use Rattle.rules.specs.Functions.{decoded, roomFor}
 use Rattle.rules.proofs.Answer.{item, settle}
 use Rattle.rules.proofs.Digits.{length-digits}
 use Rattle.rules.proofs.Runs.{fitted-length}
 use Rattle.rules.proofs.Operations.{to-admissible, true-left, true-right}
-use Rattle.claims.specs.Shape.{All}
 use Rattle.claims.proofs.Found.{clash, passed, came, Found, stages}
-use Rattle.claims.proofs.Arena.{Sized}
+use Rattle.claims.proofs.Row.{row-made}
 use Rattle.claims.proofs.Back.{number-small, all-fitted}
 use Rattle.rules.proofs.Sizes.{length-codes, length-starts}
+use Rattle.rules.proofs.Records.{Sized}
 
 abbrev pub flagsRight : List ℕ → Bool
 flagsRight fs = every (λ (f : ℕ). leb f 1) fs
@@ -168,13 +168,7 @@ module _ (s : List ℕ) (w : ℕ) where
       settle (λ ns next. Sizes w ns) ds ns (at + 4) next (z .1) (record { high = zeros-total (drop w ds) (not-false _ (z .0)); many = length-digits 16 8 (leAt 4 s at); small = none-over ds (not-false _ (a .0)) })
 
   pub nibbles-made : (k at b : ℕ) (nss : List (List ℕ)) (next : ℕ) → nibblesAt w s k at b ≡ found nss next → (length nss ≡ k) × All (Sizes w) nss
-  unfolding nibblesAt
-  nibbles-made zero at b nss next h = settle (λ nss next. (length nss ≡ 0) × All (Sizes w) nss) [] nss at next h (refl, tt)
-  nibbles-made (suc k) at b nss next h =
-      let a = came (sizesAt w s at b) _ nss next h in
-      let d = came (nibblesAt w s k (a .to) (b + 1)) _ nss next (a .rest) in
-      let ih = nibbles-made k (a .to) (b + 1) (d .got) (d .to) (d .first) in
-      settle (λ nss next. (length nss ≡ suc k) × All (Sizes w) nss) (a .got ∷ d .got) nss (d .to) next (d .rest) (ap suc (ih .0), (sizes-made at b (a .got) (a .to) (a .first), ih .1))
+  nibbles-made = row-made (sizesAt w s) (Sizes w) sizes-made
 
   bits-made : (at b : ℕ) (fs : List ℕ) (next : ℕ) → bitsAt w s at b ≡ found fs next → Bits fs
   unfolding bitsAt
@@ -184,13 +178,7 @@ module _ (s : List ℕ) (w : ℕ) where
       settle (λ fs next. Bits fs) f fs (at + 1) next (a .1) (record { right = bits-right 8 (getD s at 0); many = length-digits 2 8 (getD s at 0) })
 
   pub flags-made : (k at b : ℕ) (fss : List (List ℕ)) (next : ℕ) → flagsAt w s k at b ≡ found fss next → (length fss ≡ k) × All Bits fss
-  unfolding flagsAt
-  flags-made zero at b fss next h = settle (λ fss next. (length fss ≡ 0) × All Bits fss) [] fss at next h (refl, tt)
-  flags-made (suc k) at b fss next h =
-      let a = came (bitsAt w s at b) _ fss next h in
-      let d = came (flagsAt w s k (a .to) (b + 1)) _ fss next (a .rest) in
-      let ih = flags-made k (a .to) (b + 1) (d .got) (d .to) (d .first) in
-      settle (λ fss next. (length fss ≡ suc k) × All Bits fss) (a .got ∷ d .got) fss (d .to) next (d .rest) (ap suc (ih .0), (bits-made at b (a .got) (a .to) (a .first), ih .1))
+  flags-made = row-made (bitsAt w s) Bits bits-made
 
   -- ---- counts and operations
 
@@ -240,14 +228,7 @@ module _ (s : List ℕ) (w : ℕ) where
         go false v k e = settle (λ x next. admissible t x ≡ true) (record { code = getD s at 0; value = 0 }) x (at + 1) next e (tests (getD s at 0) 0 k false v refl)
 
     pub ops-allowed : (n at i : ℕ) (xs : List Op) (next : ℕ) → opsAt t s n at i ≡ found xs next → (length xs ≡ n) × All (λ x. admissible t x ≡ true) xs
-    unfolding opsAt
-    ops-allowed zero at i xs next h = settle (λ xs next. (length xs ≡ 0) × All (λ x. admissible t x ≡ true) xs) [] xs at next h (refl, tt)
-    ops-allowed (suc n) at i xs next h =
-        let a = came (opAt t s at i) _ xs next h in
-        let d = came (opsAt t s n (a .to) (i + 1)) _ xs next (a .rest) in
-        let ih = ops-allowed n (a .to) (i + 1) (d .got) (d .to) (d .first) in
-        settle (λ xs next. (length xs ≡ suc n) × All (λ x. admissible t x ≡ true) xs) (a .got ∷ d .got) xs (d .to) next (d .rest)
-        (ap suc (ih .0), (op-allowed at i (a .got) (a .to) (a .first), ih .1))
+    ops-allowed = row-made (opAt t s) (λ x. admissible t x ≡ true) op-allowed
 
 -- ---- numbers fit eight bytes
 
@@ -324,9 +305,7 @@ pub sized : (ns fs vs : List ℕ) → length ns ≡ 8 → length fs ≡ 8 → Al
 unfolding recordBy
 sized ns fs vs l m h =
     record {
-      starts = length-starts 0 ns ∙ omega arith;
-      flags = m;
-      numbers = fitted-length 8 vs;
+      whole = record { starts = length-starts 0 ns ∙ omega arith; flags = m; numbers = fitted-length 8 vs };
       small = all-fitted 8 (omega arith) [] Small 8 vs (omega arith) h;
     }
 
@@ -377,14 +356,14 @@ module _ (w : ℕ) (t : List ℕ) (xs : List Op) (o : All (λ x. admissible t x 
   more-made at to next r rs a d = record { right = (a .right, d .right); sized = (a .sized, d .sized); after = omega (arith, a .after, d .after); inside = d .inside }
 
   batches-made : (nss fss : List (List ℕ)) (at b : ℕ) (rs : List Record) (next : ℕ) → length nss ≡ length fss → All (Sizes w) nss → All Bits fss → at ≤ length xs
-      → batchesAt w t xs at b nss fss ≡ found rs next → Read-batches at rs next × (length rs ≡ length nss)
-  unfolding batchesAt
+      → batchByBatch w t xs at b nss fss ≡ found rs next → Read-batches at rs next × (length rs ≡ length nss)
+  unfolding batchByBatch
   batches-made [] [] at b rs next l z f k h = settle (λ rs next. Read-batches at rs next × (length rs ≡ 0)) [] rs at next h (none-made at k, refl)
   batches-made [] (fs ∷ fss) at b rs next l z f k h = absurd (omega arith)
   batches-made (ns ∷ nss) [] at b rs next l z f k h = absurd (omega arith)
   batches-made (ns ∷ nss) (fs ∷ fss) at b rs next l z f k h =
       let a = came (batchAt w t xs at b ns fs) _ rs next h in
-      let d = came (batchesAt w t xs (a .to) (b + 1) nss fss) _ rs next (a .rest) in
+      let d = came (batchByBatch w t xs (a .to) (b + 1) nss fss) _ rs next (a .rest) in
       let one = batch-made at b ns fs (a .got) (a .to) (z .0) (f .0) (a .first) in
       let ih = batches-made nss fss (a .to) (b + 1) (d .got) (d .to) (omega arith) (z .1) (f .1) (one .inside) (d .first) in
       settle (λ rs next. Read-batches at rs next × (length rs ≡ suc (length nss))) (a .got ∷ d .got) rs (d .to) next (d .rest)
@@ -415,7 +394,7 @@ block-made w t s at room blk next h = go (stages w t s at room blk next h)
         let q₁ = nibbles-made s w (f .k) (f .a₁) 0 (l .sizes) (i .a₁) (i .sizes) in
         let q₂ = flags-made s w (f .k) (i .a₁) 0 (l .flags) next (i .flags) in
         let q₄ = ops-allowed s w t (d .n) (d .a₁) 0 (blk .ops) (d .a₂) (d .codes) in
-        let q₃ = batches-made w t (blk .ops) (q₄ .1) (l .sizes) (l .flags) 0 0 (blk .records) (f .used) (q₁ .0 ∙ sym (q₂ .0)) (q₁ .1) (q₂ .1) zero-le (f .records .batches) in
+        let q₃ = batches-made w t (blk .ops) (q₄ .1) (l .sizes) (l .flags) 0 0 (blk .records) (f .used) (q₁ .0 ∙ sym (q₂ .0)) (q₁ .1) (q₂ .1) zero-le (sym (batches-is w t (blk .ops) (l .sizes) (l .flags) (q₁ .0 ∙ sym (q₂ .0))) ∙ f .records .batches) in
         let g = q₃ .0 in
         let fits : length (blk .records) ≤ room .records = omega (arith, d .many, q₃ .1, q₁ .0) in
         let c = true-left (leb (d .n) (room .codes)) (leb (d .n) (room .values)) (d .wide) in

@@ -7,8 +7,8 @@ use native.Mathlib.Nat.{add-zero, add-assoc, zero-add, pow-zero, pow-succ', mul-
 use native.Mathlib.Omega.{arith}
 use borrow.Author.Tests.{eq-eqb, le-leb, le-ltb}
 use lib.ListN.{length, getD, take, drop, replicate, length-append, length-map}
-use lib.Seq.{getD-append-seam, append-snoc, take-append-seam, drop-append-seam, take-append-add, drop-append-add}
-use Rattle.rules.specs.Lists.{fitted, total, every}
+use lib.Seq.{getD-append-seam, take-append-seam, drop-append-seam, take-append-add, drop-append-add}
+use Rattle.rules.specs.Lists.{fitted, total, every, inRow, All}
 use Rattle.rules.specs.Digits.{digits, number, leBytes}
 use Rattle.rules.specs.Answer.{found}
 use Rattle.rules.specs.Operations.{Op, noop, goodTable}
@@ -16,13 +16,14 @@ use Rattle.rules.specs.Batching.{Group, ops, imm}
 use Rattle.rules.specs.Record.{Record, opsIn, opsOf, paddedOf, sizeOf, flagOf, codesNumber, numberOf, startsFrom, recordBy, recordOf, Block, blockOf, differences, part, cut, immediates}
 use Rattle.rules.specs.Bytes.{countAt, countBytes, opsAt, opsBytes, batchCountAt, nibbleBytes, flagBytes, upTo, sizesAt, bitsAt, nibblesAt, flagsAt}
 use Rattle.rules.specs.Block.{Room, blockBytes, batchAt, batchesAt, headAt, layoutAt, batchesBy, blockAt}
-use Rattle.rules.proofs.Slots.{emptyBefore, slots, batchBy, batch-is, total-split}
+use Rattle.rules.proofs.Slots.{emptyBefore, slots, batchBy, batch-is, total-split, batchByBatch, batches-is}
 use Rattle.rules.specs.Checks.{endsInNoop, paddingRight}
 use Rattle.rules.specs.Functions.{decoded}
-use Rattle.claims.specs.Shape.{All, EndsInNoop}
+use Rattle.claims.specs.Shape.{EndsInNoop}
 use Rattle.claims.proofs.Shape.{RightGroup, Follow}
 use Rattle.rules.proofs.Runs.{fitted-length, zeros-fitted}
 use Rattle.claims.proofs.Stands.{Stands, here, first-of, rest-of, stands-fits}
+use Rattle.claims.proofs.Row.{row-back}
 use Rattle.claims.proofs.Bytes.{digits-number, count-back, ops-back, batchCount-stands}
 use Rattle.rules.proofs.Digits.{length-digits, leAt-back}
 use Rattle.rules.proofs.Operations.{Admissible}
@@ -70,7 +71,7 @@ pub part-at : (pre g post : List Op) → part (length g) (pre ++ (g ++ post)) (l
 part-at pre g post = rw (drop-append-seam pre (g ++ post), take-append-seam g post)
 
 pub total-sizes : (gs : List Group) (k : ℕ) → total (map sizeOf gs ++ replicate k 0) ≡ length (opsOf gs)
-unfolding total opsOf sizeOf
+unfolding total inRow sizeOf
 total-sizes [] zero = refl
 total-sizes [] (suc k) = rw (total-sizes [] k)
 total-sizes (g ∷ gs) k = rw (total-sizes gs k) (sym (length-append (opsIn g) (opsOf gs)))
@@ -85,39 +86,30 @@ module _ (w : ℕ) (w8 : w ≤ 8) where
     pub high : All (λ n. n ≤ 0) (drop w (differences (r .starts)))
     pub clear : All (λ n. n ≤ 0) (drop w (r .flags))
 
-  sizes-back : (ns p q : List ℕ) (b : ℕ) → length ns ≡ 8 → All (λ n. n ≤ 9) ns → All (λ n. n ≤ 0) (drop w ns) → sizesAt w (p ++ (leBytes 4 (number 16 ns) ++ q)) (length p) b ≡ found ns (length p + 4)
+  sizes-back : (r : Record) (p q : List ℕ) (b : ℕ) → Wire r → sizesAt w (p ++ (leBytes 4 (number 16 (sizesOf r)) ++ q)) (length p) b ≡ found (sizesOf r) (length p + length (leBytes 4 (number 16 (sizesOf r))))
   unfolding sizesAt
-  sizes-back ns p q b l h z =
-      let s : number 16 ns < 256 ^ 4 = rw l at (number-small 16 ns (under ns h)) in
+  sizes-back r p q b h =
+      let ns = sizesOf r in
+      let s : number 16 ns < 256 ^ 4 = rw (h .eight) at (number-small 16 ns (under ns (h .sizes))) in
       let e = leAt-back 4 (number 16 ns) p q s in
-      let d : digits 16 8 (number 16 ns) ≡ ns = rw l at (digits-number 16 ns (under ns h)) in
-      rw (e, d, none-over 9 ns h, none-over 0 (drop w ns) z)
+      let d : digits 16 8 (number 16 ns) ≡ ns = rw (h .eight) at (digits-number 16 ns (under ns (h .sizes))) in
+      rw (e, d, none-over 9 ns (h .sizes), none-over 0 (drop w ns) (h .high), length-digits 256 4 (number 16 ns))
 
   pub nibbles-back : (rs : List Record) (p q : List ℕ) (b : ℕ) → All Wire rs
       → nibblesAt w (p ++ (nibbleBytes rs ++ q)) (length rs) (length p) b ≡ found (map sizesOf rs) (length p + length (nibbleBytes rs))
-  unfolding nibblesAt nibbleBytes
-  nibbles-back [] p q b h = rw add-zero
-  nibbles-back (r ∷ rs) p q b h =
-      let c : List ℕ = leBytes 4 (number 16 (sizesOf r)) in
-      let d : List ℕ = nibbleBytes rs in
-      let n : length c ≡ 4 = length-digits 256 4 (number 16 (sizesOf r)) in
-      let one = sizes-back (sizesOf r) p (d ++ q) b (h .0 .eight) (h .0 .sizes) (h .0 .high) in
-      let ih = nibbles-back rs (p ++ c) q (b + 1) (h .1) in
-      let rest : nibblesAt w (p ++ (c ++ (d ++ q))) (length rs) (length p + 4) (b + 1) ≡ found (map sizesOf rs) (length p + 4 + length d) = rw (append-assoc p c (d ++ q), length-append p c, n) at ih in
-      rw (append-assoc c d q, one, rest, length-append c d, n, add-assoc)
+  nibbles-back = row-back (sizesAt w) (λ (r : Record). leBytes 4 (number 16 (sizesOf r))) sizesOf Wire sizes-back
+
+  bits-back : (r : Record) (p q : List ℕ) (b : ℕ) → Wire r → bitsAt w (p ++ (number 2 (r .flags) ∷ q)) (length p) b ≡ found (r .flags) (length p + 1)
+  unfolding bitsAt
+  bits-back r p q b h =
+      let f : ℕ = number 2 (r .flags) in
+      let e : getD (p ++ (f ∷ q)) (length p) 0 ≡ f = getD-append-seam p f q 0 in
+      let g : digits 2 8 f ≡ r .flags = rw (h .bits) at (digits-number 2 (r .flags) (h .flags)) in
+      rw (e, g, none-over 0 (drop w (r .flags)) (h .clear))
 
   pub flags-back : (rs : List Record) (p q : List ℕ) (b : ℕ) → All Wire rs
       → flagsAt w (p ++ (flagBytes rs ++ q)) (length rs) (length p) b ≡ found (map (λ r. r .flags) rs) (length p + length (flagBytes rs))
-  unfolding flagsAt flagBytes bitsAt
-  flags-back [] p q b h = rw add-zero
-  flags-back (r ∷ rs) p q b h =
-      let f : ℕ = number 2 (r .flags) in
-      let d : List ℕ = flagBytes rs in
-      let e : getD (p ++ (f ∷ (d ++ q))) (length p) 0 ≡ f = getD-append-seam p f (d ++ q) 0 in
-      let ih = flags-back rs (p ++ (f ∷ [])) q (b + 1) (h .1) in
-      let rest : flagsAt w (p ++ (f ∷ (d ++ q))) (length rs) (length p + 1) (b + 1) ≡ found (map (λ r. r .flags) rs) (length p + 1 + length d) = rw (append-snoc p f (d ++ q), length-append) at ih in
-      let g : digits 2 8 f ≡ r .flags = rw (h .0 .bits) at (digits-number 2 (r .flags) (h .0 .flags)) in
-      rw (e, g, none-over 0 (drop w (r .flags)) (h .0 .clear), rest) (ap (found (r .flags ∷ map (λ r. r .flags) rs)) (omega arith))
+  flags-back = row-back (bitsAt w) (λ (r : Record). number 2 (r .flags) ∷ []) (λ (r : Record). r .flags) Wire bits-back
 
   -- ---- the front of sizes that are zero from their end on
 
@@ -145,7 +137,7 @@ module _ (w : ℕ) (w8 : w ≤ 8) where
   -- ---- a batch
 
   cut-back : (gs : List Group) (ns : List ℕ) (pre post : List Op) → take (length gs) (cut (map sizeOf gs ++ ns) (pre ++ (opsOf gs ++ post)) (length pre)) ≡ map opsIn gs
-  unfolding cut opsOf sizeOf
+  unfolding cut inRow sizeOf
   cut-back [] ns pre post = refl
   cut-back (g ∷ gs) ns pre post =
       let x = opsIn g in
@@ -176,7 +168,7 @@ module _ (w : ℕ) (w8 : w ≤ 8) where
 
     slots-back : (b k : ℕ) (gs : List Group) (due : List ℕ) (pre post : List Op) → Follow t due gs → All (RightGroup t) gs
         → slots t b (map sizeOf gs ++ replicate k 0) due (pre ++ (opsOf gs ++ post)) (length pre) ≡ found (map numberOf gs) (length pre + length (opsOf gs))
-    unfolding slots opsOf sizeOf opsIn numberOf
+    unfolding slots inRow sizeOf opsIn numberOf
     slots-back b k [] [] pre post f h = slots-zeros b k (pre ++ post) (length pre) ∙ ap (found []) (omega arith)
     slots-back b k [] (u ∷ due) pre post f h = elim f [ ]
     slots-back b k (imm v ∷ gs) [] pre post f h = elim f [ ]
@@ -249,15 +241,15 @@ module _ (w : ℕ) (w8 : w ≤ 8) where
     flags-of gs = refl
 
     pub batches-back : (bs : List (List Group)) (b : ℕ) (pre post : List Op) → All Writable bs
-        → batchesAt w t (pre ++ (paddedOf bs ++ post)) (length pre) b (map sizesOf (map recordOf bs)) (map (λ r. r .flags) (map recordOf bs)) ≡ found (map recordOf bs) (length pre + length (paddedOf bs))
-    unfolding batchesAt paddedOf
+        → batchByBatch w t (pre ++ (paddedOf bs ++ post)) (length pre) b (map sizesOf (map recordOf bs)) (map (λ r. r .flags) (map recordOf bs)) ≡ found (map recordOf bs) (length pre + length (paddedOf bs))
+    unfolding batchByBatch inRow
     batches-back [] b pre post h = rw add-zero
     batches-back (gs ∷ bs) b pre post h =
         let g = opsOf gs in
         let r = paddedOf bs in
         let one = record-back gs b pre (r ++ post) (h .0) in
         let ih = batches-back bs (b + 1) (pre ++ g) post (h .1) in
-        let rest : batchesAt w t (pre ++ (g ++ (r ++ post))) (length pre + length g) (b + 1) (map sizesOf (map recordOf bs)) (map (λ r. r .flags) (map recordOf bs)) ≡ found (map recordOf bs) (length pre + length g + length r) =
+        let rest : batchByBatch w t (pre ++ (g ++ (r ++ post))) (length pre + length g) (b + 1) (map sizesOf (map recordOf bs)) (map (λ r. r .flags) (map recordOf bs)) ≡ found (map recordOf bs) (length pre + length g + length r) =
         rw (append-assoc pre g (r ++ post), length-append pre g) at ih in
         rw (append-assoc g r post, one, rest, length-append g r, add-assoc)
 
@@ -315,7 +307,7 @@ module _ (w : ℕ) (w8 : w ≤ 8) where
   way : (t s : List ℕ) (at : ℕ) (room : Room) (n a₁ a₂ k a₃ a₄ a₅ : ℕ) (xs : List Op) (nss fss : List (List ℕ)) (rs : List Record)
       → Enough t s at room n k
       → countAt s at ≡ found n a₁ → opsAt t s n a₁ 0 ≡ found xs a₂ → batchCountAt s a₂ ≡ found k a₃ → nibblesAt w s k a₃ 0 ≡ found nss a₄ → flagsAt w s k a₄ 0 ≡ found fss a₅
-      → batchesAt w t xs 0 0 nss fss ≡ found rs (length xs)
+      → batchesAt w t xs nss fss ≡ found rs (length xs)
       → decoded w t s at room ≡ found (record { ops = xs; records = rs }) a₅
   unfolding decoded blockAt headAt layoutAt batchesBy
   way t s at room n a₁ a₂ k a₃ a₄ a₅ xs nss fss rs h e₁ e₂ e₃ e₄ e₅ e₆ =
@@ -338,7 +330,7 @@ module _ (w : ℕ) (w8 : w ≤ 8) where
   -- the bytes of a block whose batches are read as `out`
   pub read-back : (t : List ℕ) (blk : Block) (out : List Record) (s : List ℕ) (at : ℕ) (room : Room)
       → All Wire (blk .records) → All (Admissible t) (blk .ops) → length (blk .ops) ≤ 65535 → length (blk .records) ≤ 16384
-      → batchesAt w t (blk .ops) 0 0 (map sizesOf (blk .records)) (map (λ r. r .flags) (blk .records)) ≡ found out (length (blk .ops))
+      → batchesAt w t (blk .ops) (map sizesOf (blk .records)) (map (λ r. r .flags) (blk .records)) ≡ found out (length (blk .ops))
       → Stands (blockBytes t blk) s at → Enough t s at room (length (blk .ops)) (length (blk .records))
       → decoded w t s at room ≡ found (record { ops = blk .ops; records = out }) (at + length (blockBytes t blk))
   unfolding blockBytes
@@ -363,7 +355,7 @@ module _ (w : ℕ) (w8 : w ≤ 8) where
       let s₄ = rest-of m f s a₃ s₃ in
       let fits = stands-fits f s a₄ s₄ in
       let e₁ : countAt s at ≡ found (length xs) a₁ = here (λ s at. countAt s at ≡ found (length xs) (at + length c)) c s at (first-of c (o ++ (b ++ (m ++ f))) s at st) (λ p q. count-back (length xs) p q few) in
-      let e₂ : opsAt t s (length xs) a₁ 0 ≡ found xs a₂ = here (λ s at. opsAt t s (length xs) at 0 ≡ found xs (at + length o)) o s a₁ (first-of o (b ++ (m ++ f)) s a₁ s₁) (λ p q. ops-back t p q xs 0 ok) in
+      let e₂ : opsAt t s (length xs) a₁ 0 ≡ found xs a₂ = here (λ s at. opsAt t s (length xs) at 0 ≡ found xs (at + length o)) o s a₁ (first-of o (b ++ (m ++ f)) s a₁ s₁) (λ p q. ops-back t xs p q 0 ok) in
       let e₃ : batchCountAt s a₂ ≡ found (length rs) a₃ = batchCount-stands (length rs) s a₂ (first-of b (m ++ f) s a₂ s₂) less (omega arith) in
       let e₄ : nibblesAt w s (length rs) a₃ 0 ≡ found (map sizesOf rs) a₄ = here (λ s at. nibblesAt w s (length rs) at 0 ≡ found (map sizesOf rs) (at + length m)) m s a₃ (first-of m f s a₃ s₃) (λ p q. nibbles-back rs p q 0 wr) in
       let e₅ : flagsAt w s (length rs) a₄ 0 ≡ found (map (λ r. r .flags) rs) (a₄ + length f) = here (λ s at. flagsAt w s (length rs) at 0 ≡ found (map (λ r. r .flags) rs) (at + length f)) f s a₄ s₄ (λ p q. flags-back rs p q 0 wr) in
@@ -378,4 +370,4 @@ module _ (w : ℕ) (w8 : w ≤ 8) where
   unfolding blockOf
   block-back t bs s at room wr ok few less st h =
       let k : length (map recordOf bs) ≡ length bs = length-map bs recordOf in
-      read-back t (blockOf bs) (map recordOf bs) s at room (wires t bs wr) ok few (omega arith) (rw (append-nil (paddedOf bs), zero-add) at (batches-back t bs 0 [] [] wr)) st (rw (sym k) at h)
+      read-back t (blockOf bs) (map recordOf bs) s at room (wires t bs wr) ok few (omega arith) (batches-is w t (paddedOf bs) (map sizesOf (map recordOf bs)) (map (λ r. r .flags) (map recordOf bs)) (simp length-map) ∙ (rw (append-nil (paddedOf bs), zero-add) at (batches-back t bs 0 [] [] wr))) st (rw (sym k) at h)

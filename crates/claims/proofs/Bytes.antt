@@ -1,8 +1,8 @@
 -- What is written is read back: numbers, counts, operations, the batch count. Assumes nothing.
 use mathlib.Core.Path.{_≡_, refl, sym, ap, _∙_}
-use mathlib.Core.List.{List, [], _∷_, _++_, append-assoc}
+use mathlib.Core.List.{List, [], _∷_, _++_}
 use Prim.Native.Nat.{ℕ, zero, suc, _+_, _-_, _*_, _/_, _%_, _^_, _≤_, _<_}
-use native.Mathlib.Nat.{add-zero, add-assoc, pow-zero, pow-suc, mod-add-div, div-lt-iff-lt-mul, add-mul-mod-self-left, add-mul-div-left, mod-eq-of-lt, div-eq-of-lt, zero-add}
+use native.Mathlib.Nat.{pow-zero, pow-suc, mod-add-div, div-lt-iff-lt-mul, add-mul-mod-self-left, add-mul-div-left, mod-eq-of-lt, div-eq-of-lt, zero-add}
 use native.Mathlib.Numerals.{add-one}
 use native.Mathlib.Omega.{arith}
 use borrow.Author.Tests.{eq-eqb, ne-eqb, lt-leb, lt-ltb, le-ltb}
@@ -13,12 +13,13 @@ use Rattle.rules.specs.Digits.{digits, number, leAt, leBytes}
 use Rattle.rules.specs.Answer.{found}
 use Rattle.rules.specs.Operations.{Op, field, kindOf, assigned, valued}
 use Rattle.rules.specs.Bytes.{least, countBy, countAt, more, countBytes, valueAt, opAt, opsAt, opBytes, opsBytes, batchCountAt}
-use Rattle.claims.specs.Shape.{All}
 use Rattle.rules.proofs.Operations.{Admissible}
 use Rattle.rules.proofs.Digits.{length-digits, leAt-back}
-use Rattle.claims.proofs.Lists.{split}
+use Rattle.claims.proofs.Lists.{split, map-same}
+use Rattle.claims.proofs.Row.{row-back}
 use Rattle.claims.proofs.Stands.{Stands, here}
 use Rattle.rules.proofs.Sizes.{more-0, more-1, more-2, length-count}
+use Rattle.rules.specs.Lists.{All}
 
 -- ---- digits
 
@@ -132,17 +133,9 @@ module _ (t : List ℕ) where
     pub op-back : opAt t (p ++ (opBytes t x ++ q)) (length p) i ≡ found x (length p + length (opBytes t x))
     op-back = split (kindOf t (x .code)) 1 (λ h. plain-back (omega arith)) (λ h. valued-back (omega arith))
 
-  pub ops-back : (p q : List ℕ) (xs : List Op) (i : ℕ) → All (Admissible t) xs
+  pub ops-back : (xs : List Op) (p q : List ℕ) (i : ℕ) → All (Admissible t) xs
       → opsAt t (p ++ (opsBytes t xs ++ q)) (length xs) (length p) i ≡ found xs (length p + length (opsBytes t xs))
-  unfolding opsAt opsBytes
-  ops-back p q [] i h = rw add-zero
-  ops-back p q (x ∷ xs) i h =
-      let b : List ℕ = opBytes t x in
-      let r : List ℕ = opsBytes t xs in
-      let one = op-back p (r ++ q) x i (h .0) in
-      let ih = ops-back (p ++ b) q xs (i + 1) (h .1) in
-      let rest : opsAt t (p ++ (b ++ (r ++ q))) (length xs) (length p + length b) (i + 1) ≡ found xs (length p + length b + length r) = rw (append-assoc p b (r ++ q), length-append p b) at ih in
-      rw (append-assoc b r q, one, rest, length-append b r, add-assoc)
+  ops-back xs p q i h = row-back (opAt t) (opBytes t) (λ (x : Op). x) (Admissible t) (λ x p q i k. op-back p q x i k) xs p q i h ∙ ap (λ (ys : List Op). found ys (length p + length (opsBytes t xs))) (map-same xs)
 
 -- ---- the batch count
 

@@ -7,17 +7,15 @@ use native.Mathlib.Omega.{arith}
 use borrow.Author.Tests.{leb-true, eqb-true, not-false}
 use lib.ListN.{length, getD, take, drop}
 use lib.Dec.{leb, eqb}
-use Rattle.rules.specs.Lists.{total}
+use Rattle.rules.specs.Lists.{total, All}
 use Rattle.rules.specs.Answer.{Answer, good, refuseFirst}
 use Rattle.rules.specs.Operations.{goodTable, opFault, admissible, Op}
-use Rattle.rules.specs.Record.{Record, Block, startsFrom, differences, recordAt, recordsFrom, recordsIn, codesNumber, immediates}
+use Rattle.rules.specs.Record.{Record, Block, startsFrom, differences, recordAt, recordsFrom, recordsIn, codesNumber, immediates, NineAndEight, recordSize}
 use Rattle.rules.specs.Bytes.{upTo}
-use Rattle.rules.specs.Checks.{ninth, startsRight, recordRight, structureFaults, held, paddingFault, paddingFaults, orElse, commitmentFault, commitmentFaults, groupsFault, placingFault, begins}
+use Rattle.rules.specs.Checks.{ninth, startsRight, recordRight, structureFaults, held, paddingFault, paddingFaults, commitmentFault, commitmentFaults, groupsFault, placingFault, begins}
 use Rattle.rules.specs.Functions.{Arena, blockIn, within, paddingChecked, commitmentChecked}
 use Rattle.rules.proofs.Answer.{clash, passed, first-append}
 use Rattle.rules.proofs.Operations.{true-left, true-right, length-operations}
-use Rattle.claims.specs.Shape.{All}
-use Rattle.claims.specs.Sizes.{NineAndEight}
 use Rattle.rules.proofs.Slots.{total-split, or-first}
 use Rattle.claims.proofs.Again.{start-at, take-total}
 use Rattle.rules.proofs.Sizes.{length-bytesAt, length-wordsAt}
@@ -160,7 +158,7 @@ unfolding recordsFrom recordAt
 shaped-from zero s b = (tt, refl)
 shaped-from (suc k) s b =
     let ih = shaped-from k s (b + 1) in
-    ((record { starts = length-bytesAt 9 s (82 * b); flags = length-bytesAt 8 s (82 * b + 9); numbers = length-wordsAt 8 s (82 * b + 17) }, ih .0), ap suc (ih .1))
+    ((record { starts = length-bytesAt 9 s (recordSize * b); flags = length-bytesAt 8 s (recordSize * b + 9); numbers = length-wordsAt 8 s (recordSize * b + 17) }, ih .0), ap suc (ih .1))
 
 pub limits : (a : Arena) → within a ≡ true → (length (blockIn a .ops) ≤ 65535) × (length (blockIn a .records) ≤ 16384)
 unfolding within blockIn recordsIn
@@ -168,12 +166,12 @@ limits a h =
     let n = length (a .codes) in
     let k = length (a .records) in
     let equal = eqb n (length (a .values)) in
-    let whole = eqb (k % 82) 0 in
+    let whole = eqb (k % recordSize) 0 in
     let h₁ = true-right equal _ h in
     let h₂ = true-right whole _ (true-right (leb n 65535) _ h₁) in
     let l = length-operations (a .codes) (a .values) (eqb-true n (length (a .values)) (true-left equal _ h)) in
-    (rw l (leb-true n 65535 (true-left (leb n 65535) _ h₁)), rw (shaped-from (k / 82) (a .records) 0 .1) (leb-true (k / 82) 16384 h₂))
+    (rw l (leb-true n 65535 (true-left (leb n 65535) _ h₁)), rw (shaped-from (k / recordSize) (a .records) 0 .1) (leb-true (k / recordSize) 16384 h₂))
 
 pub shaped-in : (a : Arena) → All NineAndEight (blockIn a .records)
 unfolding blockIn recordsIn
-shaped-in a = shaped-from (length (a .records) / 82) (a .records) 0 .0
+shaped-in a = shaped-from (length (a .records) / recordSize) (a .records) 0 .0

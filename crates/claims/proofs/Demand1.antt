@@ -9,12 +9,12 @@ use borrow.Author.Tests.{ltb-false, leb-false, eqb-true, le-leb, le-ltb}
 use lib.ListN.{length, getD, take, drop, replicate, length-map}
 use lib.Dec.{leb, ltb, eqb}
 use lib.Count.{trailingZeros}
-use Rattle.rules.specs.Lists.{total}
+use Rattle.rules.specs.Lists.{total, inRow}
 use Rattle.rules.specs.Digits.{digits, leAt}
-use Rattle.rules.specs.Answer.{Answer, good, refused, Item, Read, found, refuse, refuseFirst, _then_}
+use Rattle.rules.specs.Answer.{Answer, good, refused, Item, Read, found, refuse, refuseFirst, _then_, row}
 use Rattle.rules.specs.Operations.{Op, operations, field, assigned, valued, admissible, opFault, goodTable, codes, values}
 use Rattle.rules.specs.Batching.{batchesOf}
-use Rattle.rules.specs.Record.{Record, Block, noBlock, codesNumber, blockOf, recordsBytes, cut, immediates}
+use Rattle.rules.specs.Record.{Record, Block, noBlock, codesNumber, blockOf, cut, immediates}
 use Rattle.rules.specs.Bytes.{least, countBy, countAt, valueAt, opAt, opsAt, batchCountAt, upTo, sizesAt, nibblesAt, bitsAt, flagsAt}
 use Rattle.rules.specs.Block.{Room, Head, Layout, blockBytes, placingsFault, countFrom, batchAt, batchesAt, headAt, layoutAt, batchesBy, blockAt}
 use Rattle.rules.specs.Checks.{Held, ninth, recordRight, structureFaults, heldFrom, held, paddingFault, paddingFaults, underCount, placingFault, begins, orElse, groupsFault, emptyZero, commitmentFault, commitmentFaults, paddingRight}
@@ -124,6 +124,18 @@ module _ (P : ℕ → ℕ → Type 0) where
   abbrev Any : {A : Type 0} → A → Type 0
   Any a = Unit {0}
 
+  -- a row of n items, and a place after it that is as asked of places
+  abbrev Many : {A : Type 0} → (ℕ → Type 0) → ℕ → Item (List A) → Type 0
+  Many Ok n xs = (length (xs .item) ≡ n) × Ok (xs .next)
+
+  by-row : {A : Type 0} (read : ℕ → ℕ → Read A) (Ok : ℕ → Type 0) (m : ℕ) → ((at i : ℕ) → i < m → Ok at → Holds (λ (x : Item A). Ok (x .next)) (read at i))
+      → (n at i : ℕ) → i + n ≤ m → Ok at → Holds (Many Ok n) (row read n at i)
+  unfolding row
+  by-row read Ok m one zero at i l k = (refl, k)
+  by-row read Ok m one (suc n) at i l k =
+      by-then _ (Many Ok (suc n)) (read at i) _ (one at i (omega arith) k) λ x q.
+      by-then (Many Ok n) (Many Ok (suc n)) (row read n (x .next) (i + 1)) _ (by-row read Ok m one n (x .next) (i + 1) (omega arith) q) λ xs r. (ap suc (r .0), r .1)
+
   by-placings : (t : List ℕ) (gs : List (List Op)) (p : ℕ) → P 8 p → P 9 p → Fault (placingsFault t gs) p
   unfolding placingsFault
   by-placings t [] p h₈ h₉ = inl refl
@@ -158,12 +170,8 @@ module _ (P : ℕ → ℕ → Type 0) where
             by-refuse Inside (not (ltb (leAt 8 s (at + 1)) field)) 4 i _ four λ e₁. ltb-false (length s) (at + 9) e
         go false m = omega arith
 
-    by-opsAt : (t : List ℕ) (n at i m : ℕ) → ((p : ℕ) → p < m → P 4 p) → at ≤ length s → i + n ≤ m → Holds Inside (opsAt t s n at i)
-    unfolding opsAt
-    by-opsAt t zero at i m four l k = l
-    by-opsAt t (suc n) at i m four l k =
-        by-then Inside Inside (opAt t s at i) _ (by-op t at i l (four i (omega arith))) λ x q.
-        by-then Inside Inside (opsAt t s n (x .next) (i + 1)) _ (by-opsAt t n (x .next) (i + 1) m four q (omega arith)) λ xs q₁. q₁
+    by-opsAt : (t : List ℕ) (n at i m : ℕ) → ((p : ℕ) → p < m → P 4 p) → at ≤ length s → i + n ≤ m → Holds (Many (λ k. k ≤ length s) n) (opsAt t s n at i)
+    by-opsAt t n at i m four l k = by-row (opAt t s) (λ k. k ≤ length s) m (λ at i h l. by-op t at i l (four i h)) n at i k l
 
     by-batchCount : (at : ℕ) → P 5 0 → P 3 0 → at ≤ length s → Holds Inside (batchCountAt s at)
     unfolding batchCountAt
@@ -184,29 +192,24 @@ module _ (P : ℕ → ℕ → Type 0) where
     by-head t at room three four five narrow scarce l =
         by-stage Inside Any (countAt s at) _ (by-count at three l) λ n e q₁.
         by-case Any (not (leb (n .item) (room .codes) && leb (n .item) (room .values))) 13 0 _ (narrow n e) λ e₁.
-        by-then Inside Any (opsAt t s (n .item) (n .next) 0) _ (by-opsAt t (n .item) (n .next) 0 (told (countAt s at)) four q₁ (omega (arith, ap told e))) λ xs q₂.
-        by-stage Inside Any (batchCountAt s (xs .next)) _ (by-batchCount (xs .next) five three q₂) λ k e₂ q₃.
+        by-then (Many (λ k. k ≤ length s) (n .item)) Any (opsAt t s (n .item) (n .next) 0) _ (by-opsAt t (n .item) (n .next) 0 (told (countAt s at)) four q₁ (omega (arith, ap told e))) λ xs q₂.
+        by-stage Inside Any (batchCountAt s (xs .next)) _ (by-batchCount (xs .next) five three (q₂ .1)) λ k e₂ q₃.
         by-case Any (ltb (room .records) (k .item)) 13 0 _ (scarce k (xs .next) e₂) λ e₃. tt
 
   module _ (s : List ℕ) (most : ℕ) (batch : (p : ℕ) → p < most → P 6 p × P 7 p × P 8 p × P 9 p × P 10 p) (eleven : P 11 0) where
-    abbrev Length : ℕ → Item (List (List ℕ)) → Type 0
-    Length k i = length (i .item) ≡ k
-
-    by-nibbles : (w k at b : ℕ) → b + k ≤ most → Holds (Length k) (nibblesAt w s k at b)
-    unfolding nibblesAt sizesAt
-    by-nibbles w zero at b l = refl
-    by-nibbles w (suc k) at b l =
+    by-nibbles : (w k at b : ℕ) → b + k ≤ most → Holds (Many (λ n. Unit {0}) k) (nibblesAt w s k at b)
+    unfolding sizesAt
+    by-nibbles w k at b l =
+        by-row (sizesAt w s) (λ n. Unit {0}) most
+        (λ at b h u.
         let ns = digits 16 8 (leAt 4 s at) in
-        by-then Any (Length (suc k)) (sizesAt w s at b) _
-        (by-refuse Any (not (upTo 9 ns)) 6 b _ (batch b (omega arith) .0) λ e₁. by-refuse Any (not (upTo 0 (drop w ns))) 6 b _ (batch b (omega arith) .0) λ e₂. tt) λ i q.
-        by-then (Length k) (Length (suc k)) (nibblesAt w s k (i .next) (b + 1)) _ (by-nibbles w k (i .next) (b + 1) (omega arith)) λ j r. ap suc r
+        by-refuse Any (not (upTo 9 ns)) 6 b _ (batch b h .0) λ e₁. by-refuse Any (not (upTo 0 (drop w ns))) 6 b _ (batch b h .0) λ e₂. tt)
+        k at b l tt
 
-    by-flags : (w k at b : ℕ) → b + k ≤ most → Holds Any (flagsAt w s k at b)
-    unfolding flagsAt bitsAt
-    by-flags w zero at b l = tt
-    by-flags w (suc k) at b l =
-        by-then Any Any (bitsAt w s at b) _ (by-refuse Any (not (upTo 0 (drop w (digits 2 8 (getD s at 0))))) 6 b _ (batch b (omega arith) .0) λ e. tt) λ i q.
-        by-then Any Any (flagsAt w s k (i .next) (b + 1)) _ (by-flags w k (i .next) (b + 1) (omega arith)) λ j r. tt
+    by-flags : (w k at b : ℕ) → b + k ≤ most → Holds (Many (λ n. Unit {0}) k) (flagsAt w s k at b)
+    unfolding bitsAt
+    by-flags w k at b l =
+        by-row (bitsAt w s) (λ n. Unit {0}) most (λ at b h u. by-refuse Any (not (upTo 0 (drop w (digits 2 8 (getD s at 0))))) 6 b _ (batch b h .0) λ e. tt) k at b l tt
 
     abbrev Few : Item Layout → Type 0
     Few l = length (l .item .sizes) ≤ most
@@ -214,8 +217,8 @@ module _ (P : ℕ → ℕ → Type 0) where
     by-layout : (w k at : ℕ) → k ≤ most → Holds Few (layoutAt w s k at)
     unfolding layoutAt
     by-layout w k at l =
-        by-then (Length k) Few (nibblesAt w s k at 0) _ (by-nibbles w k at 0 (omega arith)) λ i q.
-        by-then Any Few (flagsAt w s k (i .next) 0) _ (by-flags w k (i .next) 0 (omega arith)) λ j r. omega (arith, q)
+        by-then (Many (λ n. Unit {0}) k) Few (nibblesAt w s k at 0) _ (by-nibbles w k at 0 (omega arith)) λ i q.
+        by-then (Many (λ n. Unit {0}) k) Few (flagsAt w s k (i .next) 0) _ (by-flags w k (i .next) 0 (omega arith)) λ j r. omega (arith, q .0)
 
     module _ (w : ℕ) (t : List ℕ) (xs : List Op) where
       by-batch : (at b : ℕ) (ns fs : List ℕ) → b < most → Holds Any (batchAt w t xs at b ns fs)
@@ -227,19 +230,12 @@ module _ (P : ℕ → ℕ → Type 0) where
           by-one Any b (placingsFault t gs) _ (by-placings t gs b (h .2) (h .3))
           (by-refuse Any (not (paddingRight (take (countFrom t 0 0 gs) gs) fs)) 10 b _ (h .4) λ e₂. tt)
 
-      by-batches : (nss fss : List (List ℕ)) (at b : ℕ) → b + length nss ≤ most → Holds Any (batchesAt w t xs at b nss fss)
-      unfolding batchesAt
-      by-batches [] fss at b l = tt
-      by-batches (ns ∷ nss) [] at b l = tt
-      by-batches (ns ∷ nss) (fs ∷ fss) at b l =
-          by-then Any Any (batchAt w t xs at b ns fs) _ (by-batch at b ns fs (omega arith)) λ i q.
-          by-then Any Any (batchesAt w t xs (i .next) (b + 1) nss fss) _ (by-batches nss fss (i .next) (b + 1) (omega arith)) λ j r. tt
-
       by-records : (l : Layout) → length (l .sizes) ≤ most → Holds Any (batchesBy w t xs l)
-      unfolding batchesBy
+      unfolding batchesBy batchesAt
       by-records l k =
-          by-then Any Any (batchesAt w t xs 0 0 (l .sizes) (l .flags)) _ (by-batches (l .sizes) (l .flags) 0 0 (omega arith)) λ i q.
-          by-refuse Any (ltb (i .next) (length xs)) 11 0 _ eleven λ e. tt
+          by-then (Many (λ n. Unit {0}) (length (l .sizes))) Any (batchesAt w t xs (l .sizes) (l .flags)) _
+          (by-row (λ at b. batchAt w t xs at b (getD (l .sizes) b []) (getD (l .flags) b [])) (λ n. Unit {0}) most (λ at b h u. by-batch at b _ _ h) (length (l .sizes)) 0 0 (omega arith) tt)
+          λ i q. by-refuse Any (ltb (i .next) (length xs)) 11 0 _ eleven λ e. tt
 
 -- ---- the theorem
 
@@ -249,7 +245,7 @@ module _ {A : Type 0} where
   replies rs Q (refused n p) h = h
 
 filled-none : (a : Arena) → filled a noBlock ≡ zeros a
-unfolding filled noBlock codes values recordsBytes
+unfolding filled noBlock codes values inRow
 filled-none a = λ j. arena (sym (zeros-fitted (length (a .codes))) j) (sym (zeros-fitted (length (a .values))) j) (sym (zeros-fitted (length (a .records))) j)
 
 lists-same : (cs vs : List ℕ) → length (operations cs vs) ≤ length cs

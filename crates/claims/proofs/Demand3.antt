@@ -8,7 +8,7 @@ use borrow.Author.Tests.{le-ltb, eq-eqb, ne-eqb}
 use lib.ListN.{length, length-append, length-map, take, drop}
 use lib.Seq.{take-append-seam, drop-append-seam}
 use lib.Dec.{ltb, eqb}
-use Rattle.rules.specs.Lists.{total, every, butLast}
+use Rattle.rules.specs.Lists.{total, every, butLast, inRow, All}
 use Rattle.rules.specs.Answer.{Answer, good, found, refuse, refuseFirst}
 use Rattle.rules.specs.Operations.{Op, codes, values, noop, hasImmediate, goodTable, admissible, opFault}
 use Rattle.rules.specs.Batching.{Group, ops, imm, ended, Work, start, endBatch, steps, batchesOf}
@@ -20,7 +20,7 @@ use Rattle.rules.specs.Examples.{tableT, op}
 use Rattle.rules.specs.Open.{document}
 use Rattle.rules.proofs.Answer.{first-turn, first-append, first-done}
 use Rattle.rules.proofs.Operations.{Admissible, to-admissible, fault-none, noop-kind, noop-plain, codes-back, true-left, true-right}
-use Rattle.claims.specs.Shape.{All, EndsInNoop, PowerOfTwo, is1, is2, is4, is8}
+use Rattle.claims.specs.Shape.{EndsInNoop, PowerOfTwo, is1, is2, is4, is8}
 use Rattle.claims.proofs.Shape.{rawIn, raw, raws, RightGroup, RightBatch, RightBatches}
 use Rattle.claims.specs.Finished.{Bytes}
 use Rattle.claims.specs.Demand3.{lent, Premises, Demand3}
@@ -59,13 +59,13 @@ module _ (t : List ℕ) (P : Op → Type 0) (z : P noop) where
   padded-group (imm v) r h = tt
 
   padded-batch : (gs : List Group) → All (RightGroup t) gs → All P (raw gs) → All P (opsOf gs)
-  unfolding opsOf
+  unfolding inRow
   padded-batch [] r h = tt
   padded-batch (g ∷ gs) r h =
       all-append P (opsIn g) (opsOf gs) (padded-group g (r .0) (all-left P (rawIn g) (raw gs) h)) (padded-batch gs (r .1) (all-right (rawIn g) (raw gs) h))
 
   padded-all : (w : ℕ) (bs : List (List Group)) → All (RightBatch w t) bs → All P (raws bs) → All P (paddedOf bs)
-  unfolding paddedOf
+  unfolding inRow
   padded-all w [] r h = tt
   padded-all w (gs ∷ bs) r h =
       all-append P (opsOf gs) (paddedOf bs) (padded-batch gs (r .0 .groups) (all-left P (raw gs) (raws bs) h)) (padded-all w bs (r .1) (all-right (raw gs) (raws bs) h))
@@ -85,7 +85,7 @@ module _ (t : List ℕ) where
   grown-group (imm v) = omega arith
 
   grown-batch : (gs : List Group) → length (opsOf gs) ≤ length (raw gs) + length gs
-  unfolding opsOf
+  unfolding inRow
   grown-batch [] = omega arith
   grown-batch (g ∷ gs) = simp length-append (omega (arith, grown-group g, grown-batch gs))
 
@@ -105,12 +105,12 @@ module _ (t : List ℕ) where
   writable w w8 (gs ∷ bs) r = (record { most = r .0 .most; groups = r .0 .groups; follow = r .0 .follow }, writable w w8 bs (r .1))
 
   padded-append : (bs cs : List (List Group)) → paddedOf (bs ++ cs) ≡ paddedOf bs ++ paddedOf cs
-  unfolding paddedOf
+  unfolding inRow
   padded-append [] cs = refl
   padded-append (gs ∷ bs) cs = rw (padded-append bs cs) (sym (append-assoc (opsOf gs) (paddedOf bs) (paddedOf cs)))
 
   one-padded : (gs : List Group) → length (paddedOf (gs ∷ [])) ≡ length (opsOf gs)
-  unfolding paddedOf
+  unfolding inRow
   one-padded gs = rw (append-nil (opsOf gs))
 
   last-most : (w : ℕ) (bs : List (List Group)) (gs : List Group) → RightBatches w t (bs ++ (gs ∷ [])) → length gs ≤ w
@@ -121,7 +121,7 @@ module _ (t : List ℕ) where
   module _ (w : ℕ) (width : Width w) (plain : hasImmediate t noop ≡ false) where
     -- a batch that is full was given at least w - 2 operations
     many : (bs : List (List Group)) → All (Whole w width t plain) bs → (2 * length bs ≤ length (raws bs)) × (length (paddedOf bs) ≤ 3 * length (raws bs))
-    unfolding paddedOf
+    unfolding inRow
     many [] h = (omega arith, omega arith)
     many (gs ∷ bs) h =
         let ih = many bs (h .1) in

@@ -64,13 +64,13 @@ module _ (w : ℕ) where
       settle (λ l end. FoundLayout s k at l end) (record { sizes = m .got; flags = f .got }) l (f .to) end (f .rest) (record { a₁ = m .to; sizes = m .first; flags = f .first })
 
   pub record FoundRecords (t : List ℕ) (xs : List Op) (l : Layout) (rs : List Record) (end : ℕ) : Type 0 where
-    pub batches : batchesAt w t xs 0 0 (l .sizes) (l .flags) ≡ found rs end
+    pub batches : batchesAt w t xs (l .sizes) (l .flags) ≡ found rs end
     pub all : length xs ≤ end
 
   found-records : (t : List ℕ) (xs : List Op) (l : Layout) (rs : List Record) (end : ℕ) → batchesBy w t xs l ≡ found rs end → FoundRecords t xs l rs end
   unfolding batchesBy
   found-records t xs l rs end e =
-      let b = came (batchesAt w t xs 0 0 (l .sizes) (l .flags)) _ rs end e in
+      let b = came (batchesAt w t xs (l .sizes) (l .flags)) _ rs end e in
       let g = passed (ltb (b .to) (length xs)) 11 0 _ rs end (b .rest) in
       settle (λ rs end. FoundRecords t xs l rs end) (b .got) rs (b .to) end (g .1) (record { batches = b .first; all = ltb-false (b .to) (length xs) (g .0) })
 

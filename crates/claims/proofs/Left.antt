@@ -6,9 +6,8 @@ use Prim.Native.Nat.{ℕ, zero, suc, _+_, _-_, _≤_}
 use native.Mathlib.Nat.{add-zero}
 use native.Mathlib.Omega.{arith}
 use lib.ListN.{length, drop, replicate, length-append, length-map, length-replicate}
-use lib.Dec.{eqb}
 use lib.Seq.{drop-at, take-all}
-use Rattle.rules.specs.Lists.{fitted, total, butLast}
+use Rattle.rules.specs.Lists.{fitted, total, butLast, inRow, All}
 use Rattle.rules.specs.Operations.{Op, goodTable}
 use Rattle.rules.specs.Batching.{Group, ops, imm, wantsNoop, batchesOf}
 use Rattle.rules.specs.Record.{cut, immediates, opsIn, sizeOf, flagOf, codesNumber, numberOf, differences, recordBy, recordOf, opsOf, paddedOf, blockOf}
@@ -18,7 +17,6 @@ use Rattle.rules.specs.Lookups.{marksIn, marksOf, marks}
 use Rattle.rules.proofs.Operations.{noop-plain}
 use Rattle.rules.proofs.Runs.{fitted-length, fitted-zeros}
 use Rattle.rules.proofs.Sizes.{marks-in}
-use Rattle.claims.specs.Shape.{All}
 use Rattle.claims.proofs.Shape.{rawIn, raw, raws, RightGroup, Follow, RightBatch, RightBatches}
 use Rattle.claims.specs.Left.{unmarked, Counts, endsInImmediate, LeftGroup, Flagged, plain, padding, AllFlagged, together, allHeld, LeftBatch, Left}
 use Rattle.claims.proofs.Batching.{list-back}
@@ -66,7 +64,7 @@ marked-group (ops xs false) = record { as-many = marks-in (length xs) 0; stay = 
 marked-group (imm v) = record { as-many = marks-in 0 0; stay = none-marked [] }
 
 marked-batch : (gs : List Group) (k : ℕ) → Marked (marksOf (map sizeOf gs ++ replicate k 0) (map flagOf gs ++ replicate k 0)) (opsOf gs) (raw gs)
-unfolding marksOf marksIn opsOf
+unfolding marksOf marksIn inRow
 marked-batch [] zero = record { as-many = refl; stay = refl }
 marked-batch [] (suc k) = marked-batch [] k
 marked-batch (g ∷ gs) k = marked-append _ _ (opsIn g) (opsOf gs) (rawIn g) (raw gs) (marked-group g) (marked-batch gs k)
@@ -96,7 +94,7 @@ marked-record : (gs : List Group) → Short gs → Marked (marksOf (differences 
 marked-record gs h = rw (sizes-are gs h, flags-are gs h) (marked-batch gs (8 - length gs))
 
 marked-block : (bs : List (List Group)) → All Short bs → Marked (marks (map recordOf bs)) (paddedOf bs) (raws bs)
-unfolding marks paddedOf
+unfolding marks inRow
 marked-block [] h = record { as-many = refl; stay = refl }
 marked-block (gs ∷ bs) h = marked-append _ _ (opsOf gs) (paddedOf bs) (raw gs) (raws bs) (marked-record gs (h .0)) (marked-block bs (h .1))
 
@@ -123,7 +121,7 @@ cut-none zero xs at = refl
 cut-none (suc k) xs at = rw add-zero (ap (λ (l : List (List Op)). [] ∷ l) (cut-none k xs at))
 
 cut-groups : (gs : List Group) (k : ℕ) (pre post : List Op) → cut (map sizeOf gs ++ replicate k 0) (pre ++ (opsOf gs ++ post)) (length pre) ≡ map opsIn gs ++ replicate k []
-unfolding cut opsOf sizeOf
+unfolding cut inRow sizeOf
 cut-groups [] k pre post = cut-none k (pre ++ post) (length pre)
 cut-groups (g ∷ gs) k pre post =
     let x = opsIn g in
@@ -133,7 +131,7 @@ cut-groups (g ∷ gs) k pre post =
     rw (append-assoc x r post, part-at pre x (r ++ post), rest)
 
 held-from : (bs : List (List Group)) (pre post : List Op) → All Short bs → heldFrom (map recordOf bs) (pre ++ (paddedOf bs ++ post)) (length pre) ≡ map heldOf bs
-unfolding heldFrom paddedOf
+unfolding heldFrom inRow
 held-from [] pre post h = refl
 held-from (gs ∷ bs) pre post h =
     let x = opsOf gs in
@@ -153,12 +151,12 @@ together-none zero = refl
 together-none (suc k) = together-none k
 
 together-groups : (gs : List Group) (k : ℕ) → together (map opsIn gs ++ replicate k []) ≡ opsOf gs
-unfolding opsOf
+unfolding inRow
 together-groups [] k = together-none k
 together-groups (g ∷ gs) k = ap (λ (l : List Op). opsIn g ++ l) (together-groups gs k)
 
 whole : (bs : List (List Group)) → allHeld (map heldOf bs) ≡ paddedOf bs
-unfolding paddedOf
+unfolding inRow
 whole [] = refl
 whole (gs ∷ bs) = ap₂ (λ (a b : List Op). a ++ b) (together-groups gs (8 - length gs)) (whole bs)
 

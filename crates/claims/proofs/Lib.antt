@@ -8,6 +8,7 @@ pub mod Ended
 pub mod Sizes
 pub mod Right
 pub mod Found
+pub mod Row
 pub mod Back
 pub mod Once
 pub mod Arena

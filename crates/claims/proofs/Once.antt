@@ -1,6 +1,6 @@
 -- No two byte strings for one block: whatever decoding takes is what encoding writes. Assumes nothing.
 use mathlib.Core.Path.{_≡_, refl, sym, ap, _∙_}
-use mathlib.Core.List.{List, [], _∷_, _++_}
+use mathlib.Core.List.{List, [], _∷_}
 use mathlib.Core.Bool.{Bool, true, false, cond, not}
 use Prim.Native.Nat.{ℕ, zero, suc, _+_, _-_, _*_, _/_, _%_, _^_, _≤_, _<_}
 use native.Mathlib.Nat.{pow-succ'}
@@ -9,13 +9,13 @@ use borrow.Author.Tests.{ltb-false, leb-false}
 use lib.ListN.{length, getD, take, drop, length-append}
 use lib.Dec.{leb, ltb}
 use lib.Count.{trailingZeros, under}
-use Rattle.rules.specs.Lists.{total}
+use Rattle.rules.specs.Lists.{total, inRow}
 use Rattle.rules.specs.Digits.{digits, number, leAt, leBytes}
 use Rattle.rules.specs.Answer.{found}
 use Rattle.rules.specs.Operations.{Op, field, assigned, valued}
 use Rattle.rules.specs.Record.{Record, Block, cut}
 use Rattle.rules.specs.Bytes.{least, countBy, countAt, more, countBytes, valueAt, opAt, opsAt, opBytes, opsBytes, batchCountAt, nibbleBytes, flagBytes, upTo, sizesAt, bitsAt, nibblesAt, flagsAt}
-use Rattle.rules.specs.Block.{Room, blockBytes, placingsFault, countFrom, batchAt, batchesAt}
+use Rattle.rules.specs.Block.{Room, blockBytes, placingsFault, countFrom, batchAt}
 use Rattle.rules.specs.Checks.{paddingRight}
 use Rattle.rules.specs.Functions.{decoded}
 use Rattle.claims.proofs.Stands.{Stands, Taken, join, none, single, and-then, stands-fits, taken-fits}
@@ -25,6 +25,8 @@ use Rattle.rules.proofs.Digits.{length-digits}
 use Rattle.rules.proofs.Answer.{item, settle, no-fault}
 use Rattle.rules.proofs.Answer as L
 use Rattle.claims.proofs.Found.{passed, came, Found, stages}
+use Rattle.claims.proofs.Row.{row-taken}
+use Rattle.rules.proofs.Slots.{batchByBatch, batches-is}
 use Rattle.claims.proofs.Back.{sizesOf, differences-starts}
 
 module _ (s : List ℕ) (bytes : (i : ℕ) → getD s i 0 < 256) where
@@ -138,18 +140,9 @@ module _ (s : List ℕ) (bytes : (i : ℕ) → getD s i 0 < 256) where
         go false v l e = plain-taken (getD s at 0) x at next l refl v e
 
     pub ops-taken : (n : ℕ) (xs : List Op) (at i next : ℕ) → at ≤ length s → opsAt t s n at i ≡ found xs next → (length xs ≡ n) × Taken (opsBytes t xs) s at next
-    unfolding opsAt opsBytes
-    ops-taken zero xs at i next l h =
-        let ex : [] ≡ xs = item [] xs at next h in
-        rw (sym ex) (refl, record { stands = none s at l; next = omega (arith, L.next [] xs at next h) })
-    ops-taken (suc n) xs at i next l h =
-        let a = came (opAt t s at i) _ xs next h in
-        let one = op-taken (a .got) at i (a .to) (a .first) in
-        let b = came (opsAt t s n (a .to) (i + 1)) _ xs next (a .rest) in
-        let in-s : a .to ≤ length s = omega (arith, one .next, stands-fits (opBytes t (a .got)) s at (one .stands)) in
-        let more = ops-taken n (b .got) (a .to) (i + 1) (b .to) in-s (b .first) in
-        settle (λ xs next. (length xs ≡ suc n) × Taken (opsBytes t xs) s at next) (a .got ∷ b .got) xs (b .to) next (b .rest)
-        (ap suc (more .0), and-then (opBytes t (a .got)) (opsBytes t (b .got)) s at (a .to) (b .to) one (more .1))
+    ops-taken =
+        row-taken (opAt t s) s (opBytes t) (λ n at. at ≤ length s) (λ at l. l)
+        (λ n at i x next l h. let o = op-taken x at i next h in (o, omega (arith, o .next, stands-fits (opBytes t x) s at (o .stands))))
 
   -- ---- the batch count
 
@@ -169,12 +162,10 @@ module _ (s : List ℕ) (bytes : (i : ℕ) → getD s i 0 < 256) where
   -- ---- nibbles and flags
 
   abbrev pub nibs : List (List ℕ) → List ℕ
-  nibs [] = []
-  nibs (ns ∷ nss) = leBytes 4 (number 16 ns) ++ nibs nss
+  nibs = inRow (λ (ns : List ℕ). leBytes 4 (number 16 ns))
 
   abbrev pub bits : List (List ℕ) → List ℕ
-  bits [] = []
-  bits (fs ∷ fss) = number 2 fs ∷ bits fss
+  bits = inRow (λ (fs : List ℕ). number 2 fs ∷ [])
 
   module _ (w : ℕ) where
     sizes-taken : (ns : List ℕ) (at b next : ℕ) → at + 4 ≤ length s → sizesAt w s at b ≡ found ns next → Taken (leBytes 4 (number 16 ns)) s at next
@@ -188,17 +179,9 @@ module _ (s : List ℕ) (bytes : (i : ℕ) → getD s i 0 < 256) where
         leAt-taken 4 at next (number 16 ns) l (sym n ∙ ap (number 16) e) (sym (L.next ds ns (at + 4) next (z .1)))
 
     pub nibbles-taken : (k : ℕ) (nss : List (List ℕ)) (at b next : ℕ) → at + 4 * k ≤ length s → nibblesAt w s k at b ≡ found nss next → (length nss ≡ k) × Taken (nibs nss) s at next
-    unfolding nibblesAt
-    nibbles-taken zero nss at b next l h =
-        let ex : [] ≡ nss = item [] nss at next h in
-        rw (sym ex) (refl, record { stands = none s at (omega arith); next = omega (arith, L.next [] nss at next h) })
-    nibbles-taken (suc k) nss at b next l h =
-        let a = came (sizesAt w s at b) _ nss next h in
-        let one = sizes-taken (a .got) at b (a .to) (omega arith) (a .first) in
-        let d = came (nibblesAt w s k (a .to) (b + 1)) _ nss next (a .rest) in
-        let more = nibbles-taken k (d .got) (a .to) (b + 1) (d .to) (omega (arith, one .next, length-digits 256 4 (number 16 (a .got)))) (d .first) in
-        settle (λ nss next. (length nss ≡ suc k) × Taken (nibs nss) s at next) (a .got ∷ d .got) nss (d .to) next (d .rest)
-        (ap suc (more .0), and-then (leBytes 4 (number 16 (a .got))) (nibs (d .got)) s at (a .to) (d .to) one (more .1))
+    nibbles-taken =
+        row-taken (sizesAt w s) s (λ (ns : List ℕ). leBytes 4 (number 16 ns)) (λ k at. at + 4 * k ≤ length s) (λ at l. omega arith)
+        (λ k at b ns next l h. let o = sizes-taken ns at b next (omega arith) h in (o, omega (arith, o .next, length-digits 256 4 (number 16 ns))))
 
     bits-taken : (fs : List ℕ) (at b next : ℕ) → at < length s → bitsAt w s at b ≡ found fs next → Taken (number 2 fs ∷ []) s at next
     unfolding bitsAt
@@ -209,17 +192,9 @@ module _ (s : List ℕ) (bytes : (i : ℕ) → getD s i 0 < 256) where
         settle (λ fs next. Taken (number 2 fs ∷ []) s at next) f fs (at + 1) next (a .1) (record { stands = rw n (single s at l); next = refl })
 
     pub flags-taken : (k : ℕ) (fss : List (List ℕ)) (at b next : ℕ) → at + k ≤ length s → flagsAt w s k at b ≡ found fss next → (length fss ≡ k) × Taken (bits fss) s at next
-    unfolding flagsAt
-    flags-taken zero fss at b next l h =
-        let ex : [] ≡ fss = item [] fss at next h in
-        rw (sym ex) (refl, record { stands = none s at (omega arith); next = omega (arith, L.next [] fss at next h) })
-    flags-taken (suc k) fss at b next l h =
-        let a = came (bitsAt w s at b) _ fss next h in
-        let one = bits-taken (a .got) at b (a .to) (omega arith) (a .first) in
-        let d = came (flagsAt w s k (a .to) (b + 1)) _ fss next (a .rest) in
-        let more = flags-taken k (d .got) (a .to) (b + 1) (d .to) (omega (arith, one .next)) (d .first) in
-        settle (λ fss next. (length fss ≡ suc k) × Taken (bits fss) s at next) (a .got ∷ d .got) fss (d .to) next (d .rest)
-        (ap suc (more .0), and-then (number 2 (a .got) ∷ []) (bits (d .got)) s at (a .to) (d .to) one (more .1))
+    flags-taken =
+        row-taken (bitsAt w s) s (λ (fs : List ℕ). number 2 fs ∷ []) (λ k at. at + k ≤ length s) (λ at l. omega arith)
+        (λ k at b fs next l h. let o = bits-taken fs at b next (omega arith) h in (o, omega (arith, o .next)))
 
 -- ---- batches: a record keeps the sizes and flags that it was made from
 
@@ -243,22 +218,22 @@ module _ (s : List ℕ) (bytes : (i : ℕ) → getD s i 0 < 256) where
     pub many : length rs ≡ length nss
 
   cons-keeps : (ns fs : List ℕ) (nss fss : List (List ℕ)) (r : Record) (rs : List Record) → Kept r ns fs → Keeps nss fss rs → Keeps (ns ∷ nss) (fs ∷ fss) (r ∷ rs)
-  unfolding nibbleBytes flagBytes
+  unfolding inRow
   cons-keeps ns fs nss fss r rs k h = record { nibbles = rw (k .sizes, h .nibbles); flags = rw (k .flags, h .flags); many = ap suc (h .many) }
 
   nothing : Keeps [] [] []
-  unfolding nibbleBytes flagBytes
+  unfolding inRow
   nothing = record { nibbles = refl; flags = refl; many = refl }
 
   pub batches-keep : (w : ℕ) (t : List ℕ) (xs : List Op) (nss fss : List (List ℕ)) (at b : ℕ) (rs : List Record) (next : ℕ)
-      → length nss ≡ length fss → batchesAt w t xs at b nss fss ≡ found rs next → Keeps nss fss rs
-  unfolding batchesAt
+      → length nss ≡ length fss → batchByBatch w t xs at b nss fss ≡ found rs next → Keeps nss fss rs
+  unfolding batchByBatch
   batches-keep w t xs [] [] at b rs next l h = settle (λ rs next. Keeps [] [] rs) [] rs at next h nothing
   batches-keep w t xs [] (fs ∷ fss) at b rs next l h = absurd (omega arith)
   batches-keep w t xs (ns ∷ nss) [] at b rs next l h = absurd (omega arith)
   batches-keep w t xs (ns ∷ nss) (fs ∷ fss) at b rs next l h =
       let a = came (batchAt w t xs at b ns fs) _ rs next h in
-      let d = came (batchesAt w t xs (a .to) (b + 1) nss fss) _ rs next (a .rest) in
+      let d = came (batchByBatch w t xs (a .to) (b + 1) nss fss) _ rs next (a .rest) in
       let more = batches-keep w t xs nss fss (a .to) (b + 1) (d .got) (d .to) (omega arith) (d .first) in
       settle (λ rs next. Keeps (ns ∷ nss) (fs ∷ fss) rs) (a .got ∷ d .got) rs (d .to) next (d .rest)
       (cons-keeps ns fs nss fss (a .got) (d .got) (batch-kept w t xs at b ns fs (a .got) (a .to) (a .first)) more)
@@ -266,6 +241,7 @@ module _ (s : List ℕ) (bytes : (i : ℕ) → getD s i 0 < 256) where
   -- ---- a block
 
   length-nibs : (nss : List (List ℕ)) → length (nibs s bytes nss) ≡ 4 * length nss
+  unfolding inRow
   length-nibs [] = refl
   length-nibs (ns ∷ nss) = simp (length-append, length-digits) (omega (arith, length-nibs nss))
 
@@ -296,5 +272,5 @@ module _ (s : List ℕ) (bytes : (i : ℕ) → getD s i 0 < 256) where
           let t₃ = batchCount-taken s bytes (f .k) (d .a₂) (f .a₁) (d .batches) in
           let t₄ = nibbles-taken s bytes w (f .k) (l .sizes) (f .a₁) 0 (i .a₁) (room-nibbles (f .a₁) (f .k) (t₃ .1)) (i .sizes) in
           let t₅ = flags-taken s bytes w (f .k) (l .flags) (i .a₁) 0 next (room-flags (l .sizes) (f .k) (f .a₁) (i .a₁) (t₄ .0) (t₄ .1) (t₃ .1)) (i .flags) in
-          let kept = batches-keep w t (blk .ops) (l .sizes) (l .flags) 0 0 (blk .records) (f .used) (t₄ .0 ∙ sym (t₅ .0)) (f .records .batches) in
+          let kept = batches-keep w t (blk .ops) (l .sizes) (l .flags) 0 0 (blk .records) (f .used) (t₄ .0 ∙ sym (t₅ .0)) (sym (batches-is w t (blk .ops) (l .sizes) (l .flags) (t₄ .0 ∙ sym (t₅ .0))) ∙ f .records .batches) in
           together t (blk .ops) (blk .records) (l .sizes) (l .flags) (d .n) (f .k) at (d .a₁) (d .a₂) (f .a₁) (i .a₁) next (t₂ .0) (kept .many ∙ t₄ .0) kept t₁ (t₂ .1) (t₃ .0) (t₄ .1) (t₅ .1)

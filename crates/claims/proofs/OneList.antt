@@ -8,17 +8,15 @@ use borrow.Author.Tests.{eqb-true}
 use lib.ListN.{length, getD, take, drop, length-take, length-drop}
 use lib.Seq.{drop-drop, take-add, take-all}
 use lib.Dec.{eqb}
-use Rattle.rules.specs.Lists.{total}
+use Rattle.rules.specs.Lists.{total, All}
 use Rattle.rules.specs.Digits.{digits}
 use Rattle.rules.specs.Operations.{Op, codes, kindOf, hasImmediate, admissible}
-use Rattle.rules.specs.Record.{Record, differences, codesNumber, recordsIn, part, cut, immediates}
+use Rattle.rules.specs.Record.{Record, differences, codesNumber, recordsIn, part, cut, immediates, NineAndEight}
 use Rattle.rules.specs.Checks.{ninth, recordRight, heldFrom, held, begins, groupsFault, commitmentFault}
 use Rattle.rules.specs.Functions.{Arena, blockIn}
 use Rattle.rules.proofs.Operations.{Admissible, to-admissible, true-left, true-right}
 use Rattle.rules.proofs.Sizes.{length-codes}
 use Rattle.rules.proofs.Slots.{or-first, part-some}
-use Rattle.claims.specs.Shape.{All}
-use Rattle.claims.specs.Sizes.{NineAndEight}
 use Rattle.claims.specs.OneList.{SameOp, SameOps, OneList}
 use Rattle.claims.proofs.Bytes.{digits-number}
 use Rattle.claims.proofs.Again.{codes-below, part-allowed}

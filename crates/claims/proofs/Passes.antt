@@ -1,24 +1,23 @@
 -- What decoding takes passes structure, padding and commitment, and so does what build makes. Assumes nothing.
-use mathlib.Core.Path.{_≡_, refl, sym, ap, _∙_, subst}
+use mathlib.Core.Path.{_≡_, refl, sym, _∙_, subst}
 use mathlib.Core.List.{List, [], _∷_, _++_, append-nil, map}
 use mathlib.Core.Bool.{true, not}
 use Prim.Native.Nat.{ℕ, zero, suc, _+_, _-_, _≤_}
 use native.Mathlib.Nat.{add-zero}
 use native.Mathlib.Omega.{arith}
 use borrow.Author.Tests.{ltb-false, le-leb, eq-eqb, not-false}
-use lib.ListN.{length, take, drop, replicate, length-take, length-drop}
+use lib.ListN.{length, take, replicate, length-take}
 use lib.Dec.{ltb}
-use Rattle.rules.specs.Lists.{fitted, total}
+use Rattle.rules.specs.Lists.{fitted, total, All}
 use Rattle.rules.specs.Answer.{Answer, good, found, refuseFirst}
 use Rattle.rules.specs.Operations.{Op, opFault, admissible}
 use Rattle.rules.specs.Batching.{batchesOf}
 use Rattle.rules.specs.Record.{Record, Block, differences, codesNumber, recordBy, blockOf, part, cut, immediates}
-use Rattle.rules.specs.Block.{Room, blockBytes, batchAt, batchesAt}
-use Rattle.rules.proofs.Slots.{emptyBefore, slots, batchBy, batch-is, total-split, cut-front, part-some}
+use Rattle.rules.specs.Block.{Room, blockBytes, batchAt}
+use Rattle.rules.proofs.Slots.{emptyBefore, slots, batchBy, batch-is, total-split, cut-front, part-some, batchByBatch, batches-is}
 use Rattle.rules.specs.Checks.{Held, heldFrom, held, paddingFault, paddingFaults, placingFault, begins, groupsFault, emptyZero, commitmentFault, commitmentFaults, paddingRight}
 use Rattle.rules.specs.Functions.{roomFor, decoded, structureChecked, paddingChecked, commitmentChecked}
 use Rattle.rules.proofs.Answer.{settle}
-use Rattle.claims.specs.Shape.{All}
 use Rattle.claims.specs.Demand3.{Premises}
 use Rattle.claims.specs.Passes.{Passes}
 use Rattle.claims.proofs.Right.{Width}
@@ -125,14 +124,14 @@ module _ (w : ℕ) (t : List ℕ) (xs : List Op) where
       (fine-by b ns fs vs zs at (fitted-is 8 vs most) (not-false _ (e .0)) (rw (cut-front (length vs) w ns xs at front) at right))
 
   batches-fine : (o : All (λ x. admissible t x ≡ true) xs) (nss fss : List (List ℕ)) (at b : ℕ) (rs : List Record) (next : ℕ) → length nss ≡ length fss → All (Sizes w) nss → All Bits fss
-      → batchesAt w t xs at b nss fss ≡ found rs next → All Fine (heldFrom rs xs at)
-  unfolding batchesAt heldFrom
+      → batchByBatch w t xs at b nss fss ≡ found rs next → All Fine (heldFrom rs xs at)
+  unfolding batchByBatch heldFrom
   batches-fine o [] [] at b rs next l z f h = settle (λ rs next. All Fine (heldFrom rs xs at)) [] rs at next h tt
   batches-fine o [] (fs ∷ fss) at b rs next l z f h = absurd (omega arith)
   batches-fine o (ns ∷ nss) [] at b rs next l z f h = absurd (omega arith)
   batches-fine o (ns ∷ nss) (fs ∷ fss) at b rs next l z f h =
       let a = came (batchAt w t xs at b ns fs) _ rs next h in
-      let d = came (batchesAt w t xs (a .to) (b + 1) nss fss) _ rs next (a .rest) in
+      let d = came (batchByBatch w t xs (a .to) (b + 1) nss fss) _ rs next (a .rest) in
       let one = batch-made w t xs o at b ns fs (a .got) (a .to) (z .0) (f .0) (a .first) in
       let ih = batches-fine o nss fss (a .to) (b + 1) (d .got) (d .to) (omega arith) (z .1) (f .1) (d .first) in
       settle (λ rs next. All Fine (heldFrom rs xs at)) (a .got ∷ d .got) rs (d .to) next (d .rest)
@@ -180,7 +179,7 @@ decode-passes w t s at room blk next h = go (stages w t s at room blk next h)
         let q₁ = nibbles-made s w (f .k) (f .a₁) 0 (l .sizes) (i .a₁) (i .sizes) in
         let q₂ = flags-made s w (f .k) (i .a₁) 0 (l .flags) next (i .flags) in
         let q₄ = ops-allowed s w t (d .n) (d .a₁) 0 (blk .ops) (d .a₂) (d .codes) in
-        passes w t blk (encodable w t s at room blk next h) (batches-fine w t (blk .ops) (q₄ .1) (l .sizes) (l .flags) 0 0 (blk .records) (f .used) (q₁ .0 ∙ sym (q₂ .0)) (q₁ .1) (q₂ .1) (f .records .batches))
+        passes w t blk (encodable w t s at room blk next h) (batches-fine w t (blk .ops) (q₄ .1) (l .sizes) (l .flags) 0 0 (blk .records) (f .used) (q₁ .0 ∙ sym (q₂ .0)) (q₁ .1) (q₂ .1) (sym (batches-is w t (blk .ops) (l .sizes) (l .flags) (q₁ .0 ∙ sym (q₂ .0))) ∙ f .records .batches))
 
 -- room for a block and no more
 abbrev exact : Block → Room

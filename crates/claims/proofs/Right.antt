@@ -10,11 +10,12 @@ use lib.Dec.{leb, ltb}
 use Rattle.rules.specs.Operations.{Op, hasImmediate, noop}
 use Rattle.rules.specs.Batching.{Group, ops, imm, Batch, empty, nextFree, fits, wantsNoop, closeGroup, groups, turned, full, ready, joined, added, target, turnedTimes, ended, Work, start, endBatch, room, step, steps, batchesOf}
 use Rattle.rules.specs.Record.{immediates}
-use Rattle.claims.specs.Shape.{All, EndsInNoop}
+use Rattle.claims.specs.Shape.{EndsInNoop}
 use Rattle.claims.proofs.Shape.{raw, RightGroup, Follow, RightBatch, RightBatches}
 use Rattle.claims.proofs.Lists.{all-append, split}
 use Rattle.claims.proofs.Batching.{raw-groups, raw-ended}
 use Rattle.claims.proofs.Ended.{target-power, target-up, length-groups, next-turned, length-ended}
+use Rattle.rules.specs.Lists.{All}
 
 -- what is asked of a width
 pub record Width (w : ℕ) : Type 0 where

@@ -6,22 +6,20 @@ use Prim.Native.Nat.{ℕ, zero, suc, _+_, _≤_, _<_}
 use native.Mathlib.Nat.{add-zero, zero-add}
 use native.Mathlib.Omega.{arith}
 use borrow.Author.Tests.{le-ltb, leb-true, eqb-true}
-use lib.ListN.{length, getD, take, drop, length-take, length-append}
+use lib.ListN.{length, getD, take, drop, length-take, length-append, length-map}
 use lib.Seq.{take-all}
 use lib.Dec.{leb, eqb}
-use Rattle.rules.specs.Lists.{fitted, total, every}
+use Rattle.rules.specs.Lists.{fitted, total, every, All}
 use Rattle.rules.specs.Answer.{good, found}
 use Rattle.rules.specs.Operations.{Op}
-use Rattle.rules.specs.Record.{Record, Block, differences, codesNumber, recordBy, part, cut, immediates}
+use Rattle.rules.specs.Record.{Record, Block, differences, codesNumber, recordBy, part, cut, immediates, NineAndEight}
 use Rattle.rules.specs.Bytes.{upTo}
 use Rattle.rules.specs.Block.{countFrom, blockBytes, batchAt, batchesAt}
-use Rattle.rules.proofs.Slots.{emptyBefore, slots, before, counted, counted-most, found-counts, batchBy, batch-is, total-split, length-cut, before-is, or-first, part-some}
+use Rattle.rules.proofs.Slots.{emptyBefore, slots, before, counted, counted-most, found-counts, batchBy, batch-is, total-split, length-cut, before-is, or-first, part-some, batchByBatch, batches-is}
 use Rattle.rules.specs.Checks.{ninth, recordRight, heldFrom, held, paddingFault, placingFault, begins, groupsFault, emptyZero, commitmentFault, endsInNoop, paddingRight}
 use Rattle.rules.specs.Functions.{Arena, blockIn, paddingChecked, commitmentChecked}
 use Rattle.rules.specs.Open.{document}
 use Rattle.rules.proofs.Operations.{true-left, true-right, true-both, to-admissible}
-use Rattle.claims.specs.Shape.{All}
-use Rattle.claims.specs.Sizes.{NineAndEight}
 use Rattle.claims.specs.Settled.{foundCount, settled, settledBlock, Settled, Returns, Needed}
 use Rattle.claims.proofs.Back.{sizesOf, Wire, read-back}
 use Rattle.claims.proofs.Arena.{roomed}
@@ -196,8 +194,8 @@ module _ (w : ℕ) (w8 : w ≤ 8) (t : List ℕ) (xs : List Op) where
   Batches at [] = Unit {0}
   Batches at (r ∷ rs) = Checked at r × Batches (at + ninth r) rs
 
-  batches-read : (rs : List Record) (at b : ℕ) → Batches at rs → batchesAt w t xs at b (map sizesOf rs) (map (λ r. r .flags) rs) ≡ found (map (settled t) (heldFrom rs xs at)) (at + total (map ninth rs))
-  unfolding batchesAt heldFrom total
+  batches-read : (rs : List Record) (at b : ℕ) → Batches at rs → batchByBatch w t xs at b (map sizesOf rs) (map (λ r. r .flags) rs) ≡ found (map (settled t) (heldFrom rs xs at)) (at + total (map ninth rs))
+  unfolding batchByBatch heldFrom total
   batches-read [] at b h = ap (found []) (omega arith)
   batches-read (r ∷ rs) at b h =
       rw (batch-read at b r (h .0), batches-read rs (at + ninth r) (b + 1) (h .1)) (ap (found (settled t (here r xs at) ∷ map (settled t) (heldFrom rs xs (at + ninth r)))) (omega arith))
@@ -314,9 +312,9 @@ module _ (w : ℕ) (w8 : w ≤ 8) (t : List ℕ) (a : Arena) (f : Facts w t a) (
   unfolding held
   batches = gather w w8 t (b .ops) (b .records) 0 (shaped-in a) (f .right) p (f .commitment) (let s = f .sum in omega arith)
 
-  read : batchesAt w t (b .ops) 0 0 (map sizesOf (b .records)) (map (λ r. r .flags) (b .records)) ≡ found (map (settled t) (held b)) (length (b .ops))
+  read : batchesAt w t (b .ops) (map sizesOf (b .records)) (map (λ r. r .flags) (b .records)) ≡ found (map (settled t) (held b)) (length (b .ops))
   unfolding held
-  read = rw (zero-add (total (map ninth (b .records))), f .sum) at (batches-read w w8 t (b .ops) (b .records) 0 0 batches)
+  read = batches-is w t (b .ops) (map sizesOf (b .records)) (map (λ r. r .flags) (b .records)) (simp length-map) ∙ rw (zero-add (total (map ninth (b .records))), f .sum) at (batches-read w w8 t (b .ops) (b .records) 0 0 batches)
 
   returned : Returns w t a
   unfolding settledBlock held

@@ -4,11 +4,11 @@ use mathlib.Core.Bool.{Bool, true, false}
 use mathlib.Core.List.{List, [], _∷_, _++_}
 use Prim.Native.Nat.{ℕ, _≤_}
 use lib.ListN.{length}
-use Rattle.rules.specs.Lists.{butLast}
+use Rattle.rules.specs.Lists.{butLast, All}
 use Rattle.rules.specs.Operations.{Op}
 use Rattle.rules.specs.Batching.{Group, ops, imm, wantsNoop}
 use Rattle.rules.specs.Record.{immediates}
-use Rattle.claims.specs.Shape.{All, EndsInNoop, PowerOfTwo}
+use Rattle.claims.specs.Shape.{EndsInNoop, PowerOfTwo}
 
 -- "dropping the flagged padding": a group's operations without it, a batch's, and those of all batches
 abbrev pub rawIn : Group → List Op

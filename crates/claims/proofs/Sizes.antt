@@ -6,7 +6,7 @@ use Prim.Native.Nat.{ℕ, suc, _*_, _≤_}
 use native.Mathlib.Omega.{arith}
 use lib.ListN.{length, length-append}
 use lib.Dec.{ltb}
-use Rattle.rules.specs.Lists.{total}
+use Rattle.rules.specs.Lists.{total, inRow}
 use Rattle.rules.specs.Digits.{leBytes}
 use Rattle.rules.specs.Operations.{Op, valued}
 use Rattle.rules.specs.Record.{Block}
@@ -26,7 +26,7 @@ module _ (t : List ℕ) where
       go false = refl
 
   ops-length : (xs : List Op) → length (opsBytes t xs) ≡ total (map (opLength t) xs)
-  unfolding opsBytes total
+  unfolding inRow total
   ops-length [] = refl
   ops-length (x ∷ xs) = length-append (opBytes t x) (opsBytes t xs) ∙ omega (arith, op-length x, ops-length xs)
 

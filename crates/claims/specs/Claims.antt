@@ -6,17 +6,17 @@ use lib.ListN.{length, take, drop}
 use Rattle.rules.specs.Answer.{good, found}
 use Rattle.rules.specs.Operations.{Op}
 use Rattle.rules.specs.Batching.{batchesOf}
-use Rattle.rules.specs.Record.{Block, blockOf}
+use Rattle.rules.specs.Record.{Block, blockOf, NineAndEight}
 use Rattle.rules.specs.Block.{Room, blockBytes}
 use Rattle.rules.specs.Functions.{Arena, blockIn, encoded, decoded, paddingChecked, commitmentChecked}
-use Rattle.claims.specs.Shape.{All}
-use Rattle.claims.specs.Sizes.{EndedCount, NineAndEight, BlockLength}
+use Rattle.claims.specs.Sizes.{EndedCount, BlockLength}
 use Rattle.claims.specs.Demand1.{Demand1}
 use Rattle.claims.specs.Demand3.{lent, Premises, Demand3}
 use Rattle.claims.specs.Passes.{Passes}
 use Rattle.claims.specs.Finished.{Bytes, Finished}
 use Rattle.claims.specs.OneList.{OneList}
 use Rattle.claims.specs.Settled.{Returns, Needed}
+use Rattle.rules.specs.Lists.{All}
 
 -- decoding a list of bytes from a place on took this block, and stopped at `next`
 abbrev pub Taken : ℕ → List ℕ → List ℕ → ℕ → Room → Block → ℕ → Type 0

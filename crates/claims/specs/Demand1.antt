@@ -7,11 +7,11 @@ use mathlib.Core.Logic.{_⊎_}
 use mathlib.Core.List.{List, [], _∷_}
 use Prim.Native.Nat.{ℕ, _+_, _<_}
 use lib.ListN.{length, replicate}
-use Rattle.rules.specs.Answer.{Answer, good, refused, Read}
-use Rattle.rules.specs.Record.{Record, Block}
+use Rattle.rules.specs.Answer.{Answer, good, refused, Read, itemOf}
+use Rattle.rules.specs.Record.{Record, Block, noBlock}
 use Rattle.rules.specs.Bytes.{countAt}
 use Rattle.rules.specs.Block.{Room, Head, headAt}
-use Rattle.rules.specs.Functions.{Arena, arena, blockIn, filled, built, blockLeft, encoded, written, decoded, readLeft, headed, countHere, opHere, structureChecked, paddingChecked, commitmentChecked, tableOf, tableLeft, groupLookup, nextLookup}
+use Rattle.rules.specs.Functions.{Arena, arena, blockIn, filled, built, encoded, written, decoded, headed, countHere, opHere, structureChecked, paddingChecked, commitmentChecked, tableOf, tableLeft, groupLookup, nextLookup, leaves}
 
 -- a number of refusal, and how many places it can have: its place is under that, so it is 0 where there is one
 pub record Refusal : Type 0 where
@@ -103,8 +103,8 @@ pub record Demand1 (w : ℕ) : Type 0 where
   pub group : (r : Record) (i : ℕ) → Replies lookupRefusals (groupLookup w r i)
   pub next : (r : Record) (g : ℕ) → Replies lookupRefusals (nextLookup w r g)
   -- "A refused build, map or decode leaves its outputs all zero"
-  pub build-zeroes : (a : Arena) (n p : ℕ) → filled a (blockLeft (refused n p)) ≡ zeros a
-  pub decode-zeroes : (a : Arena) (n p : ℕ) → filled a (readLeft (refused n p)) ≡ zeros a
+  pub build-zeroes : (a : Arena) (n p : ℕ) → filled a (leaves noBlock (refused n p)) ≡ zeros a
+  pub decode-zeroes : (a : Arena) (n p : ℕ) → filled a (leaves noBlock (itemOf (refused n p))) ≡ zeros a
   pub table-zeroes : (out : List ℕ) (n p : ℕ) → tableLeft out (refused n p) ≡ replicate (length out) 0
   -- "a refused encode changes no byte"
   pub encode-changes-nothing : (out : List ℕ) (at n p : ℕ) → written out at (refused n p) ≡ out

@@ -4,13 +4,13 @@ use mathlib.Core.Bool.{Bool, true, false}
 use mathlib.Core.List.{List, [], _∷_, _++_}
 use Prim.Native.Nat.{ℕ, _≤_}
 use lib.ListN.{length, drop}
-use Rattle.rules.specs.Lists.{fitted}
+use Rattle.rules.specs.Lists.{fitted, All}
 use Rattle.rules.specs.Operations.{Op, hasImmediate}
 use Rattle.rules.specs.Record.{Record, Block, differences}
 use Rattle.rules.specs.Checks.{Held, held}
 use Rattle.rules.specs.Block.{numbersFrom}
 use Rattle.rules.specs.Lookups.{marks}
-use Rattle.claims.specs.Shape.{All, EndsInNoop, PowerOfTwo}
+use Rattle.claims.specs.Shape.{EndsInNoop, PowerOfTwo}
 
 -- the operations that are not marked
 abbrev pub unmarked : List Bool → List Op → List Op

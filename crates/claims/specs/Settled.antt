@@ -12,8 +12,8 @@ use Rattle.rules.specs.Block.{Room, countFrom, blockBytes}
 use Rattle.rules.specs.Checks.{Held, held}
 use Rattle.rules.specs.Functions.{Arena, blockIn, roomFor, encoded, decoded, paddingChecked, commitmentChecked}
 use Rattle.rules.specs.Examples.{tableT, op, is, block, single}
-use Rattle.claims.specs.Shape.{All}
 use Rattle.claims.specs.Demand3.{lent}
+use Rattle.rules.specs.Lists.{All}
 
 -- the count that decoding finds in a batch
 abbrev pub foundCount : List ℕ → Held → ℕ

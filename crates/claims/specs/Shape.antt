@@ -4,11 +4,6 @@ use mathlib.Core.List.{List, [], _∷_}
 use Prim.Native.Nat.{ℕ}
 use Rattle.rules.specs.Operations.{Op, noop}
 
--- every element has a property
-abbrev pub All {ℓ} : {A : Type ℓ} → (A → Type 0) → List A → Type 0
-All P [] = Unit {0}
-All P (x ∷ xs) = P x × All P xs
-
 abbrev pub EndsInNoop : List Op → Type 0
 EndsInNoop [] = ⊥
 EndsInNoop (x ∷ []) = x ≡ noop

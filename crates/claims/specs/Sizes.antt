@@ -7,7 +7,7 @@ use lib.ListN.{length}
 use Rattle.rules.specs.Lists.{total}
 use Rattle.rules.specs.Operations.{Op, valued}
 use Rattle.rules.specs.Batching.{Batch, nextFree, ended}
-use Rattle.rules.specs.Record.{Record, Block}
+use Rattle.rules.specs.Record.{Block}
 use Rattle.rules.specs.Bytes.{more}
 use Rattle.rules.specs.Block.{blockBytes}
 use Rattle.claims.specs.Shape.{PowerOfTwo}
@@ -21,12 +21,6 @@ pub record Least (n m : ℕ) : Type 0 where
 -- "Ending a batch: close and open until next free is a power of two, then close the last. That number is the group count."
 abbrev pub EndedCount : Type 0
 EndedCount = (t : List ℕ) (b : Batch) → nextFree b ≤ 8 → Least (nextFree b) (length (ended t b))
-
--- "A batch records nine starts, eight padding flags, eight group numbers and a group count."
-pub record NineAndEight (r : Record) : Type 0 where
-  pub starts : length (r .starts) ≡ 9
-  pub flags : length (r .flags) ≡ 8
-  pub numbers : length (r .numbers) ≡ 8
 
 -- "plus 1 or 9 per operation"
 abbrev pub opLength : List ℕ → Op → ℕ

@@ -7,21 +7,23 @@ use native.Mathlib.Nat.{le-of-suc-le-suc}
 use native.Mathlib.Numerals.{add-one}
 use native.Mathlib.Omega.{arith}
 use borrow.Author.Tests.{ltb-true, ltb-false, lt-ltb, le-ltb, not-false}
-use lib.ListN.{length, getD, take, drop, set}
+use lib.ListN.{length, getD, take, set}
 use lib.Seq.{take-suc-set, length-take-le}
 use lib.Dec.{ltb, leb}
 use lib.Count.{trailingZeros}
 use Rattle.rules.specs.Digits.{leAt}
-use Rattle.rules.specs.Answer.{refused, Read, found}
+use Rattle.rules.specs.Answer.{refused, Read, found, row}
+use Rattle.rules.specs.Refusals.{no-room₁₃}
 use Rattle.rules.specs.Operations.{Op, operations, codes, values, kindOf, assigned, valued, field}
 use Rattle.rules.specs.Bytes.{least, countBy, countAt, opAt, valueAt, opsAt, batchCountAt}
 use Rattle.rules.specs.Block.{Head}
-use Rattle.rules.specs.Record.{part}
 use Rattle.rules.proofs.Operations.{op, true-left, codes-back}
 use Rattle.wire.specs.declared.CountRead.{CountRead}
 use Rattle.wire.specs.declared.CountRead.the-variants as count
-use Rattle.decoder.specs.Stages.{IfFound, Staged, OpsIn, Coded, itemsAt}
-use Rattle.decoder.proofs.Stages.{onto, onto-then, onto-found, if-then, if-refuse, held, found-by}
+use Rattle.wire.specs.Stages.{IfFound, Staged}
+use Rattle.unpacker.specs.Groups.{Coded}
+use Rattle.decoder.specs.Stages.{OpsIn, itemsAt}
+use Rattle.wire.proofs.Stages.{onto, onto-then, onto-found, if-then, if-refuse, held, found-by}
 use Rattle.rules.proofs.Sizes.{length-codes, length-values}
 
 -- ---- the operations of two runs
@@ -33,49 +35,13 @@ operations-snoc [] (w ∷ vs) c v h = absurd (omega arith)
 operations-snoc (d ∷ cs) [] c v h = absurd (omega arith)
 operations-snoc (d ∷ cs) (w ∷ vs) c v h = ap (λ (l : List Op). op d w ∷ l) (operations-snoc cs vs c v (omega arith))
 
-pub codes-operations : (cs vs : List ℕ) → length cs ≡ length vs → codes (operations cs vs) ≡ cs
-unfolding operations codes
-codes-operations [] vs h = refl
-codes-operations (c ∷ cs) [] h = absurd (omega arith)
-codes-operations (c ∷ cs) (v ∷ vs) h = ap (λ (l : List ℕ). c ∷ l) (codes-operations cs vs (omega arith))
-
-pub values-operations : (cs vs : List ℕ) → length cs ≡ length vs → values (operations cs vs) ≡ vs
-unfolding operations values
-values-operations [] [] h = refl
-values-operations [] (v ∷ vs) h = absurd (omega arith)
-values-operations (c ∷ cs) [] h = absurd (omega arith)
-values-operations (c ∷ cs) (v ∷ vs) h = ap (λ (l : List ℕ). v ∷ l) (values-operations cs vs (omega arith))
-
-nothing : (cs : List ℕ) → operations cs [] ≡ []
-unfolding operations
-nothing [] = refl
-nothing (c ∷ cs) = refl
-
-drop-operations : (at : ℕ) (cs vs : List ℕ) → drop at (operations cs vs) ≡ operations (drop at cs) (drop at vs)
-unfolding operations
-drop-operations zero cs vs = refl
-drop-operations (suc at) [] vs = refl
-drop-operations (suc at) (c ∷ cs) [] = sym (nothing (drop at cs))
-drop-operations (suc at) (c ∷ cs) (v ∷ vs) = drop-operations at cs vs
-
-take-operations : (n : ℕ) (cs vs : List ℕ) → take n (operations cs vs) ≡ operations (take n cs) (take n vs)
-unfolding operations
-take-operations zero cs vs = refl
-take-operations (suc n) [] vs = refl
-take-operations (suc n) (c ∷ cs) [] = refl
-take-operations (suc n) (c ∷ cs) (v ∷ vs) = ap (λ (l : List Op). op c v ∷ l) (take-operations n cs vs)
-
--- the operations of parts of two runs
-pub part-operations : (n at : ℕ) (cs vs : List ℕ) → part n (operations cs vs) at ≡ operations (take n (drop at cs)) (take n (drop at vs))
-part-operations n at cs vs = rw (drop-operations at cs vs) (take-operations n (drop at cs) (drop at vs))
-
 -- ---- the walk
 
 module _ (t s : List ℕ) (n at i : ℕ) where
   pub turn : (cs vs : List ℕ) (c v next : ℕ) → i < n → i < length cs → i < length vs → opAt t s at i ≡ found (op c v) next
       → onto (operations (take (i + 1) (set cs i c)) (take (i + 1) (set vs i v))) (opsAt t s (n - (i + 1)) next (i + 1))
       ≡ onto (operations (take i cs) (take i vs)) (opsAt t s (n - i) at i)
-  unfolding opsAt
+  unfolding row
   turn cs vs c v next hn hc hv h =
       let e : n - i ≡ suc (n - (i + 1)) = omega arith in
       let f : length (take i cs) ≡ length (take i vs) = length-take-le i cs (omega arith) ∙ sym (length-take-le i vs (omega arith)) in
@@ -83,11 +49,11 @@ module _ (t s : List ℕ) (n at i : ℕ) where
       (sym (onto-then (operations (take i cs) (take i vs)) (op c v) (opsAt t s (n - (i + 1)) next (i + 1))))
 
   pub stop : (xs : List Op) (k p : ℕ) → i < n → opAt t s at i ≡ refused k p → onto xs (opsAt t s (n - i) at i) ≡ refused k p
-  unfolding opsAt
+  unfolding row
   stop xs k p hn h = let e : n - i ≡ suc (n - (i + 1)) = omega arith in rw (e, h)
 
   pub done : (xs : List Op) → n ≤ i → onto xs (opsAt t s (n - i) at i) ≡ found xs at
-  unfolding opsAt
+  unfolding row
   done xs h = let e : n - i ≡ 0 = omega arith in rw e (onto-found xs at)
 
 -- ---- what is found
@@ -119,7 +85,7 @@ one-more c cs h f (suc k) l = f k (le-of-suc-le-suc l)
 
 -- n operations
 ops-found : (t s : List ℕ) (n at i : ℕ) → IfFound (λ (xs : List Op) (next : ℕ). (length xs ≡ n) × Coded (codes xs) × (at ≤ next)) (opsAt t s n at i)
-unfolding opsAt codes
+unfolding row codes
 ops-found t s zero at i = (refl, λ k l. absurd (omega arith), omega arith)
 ops-found t s (suc n) at i =
     if-then _ (opAt t s at i) _ (λ x next e. if-then _ (opsAt t s n next (i + 1)) _ (λ xs end f.
@@ -153,7 +119,7 @@ module _ (t s : List ℕ) (n at room : ℕ) where
     unfolding itemsAt
     items-uncounted m p f = rw (e, f)
 
-    pub items-13 : (k a₃ : ℕ) → batchCountAt s a₂ ≡ found k a₃ → room < k → itemsAt t s n at room ≡ refused 13 0
+    pub items-13 : (k a₃ : ℕ) → batchCountAt s a₂ ≡ found k a₃ → room < k → itemsAt t s n at room ≡ refused no-room₁₃ 0
     unfolding itemsAt
     items-13 k a₃ f h = rw (e, f, lt-ltb room k h)
 

@@ -8,6 +8,7 @@ use borrow.Author.Tests.{lt-ltb, le-ltb, ltb-false, not-false}
 use lib.ListN.{length}
 use lib.Dec.{ltb}
 use Rattle.rules.specs.Answer.{Answer, good, refused, refuse, refuseFirst}
+use Rattle.rules.specs.Refusals.{past-end₁, over-limit₃, no-room₁₃, bad-table₁₄}
 use Rattle.rules.specs.Operations.{operations, goodTable, opFault}
 use Rattle.rules.specs.Record.{recordSize}
 use Rattle.rules.specs.Block.{blockBytes}
@@ -22,22 +23,22 @@ use Rattle.encoder.specs.Parts.{inputsChecked}
 -- ---- the ways that the checks end
 
 module _ (width : ℕ) (t : List ℕ) (a : Arena) (size at : ℕ) where
-  pub inputs-3 : within a ≡ false → inputsChecked width t a size at ≡ refused 3 0
+  pub inputs-3 : within a ≡ false → inputsChecked width t a size at ≡ refused over-limit₃ 0
   unfolding inputsChecked
   inputs-3 h = rw h
 
   module _ (w : within a ≡ true) where
-    pub inputs-long : 1048576 < size → inputsChecked width t a size at ≡ refused 3 0
+    pub inputs-long : 1048576 < size → inputsChecked width t a size at ≡ refused over-limit₃ 0
     unfolding inputsChecked
     inputs-long h = rw (w, lt-ltb 1048576 size h)
 
     module _ (s : size ≤ 1048576) where
-      pub inputs-14 : goodTable t ≡ false → inputsChecked width t a size at ≡ refused 14 0
+      pub inputs-14 : goodTable t ≡ false → inputsChecked width t a size at ≡ refused bad-table₁₄ 0
       unfolding inputsChecked
       inputs-14 h = rw (w, le-ltb 1048576 size s, h)
 
       module _ (g : goodTable t ≡ true) where
-        pub inputs-1 : size < at → inputsChecked width t a size at ≡ refused 1 0
+        pub inputs-1 : size < at → inputsChecked width t a size at ≡ refused past-end₁ 0
         unfolding inputsChecked
         inputs-1 h = rw (w, le-ltb 1048576 size s, g, lt-ltb size at h)
 
@@ -102,7 +103,7 @@ module _ (width : ℕ) (t : List ℕ) (a : Arena) (size at : ℕ) where
   encoded-refused n p h = all ∙ rw h
 
   module _ (h : inputsChecked width t a size at ≡ good tt) where
-    pub encoded-13 : size < at + length (blockBytes t (blockIn a)) → encoded width t a size at ≡ refused 13 0
+    pub encoded-13 : size < at + length (blockBytes t (blockIn a)) → encoded width t a size at ≡ refused no-room₁₃ 0
     encoded-13 l = all ∙ rw (h, lt-ltb size (at + length (blockBytes t (blockIn a))) l)
 
     pub encoded-good : at + length (blockBytes t (blockIn a)) ≤ size → encoded width t a size at ≡ good (blockBytes t (blockIn a))

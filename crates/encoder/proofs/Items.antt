@@ -10,7 +10,7 @@ use borrow.Author.Tests.{ne-eqb}
 use lib.ListN.{length, getD, drop, set, length-append, drop-of-length-le}
 use lib.Seq.{sets, drop-cons}
 use lib.Dec.{leb, eqb}
-use Rattle.rules.specs.Lists.{every}
+use Rattle.rules.specs.Lists.{every, inRow}
 use Rattle.rules.specs.Digits.{number, leBytes}
 use Rattle.rules.specs.Operations.{Op, operations, valued}
 use Rattle.rules.specs.Record.{Record, differences, recordSize, recordAt, recordsFrom, recordsIn}
@@ -51,7 +51,7 @@ op-size t x = go (valued t (x .code))
     go false = refl
 
 ops-size : (t cs vs : List ℕ) → length cs ≡ length vs → length (opsBytes t (operations cs vs)) ≡ opsSize t cs
-unfolding operations opsBytes opsSize
+unfolding operations inRow opsSize
 ops-size t [] vs h = refl
 ops-size t (c ∷ cs) [] h = absurd (omega arith)
 ops-size t (c ∷ cs) (v ∷ vs) h =
@@ -62,11 +62,11 @@ module _ (t cs vs : List ℕ) (i : ℕ) where
   left = opsBytes t (operations (drop i cs) (drop i vs))
 
   pub ops-turn : i < length cs → i < length vs → left ≡ opBytes t (op (getD cs i 0) (getD vs i 0)) ++ opsBytes t (operations (drop (i + 1) cs) (drop (i + 1) vs))
-  unfolding opsBytes
+  unfolding inRow
   ops-turn h k = rw (operations-turn cs vs i h k)
 
   pub ops-end : length cs ≤ i → left ≡ []
-  unfolding opsBytes
+  unfolding inRow
   ops-end h = rw (operations-end cs vs i h)
 
 -- ---- the sizes and flags of each record
@@ -75,22 +75,22 @@ module _ (rs : List ℕ) (n b : ℕ) where
   pub deltas-turn : (l : List ℕ) (at : ℕ) → b < n
       → sets (sets l (at + 4 * b) (leBytes 4 (number 16 (differences (recordAt rs b .starts))))) (at + 4 * (b + 1)) (nibbleBytes (recordsFrom (n - (b + 1)) rs (b + 1)))
       ≡ sets l (at + 4 * b) (nibbleBytes (recordsFrom (n - b) rs b))
-  unfolding nibbleBytes
+  unfolding inRow
   deltas-turn l at h =
       let v = number 16 (differences (recordAt rs b .starts)) in
       rw (records-turn n rs b h) (sets-next l (at + 4 * b) (leBytes 4 v) (at + 4 * (b + 1)) (nibbleBytes (recordsFrom (n - (b + 1)) rs (b + 1))) (omega (arith, length-leBytes 4 v)))
 
   pub flags-turn : (l : List ℕ) (at : ℕ) → b < n
       → sets (set l (at + b) (number 2 (recordAt rs b .flags))) (at + (b + 1)) (flagBytes (recordsFrom (n - (b + 1)) rs (b + 1))) ≡ sets l (at + b) (flagBytes (recordsFrom (n - b) rs b))
-  unfolding flagBytes
+  unfolding inRow
   flags-turn l at h = let e : at + (b + 1) ≡ suc (at + b) = omega arith in rw (records-turn n rs b h, e)
 
   pub deltas-end : (l : List ℕ) (at : ℕ) → n ≤ b → sets l at (nibbleBytes (recordsFrom (n - b) rs b)) ≡ l
-  unfolding nibbleBytes
+  unfolding inRow
   deltas-end l at h = rw (records-end n rs b h)
 
   pub flags-end : (l : List ℕ) (at : ℕ) → n ≤ b → sets l at (flagBytes (recordsFrom (n - b) rs b)) ≡ l
-  unfolding flagBytes
+  unfolding inRow
   flags-end l at h = rw (records-end n rs b h)
 
 pub all-records : (rs : List ℕ) → recordsFrom (length rs / recordSize - 0) rs 0 ≡ recordsIn rs

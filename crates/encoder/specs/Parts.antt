@@ -4,6 +4,7 @@ use mathlib.Core.List.{List, [], _∷_, map}
 use Prim.Native.Nat.{ℕ, _+_}
 use lib.Dec.{ltb}
 use Rattle.rules.specs.Answer.{Answer, good, refuse, refuseFirst}
+use Rattle.rules.specs.Refusals.{past-end₁, over-limit₃, bad-table₁₄}
 use Rattle.rules.specs.Operations.{valued, goodTable, opFault}
 use Rattle.rules.specs.Checks.{structureFaults}
 use Rattle.rules.specs.Functions.{Arena, blockIn, within}
@@ -20,9 +21,9 @@ handVerdict (verdict.Refused n p) = whole.Refused n p
 -- what is looked at before the block's length: 3, 14, 1, 15, 4
 unfoldable pub inputsChecked : ℕ → List ℕ → Arena → ℕ → ℕ → Answer Unit
 inputsChecked w t a size at =
-    refuse (not (within a) || ltb 1048576 size) 3 0
-    (refuse (not (goodTable t)) 14 0
-    (refuse (ltb size at) 1 0
+    refuse (not (within a) || ltb 1048576 size) over-limit₃ 0
+    (refuse (not (goodTable t)) bad-table₁₄ 0
+    (refuse (ltb size at) past-end₁ 0
     (refuseFirst 0 (structureFaults w (blockIn a))
     (refuseFirst 0 (map (opFault t) (blockIn a .ops))
     (good tt)))))

@@ -7,13 +7,14 @@ use native.Mathlib.Omega.{arith}
 use borrow.Author.Tests.{lt-ltb, ltb-false, leb-true, eqb-true, not-false}
 use lib.ListN.{length}
 use lib.Dec.{leb, ltb, eqb}
-use Rattle.rules.specs.Lists.{fitted}
+use Rattle.rules.specs.Lists.{fitted, inRow}
 use Rattle.rules.specs.Answer.{Answer, refused}
+use Rattle.rules.specs.Refusals.{over-limit₃}
 use Rattle.rules.specs.Operations.{operations, codes, values, goodTable, opFault}
 use Rattle.rules.specs.Batching.{batchesOf}
-use Rattle.rules.specs.Record.{Block, blockOf, noBlock, wordBytes, recordsBytes}
+use Rattle.rules.specs.Record.{Block, blockOf, noBlock, wordBytes, recordSize}
 use Rattle.rules.specs.Block.{Room}
-use Rattle.rules.specs.Functions.{arena, roomIn, roomFor, built, blockLeft}
+use Rattle.rules.specs.Functions.{arena, roomIn, roomFor, built, leaves}
 use Rattle.rules.proofs.Operations.{length-operations, noop-plain, true-left, true-right}
 use Rattle.claims.proofs.Right.{width-8}
 use Rattle.claims.proofs.Demand3.{few-batches}
@@ -27,7 +28,7 @@ use Rattle.encoder.proofs.Inputs.{or-false}
 
 -- ---- refused where the values are not whole numbers, or too many
 
-pub built-broken : (s t cs : List ℕ) (room : Room) → fewWords s ≡ false → wholeWords s (built 8 t cs (wordsIn s) room) ≡ refused 3 0
+pub built-broken : (s t cs : List ℕ) (room : Room) → fewWords s ≡ false → wholeWords s (built 8 t cs (wordsIn s) room) ≡ refused over-limit₃ 0
 unfolding built
 built-broken s t cs room h = broken s (not (eqb (length cs) (length (wordsIn s))) || ltb 16384 (length cs)) _ over h
   where
@@ -39,7 +40,7 @@ built-broken s t cs room h = broken s (not (eqb (length cs) (length (wordsIn s))
         go false e = refl
 
 pub cleared : (os ov rs os′ ov′ rs′ : List ℕ) → os′ ≡ fitted (length os) [] → ov′ ≡ fitted (length ov) [] → rs′ ≡ fitted (length rs) [] → arena os′ ov′ rs′ ≡ filledBytes (arena os ov rs) noBlock
-unfolding filledBytes noBlock codes values wordBytes recordsBytes
+unfolding filledBytes noBlock codes values inRow
 cleared os ov rs os′ ov′ rs′ x y z = rw (x, y, z)
 
 -- ---- a built block fits the work space
@@ -71,12 +72,12 @@ module _ (t cs vs : List ℕ) where
         same-first 0 (map (opFault t) (operations cs vs)) _ _ (λ _. rw (fit-same (longest g w))))))
 
   -- what is left has room for its values
-  built-short : (room : Room) → length (blockLeft (built 8 t cs vs room) .ops) ≤ room .values
+  built-short : (room : Room) → length (leaves noBlock (built 8 t cs vs room) .ops) ≤ room .values
   unfolding built roomFor noBlock
   built-short room =
       let n = length (block .ops) in
       let m = room .values in
-      let size : Answer Block → ℕ = λ d. length (blockLeft d .ops) in
+      let size : Answer Block → ℕ = λ d. length (leaves noBlock d .ops) in
       let guard = short-refuse size m (λ n p. zero-le) in
       guard (not (eqb (length cs) (length vs)) || ltb 16384 (length cs)) 3 0 _ (λ _. guard (not (goodTable t)) 14 0 _ (λ _. guard (eqb (length cs) 0) 12 0 _ (λ _.
       short-first size m (λ n p. zero-le) 0 (map (opFault t) (operations cs vs)) _ (guard (not (roomFor block room)) 13 0 _ (λ b.
@@ -90,9 +91,9 @@ module _ (s t cs : List ℕ) (h : fewWords s ≡ true) (os wk rs ov : List ℕ) 
 
   same-room : built 8 t cs (wordsIn s) before ≡ wholeWords s (built 8 t cs (wordsIn s) (roomBytes (arena os ov rs)))
   unfolding roomIn roomBytes
-  same-room = rw (e, whole s (built 8 t cs (wordsIn s) (roomBytes (arena os ov rs))) h) (built-same t cs (wordsIn s) (length os) (length ov / 8) (length rs / 82))
+  same-room = rw (e, whole s (built 8 t cs (wordsIn s) (roomBytes (arena os ov rs))) h) (built-same t cs (wordsIn s) (length os) (length ov / 8) (length rs / recordSize))
 
-  fits-work : length (blockLeft (built 8 t cs (wordsIn s) before) .ops) ≤ length wk
+  fits-work : length (leaves noBlock (built 8 t cs (wordsIn s) before) .ops) ≤ length wk
   unfolding roomIn
   fits-work = built-short t cs (wordsIn s) before
 
@@ -101,5 +102,5 @@ module _ (s t cs : List ℕ) (h : fewWords s ≡ true) (os wk rs ov : List ℕ) 
   builds-out r os′ wk′ rs′ ov′ d o =
       record {
         reply = d .reply ∙ ap buildReply same-room;
-        runs = arena-out os wk rs ov _ os′ wk′ rs′ ov′ fits-work (d .runs) o ∙ ap (λ (x : Answer Block). filledBytes (arena os ov rs) (blockLeft x)) same-room;
+        runs = arena-out os wk rs ov _ os′ wk′ rs′ ov′ fits-work (d .runs) o ∙ ap (λ (x : Answer Block). filledBytes (arena os ov rs) (leaves noBlock x)) same-room;
       }

@@ -7,20 +7,20 @@ use native.Mathlib.Omega.{arith}
 use borrow.Author.Tests.{le-leb, lt-leb, leb-true, leb-false, not-false}
 use lib.ListN.{length, replicate, replicate-append-replicate}
 use lib.Dec.{leb, ltb}
-use Rattle.rules.specs.Lists.{fitted}
+use Rattle.rules.specs.Lists.{fitted, inRow}
 use Rattle.rules.specs.Digits.{digits, leBytes}
-use Rattle.rules.specs.Answer.{Answer, good, refused, Read, found, _then_}
+use Rattle.rules.specs.Answer.{Answer, good, refused, Read, found, _then_, itemOf}
 use Rattle.rules.specs.Operations.{codes, values, goodTable}
-use Rattle.rules.specs.Record.{Block, noBlock, wordBytes}
+use Rattle.rules.specs.Record.{Block, noBlock, wordBytes, recordSize}
 use Rattle.rules.specs.Bytes.{countAt, opsAt, batchCountAt}
 use Rattle.rules.specs.Block.{Room, Head, headAt, layoutAt, batchesBy, blockAt}
-use Rattle.rules.specs.Functions.{Arena, arena, roomIn, filled, decoded, readLeft}
+use Rattle.rules.specs.Functions.{Arena, arena, roomIn, filled, decoded, leaves}
 use Rattle.rules.proofs.Operations.{true-right}
 use Rattle.rules.proofs.Runs.{fitted-zeros}
 use Rattle.claims.proofs.Back.{fitted-is}
 use Rattle.claims.proofs.Again.{count-limit, ops-allowed}
-use Rattle.decoder.specs.Stages.{IfFound}
-use Rattle.decoder.proofs.Stages.{if-then, if-refuse, held}
+use Rattle.wire.specs.Stages.{IfFound}
+use Rattle.wire.proofs.Stages.{if-then, if-refuse, held}
 use Rattle.rules.proofs.Sizes.{length-values}
 use Rattle.exports.specs.Replies.{decodeReply, Reads, roomBytes, filledBytes, ReadsBytes}
 use Rattle.exports.specs.declared.DecodeReply.{DecodeReply}
@@ -28,14 +28,14 @@ use Rattle.exports.specs.declared.DecodeReply.{DecodeReply}
 -- ---- zeros after the numbers are zeros after their bytes
 
 zero-words : (k : ℕ) → wordBytes (replicate k 0) ≡ replicate (8 * k) 0
-unfolding wordBytes digits
+unfolding inRow digits
 zero-words zero = refl
 zero-words (suc k) =
     let e : 8 * suc k ≡ 8 + 8 * k = omega arith in
     ap (λ (l : List ℕ). replicate 8 0 ++ l) (zero-words k) ∙ replicate-append-replicate 8 (8 * k) 0 ∙ ap (λ (n : ℕ). replicate n 0) (sym e)
 
 words-append : (xs ys : List ℕ) → wordBytes (xs ++ ys) ≡ wordBytes xs ++ wordBytes ys
-unfolding wordBytes
+unfolding inRow
 words-append [] ys = refl
 words-append (x ∷ xs) ys = ap (λ (l : List ℕ). leBytes 8 x ++ l) (words-append xs ys) ∙ sym (append-assoc (leBytes 8 x) (wordBytes xs) (wordBytes ys))
 
@@ -96,7 +96,7 @@ module _ (t s : List ℕ) (at : ℕ) (room : Room) where
       if-then _ (headAt t s at room) _ (λ h a₁ e. if-then _ (layoutAt 8 s (h .batches) a₁) _ (λ l a₂ f. if-then _ (batchesBy 8 t (h .ops) l) _ (λ rs n g.
       held _ (headAt t s at room) h a₁ e head-fits))))))
 
-left-fits : (m : ℕ) (d : Read Block) → IfFound (λ (b : Block) (next : ℕ). length (b .ops) ≤ m) d → length (readLeft d .ops) ≤ m
+left-fits : (m : ℕ) (d : Read Block) → IfFound (λ (b : Block) (next : ℕ). length (b .ops) ≤ m) d → length (leaves noBlock (itemOf d) .ops) ≤ m
 unfolding noBlock
 left-fits m (good i) h = h
 left-fits m (refused n p) h = zero-le
@@ -106,9 +106,9 @@ left-fits m (refused n p) h = zero-le
 module _ (t s : List ℕ) (at : ℕ) (os wk rs ov : List ℕ) (e : length wk ≡ min (length ov / 8) 65536) where
   same-room : decoded 8 t s at (roomIn (arena os wk rs)) ≡ decoded 8 t s at (roomBytes (arena os ov rs))
   unfolding roomIn roomBytes
-  same-room = rw e (decoded-same t s at (length os) (length ov / 8) (length rs / 82))
+  same-room = rw e (decoded-same t s at (length os) (length ov / 8) (length rs / recordSize))
 
-  fits-work : length (readLeft (decoded 8 t s at (roomIn (arena os wk rs))) .ops) ≤ length wk
+  fits-work : length (leaves noBlock (itemOf (decoded 8 t s at (roomIn (arena os wk rs)))) .ops) ≤ length wk
   unfolding roomIn
   fits-work = left-fits (length wk) (decoded 8 t s at (roomIn (arena os wk rs))) (decoded-fits t s at (roomIn (arena os wk rs)))
 
@@ -117,5 +117,5 @@ module _ (t s : List ℕ) (at : ℕ) (os wk rs ov : List ℕ) (e : length wk ≡
   reads-out r os′ wk′ rs′ ov′ d o =
       record {
         reply = d .reply ∙ ap (decodeReply at) same-room;
-        runs = arena-out os wk rs ov _ os′ wk′ rs′ ov′ fits-work (d .runs) o ∙ ap (λ (x : Read Block). filledBytes (arena os ov rs) (readLeft x)) same-room;
+        runs = arena-out os wk rs ov _ os′ wk′ rs′ ov′ fits-work (d .runs) o ∙ ap (λ (x : Read Block). filledBytes (arena os ov rs) (leaves noBlock (itemOf x))) same-room;
       }

@@ -9,10 +9,10 @@ use lib.ListN.{length}
 use lib.Dec.{leb, ltb, eqb}
 use Rattle.rules.specs.Lists.{fitted}
 use Rattle.rules.specs.Answer.{Answer, good, refuseFirst}
-use Rattle.rules.specs.Record.{wordBytes}
+use Rattle.rules.specs.Record.{wordBytes, recordSize}
 use Rattle.rules.specs.Checks.{structureFaults, paddingFaults}
 use Rattle.rules.specs.Lookups.{marks, rawEntries, paddedEntries, rawTable, paddedTable}
-use Rattle.rules.specs.Functions.{Arena, blockIn, within, structureChecked, tableOf, bytesLeft, tableLeft}
+use Rattle.rules.specs.Functions.{Arena, blockIn, within, structureChecked, tableOf, tableLeft, leaves}
 use Rattle.rules.proofs.Operations.{true-left, true-right}
 use Rattle.prefix.specs.Tables.{tableBy, tableFrom}
 use Rattle.prefix.proofs.Claims.{all-marked}
@@ -35,7 +35,7 @@ entries false k (false ∷ ms) = omega (arith, entries false k ms)
 few-operations : (a : Arena) → within a ≡ true → length (a .codes) ≤ 65535
 unfolding within
 few-operations a h =
-    let r = eqb (length (a .records) % 82) 0 && leb (length (a .records) / 82) 16384 in
+    let r = eqb (length (a .records) % recordSize) 0 && leb (length (a .records) / recordSize) 16384 in
     let b = leb (length (a .codes)) 65535 in
     leb-true (length (a .codes)) 65535 (true-left b r (true-right (eqb (length (a .codes)) (length (a .values))) (b && r) h))
 
@@ -66,10 +66,10 @@ module _ (padded : Bool) (a : Arena) where
       rw (ltb-min k (length (tableBy padded (blockIn a))) (longest w s)))))
 
 -- a table that was made fits
-table-short : (m : ℕ) (padded : Bool) (a : Arena) → length (bytesLeft (tableOf (tableBy padded) 8 a m)) ≤ m
+table-short : (m : ℕ) (padded : Bool) (a : Arena) → length (leaves [] (tableOf (tableBy padded) 8 a m)) ≤ m
 unfolding tableOf
 table-short m padded a =
-    let size : Answer (List ℕ) → ℕ = λ d. length (bytesLeft d) in
+    let size : Answer (List ℕ) → ℕ = λ d. length (leaves [] d) in
     short-refuse size m (λ n p. zero-le) (not (within a)) 3 0 _ (λ _. short-first size m (λ n p. zero-le) 0 (structureFaults 8 (blockIn a)) _ (short-first size m (λ n p. zero-le) 0 (paddingFaults (blockIn a)) _
     (short-refuse size m (λ n p. zero-le) (ltb m (length (tableBy padded (blockIn a)))) 13 0 _ (λ b. ltb-false m (length (tableBy padded (blockIn a))) b))))
 
@@ -84,5 +84,5 @@ module _ (padded : Bool) (a : Arena) (wk ov : List ℕ) (e : length wk ≡ min (
       let same : d ≡ tableOf (tableBy padded) 8 a (length ov / 8) = rw e (table-same padded a (length ov / 8)) in
       record {
         reply = x ∙ ap tableReply same;
-        left = z ∙ ap (λ (l : List ℕ). fitted (length ov) (wordBytes l)) y ∙ written-out (length ov) (length wk) (bytesLeft d) (table-short (length wk) padded a) ∙ ap (λ (q : Answer (List ℕ)). fitted (length ov) (wordBytes (bytesLeft q))) same;
+        left = z ∙ ap (λ (l : List ℕ). fitted (length ov) (wordBytes l)) y ∙ written-out (length ov) (length wk) (leaves [] d) (table-short (length wk) padded a) ∙ ap (λ (q : Answer (List ℕ)). fitted (length ov) (wordBytes (leaves [] q))) same;
       }

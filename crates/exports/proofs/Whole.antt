@@ -9,18 +9,20 @@ use lib.ListN.{length, take}
 use lib.Dec.{leb, ltb, eqb}
 use lib.Seq.{length-take-le, take-all}
 use Rattle.rules.specs.Answer.{Answer, refused, refuse}
+use Rattle.rules.specs.Refusals.{over-limit₃}
 use Rattle.rules.specs.Functions.{arena, within, encoded}
 use Rattle.rules.proofs.Operations.{true-left, true-right}
 use Rattle.crossing.specs.Words.{wordsIn, fewWords}
 use Rattle.crossing.proofs.Copies.{length-in}
 use Rattle.exports.specs.Replies.{wholeWords}
+use Rattle.rules.specs.Record.{recordSize}
 
 -- the limit on operations binds the values too
 outside : (cs vs rs : List ℕ) → 65535 < length vs → within (arena cs vs rs) ≡ false
 unfolding within
 outside cs vs rs h = go (eqb (length cs) (length vs)) refl
   where
-    go : (b : Bool) → eqb (length cs) (length vs) ≡ b → b && (leb (length cs) 65535 && (eqb (length rs % 82) 0 && leb (length rs / 82) 16384)) ≡ false
+    go : (b : Bool) → eqb (length cs) (length vs) ≡ b → b && (leb (length cs) 65535 && (eqb (length rs % recordSize) 0 && leb (length rs / recordSize) 16384)) ≡ false
     go true e = rw (lt-leb (length cs) 65535 (omega (arith, eqb-true (length cs) (length vs) e)))
     go false e = refl
 
@@ -34,21 +36,21 @@ module _ (s : List ℕ) where
   whole r h = rw (true-left (eqb (length s % 8) 0) (leb (length s / 8) 65536) h)
 
   -- where too many numbers are refused with 3 anyway
-  pub broken : {A : Type 0} (over : Bool) (r : Answer A) → (65536 < length (wordsIn s) → over ≡ true) → fewWords s ≡ false → wholeWords s (refuse over 3 0 r) ≡ refused 3 0
+  pub broken : {A : Type 0} (over : Bool) (r : Answer A) → (65536 < length (wordsIn s) → over ≡ true) → fewWords s ≡ false → wholeWords s (refuse over 3 0 r) ≡ refused over-limit₃ 0
   unfolding fewWords wholeWords
   broken {A} over r f h = go (eqb (length s % 8) 0) (leb (length s / 8) 65536) refl h
     where
-      go : (e l : Bool) → leb (length s / 8) 65536 ≡ l → (e && l) ≡ false → _≡_ {A = Answer A} (refuse (not e) 3 0 (refuse over 3 0 r)) (refused 3 0)
+      go : (e l : Bool) → leb (length s / 8) 65536 ≡ l → (e && l) ≡ false → _≡_ {A = Answer A} (refuse (not e) 3 0 (refuse over 3 0 r)) (refused over-limit₃ 0)
       go false l k h = refl
       go true l k h = rw (f (omega (arith, length-in s, leb-false (length s / 8) 65536 (k ∙ h))))
 
   module _ (cs rs : List ℕ) (h : fewWords s ≡ false) where
-    pub encoded-broken : (w : ℕ) (t : List ℕ) (size at : ℕ) → wholeWords s (encoded w t (arena cs (wordsIn s) rs) size at) ≡ refused 3 0
+    pub encoded-broken : (w : ℕ) (t : List ℕ) (size at : ℕ) → wholeWords s (encoded w t (arena cs (wordsIn s) rs) size at) ≡ refused over-limit₃ 0
     unfolding encoded
     encoded-broken w t size at = broken (not (within (arena cs (wordsIn s) rs)) || ltb 1048576 size) _ (λ l. rw (outside cs (wordsIn s) rs (omega arith))) h
 
     -- the checks and the tables begin so
-    pub checked-broken : {A : Type 0} (r : Answer A) → wholeWords s (refuse (not (within (arena cs (wordsIn s) rs))) 3 0 r) ≡ refused 3 0
+    pub checked-broken : {A : Type 0} (r : Answer A) → wholeWords s (refuse (not (within (arena cs (wordsIn s) rs))) 3 0 r) ≡ refused over-limit₃ 0
     checked-broken r = broken (not (within (arena cs (wordsIn s) rs))) r (λ l. rw (outside cs (wordsIn s) rs (omega arith))) h
 
 -- ---- the work space: as many numbers at its front as are wanted, and the copied ones stand for the bytes

@@ -1,5 +1,4 @@
 -- The replies that cross to Rust, by the enums that the library answers. Private contracts cite it.
-use Prim.Native.Nat.{ℕ}
 use Rattle.operation.specs.declared.Verdict.{Verdict}
 use Rattle.operation.specs.declared.Verdict.the-variants as verdict
 use Rattle.build.specs.declared.Built.{Built}

@@ -1,18 +1,19 @@
 -- The replies that cross to Rust, by the definitions' answers: number 0 where nothing is refused, every length and total 0 where something is.
 use mathlib.Core.Path.{_≡_}
 use mathlib.Core.Bool.{not, cond}
-use mathlib.Core.List.{List}
+use mathlib.Core.List.{List, []}
 use mathlib.Core.Option.{Option, none, some}
 use Prim.Native.Nat.{ℕ, _/_}
 use lib.ListN.{length}
 use lib.Dec.{eqb}
-use Rattle.rules.specs.Answer.{Answer, good, refused, refuse, Read}
+use Rattle.rules.specs.Answer.{Answer, good, refused, refuse, Read, itemOf}
+use Rattle.rules.specs.Refusals.{over-limit₃}
 use Rattle.rules.specs.Lists.{fitted}
 use Rattle.rules.specs.Operations.{codes, values}
-use Rattle.rules.specs.Record.{Block, recordSize, wordBytes, recordsBytes}
+use Rattle.rules.specs.Record.{Block, recordSize, wordBytes, recordsBytes, noBlock}
 use Rattle.rules.specs.Block.{Room, Head}
 use Rattle.rules.specs.Lookups.{Place, Raw, rawAt, Padded, paddedAt}
-use Rattle.rules.specs.Functions.{Arena, arena, roomIn, filled, blockLeft, written, readLeft, bytesLeft, tableLeft, totals, lengthTold, used}
+use Rattle.rules.specs.Functions.{Arena, arena, roomIn, filled, written, tableLeft, totals, lengthTold, used, leaves}
 use Rattle.crossing.specs.Words.{whole}
 use Rattle.exports.specs.declared.BuildReply.{BuildReply}
 use Rattle.exports.specs.declared.EncodeReply.{EncodeReply}
@@ -34,12 +35,12 @@ placeIn (good a) = 0
 placeIn (refused n p) = p
 
 abbrev pub buildReply : Answer Block → BuildReply
-buildReply d = let t = totals (blockLeft d) in record { number = numberIn d; place = placeIn d; batches = t .batches; operations = t .operations }
+buildReply d = let t = totals (leaves noBlock d) in record { number = numberIn d; place = placeIn d; batches = t .batches; operations = t .operations }
 
 -- build's reply and what it leaves in the lent runs; `answer` is what the rules answer for a room
 pub record Builds (answer : Room → Answer Block) (r : BuildReply) (before after : Arena) : Type 0 where
   pub reply : r ≡ buildReply (answer (roomIn before))
-  pub runs : after ≡ filled before (blockLeft (answer (roomIn before)))
+  pub runs : after ≡ filled before (leaves noBlock (answer (roomIn before)))
 
 abbrev pub encodeReply : Answer (List ℕ) → EncodeReply
 encodeReply d = record { number = numberIn d; place = placeIn d; length = lengthTold d }
@@ -50,12 +51,12 @@ pub record Writes (answer : Answer (List ℕ)) (at : ℕ) (r : EncodeReply) (bef
   pub bytes : after ≡ written before at answer
 
 abbrev pub decodeReply : ℕ → Read Block → DecodeReply
-decodeReply at d = let t = totals (readLeft d) in record { number = numberIn d; place = placeIn d; batches = t .batches; operations = t .operations; used = used at d }
+decodeReply at d = let t = totals (leaves noBlock (itemOf d)) in record { number = numberIn d; place = placeIn d; batches = t .batches; operations = t .operations; used = used at d }
 
 -- decode's reply and what it leaves in the lent runs; `answer` is what the rules answer for a room
 pub record Reads (answer : Room → Read Block) (at : ℕ) (r : DecodeReply) (before after : Arena) : Type 0 where
   pub reply : r ≡ decodeReply at (answer (roomIn before))
-  pub runs : after ≡ filled before (readLeft (answer (roomIn before)))
+  pub runs : after ≡ filled before (leaves noBlock (itemOf (answer (roomIn before))))
 
 -- how many operations and batches the block needs room for
 abbrev pub headReply : Read Head → HeadReply
@@ -83,7 +84,7 @@ rawReply (some (rawAt i)) = record { found = 1; index = i }
 -- ---- lookups in one batch: a run of bytes that is not one record is refused with 3
 
 unfoldable pub oneRecord : {A : Type 0} → List ℕ → Answer A → Answer A
-oneRecord s r = refuse (not (eqb (length s) recordSize)) 3 0 r
+oneRecord s r = refuse (not (eqb (length s) recordSize)) over-limit₃ 0 r
 
 abbrev pub groupReply : Answer (Option Place) → GroupReply
 groupReply (good none) = record { number = 0; place = 0; found = 0; group = 0; position = 0 }
@@ -99,7 +100,7 @@ nextReply (refused n p) = record { number = n; place = p; found = 0; group = 0 }
 
 -- an input that is not whole numbers is refused with 3, before everything else
 unfoldable pub wholeWords : {A : Type 0} → List ℕ → Answer A → Answer A
-wholeWords s r = refuse (not (whole s)) 3 0 r
+wholeWords s r = refuse (not (whole s)) over-limit₃ 0 r
 
 -- and an index lookup in one finds nothing
 unfoldable pub inWhole : {A : Type 0} → List ℕ → Option A → Option A
@@ -120,14 +121,14 @@ filledBytes a b =
 -- build's reply and what it leaves in the lent runs; `answer` is what the rules answer for a room
 pub record BuildsBytes (answer : Room → Answer Block) (r : BuildReply) (before after : Arena) : Type 0 where
   pub reply : r ≡ buildReply (answer (roomBytes before))
-  pub runs : after ≡ filledBytes before (blockLeft (answer (roomBytes before)))
+  pub runs : after ≡ filledBytes before (leaves noBlock (answer (roomBytes before)))
 
 -- decode's
 pub record ReadsBytes (answer : Room → Read Block) (at : ℕ) (r : DecodeReply) (before after : Arena) : Type 0 where
   pub reply : r ≡ decodeReply at (answer (roomBytes before))
-  pub runs : after ≡ filledBytes before (readLeft (answer (roomBytes before)))
+  pub runs : after ≡ filledBytes before (leaves noBlock (itemOf (answer (roomBytes before))))
 
 -- a table's
 pub record TablesBytes (answer : Answer (List ℕ)) (r : TableReply) (out out′ : List ℕ) : Type 0 where
   pub reply : r ≡ tableReply answer
-  pub left : out′ ≡ fitted (length out) (wordBytes (bytesLeft answer))
+  pub left : out′ ≡ fitted (length out) (wordBytes (leaves [] answer))

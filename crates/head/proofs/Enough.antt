@@ -9,21 +9,22 @@ use lib.ListN.{length, getD}
 use lib.Dec.{leb, ltb}
 use lib.Count.{trailingZeros}
 use Rattle.rules.specs.Digits.{leAt}
-use Rattle.rules.specs.Answer.{Answer, good, refused, refuse, Read, found, _then_}
+use Rattle.rules.specs.Answer.{Answer, good, refused, refuse, Read, found, _then_, row}
+use Rattle.rules.specs.Refusals.{no-room₁₃}
 use Rattle.rules.specs.Operations.{Op, goodTable, assigned, valued, field}
 use Rattle.rules.specs.Bytes.{least, countBy, countAt, valueAt, opAt, opsAt, batchCountAt}
 use Rattle.rules.specs.Block.{Room, Head, headAt, blockAt}
 use Rattle.rules.specs.Functions.{most, decoded, headed}
 use Rattle.rules.proofs.Answer.{passed, came, item}
-use Rattle.decoder.specs.Stages.{IfFound}
-use Rattle.decoder.proofs.Stages.{if-then, held}
+use Rattle.wire.specs.Stages.{IfFound}
+use Rattle.wire.proofs.Stages.{if-then, held}
 use Rattle.head.specs.Enough.{Enough}
 use Rattle.head.proofs.Heads.{few-operations, few-batches}
 
 -- ---- a head that was found is found with less room, if it is enough
 
 ops-many : (t s : List ℕ) (n at i : ℕ) → IfFound (λ (xs : List Op) (next : ℕ). length xs ≡ n) (opsAt t s n at i)
-unfolding opsAt
+unfolding row
 ops-many t s zero at i = refl
 ops-many t s (suc n) at i =
     if-then _ (opAt t s at i) _ (λ x next e. if-then _ (opsAt t s n next (i + 1)) _ (λ xs end f. ap suc (held _ (opsAt t s n next (i + 1)) xs end f (ops-many t s n next (i + 1)))))
@@ -59,7 +60,7 @@ module _ {A B : Type 0} where
 -- ---- 13 is not among them
 
 abbrev Not13 : {A : Type 0} → Answer A → Type 0
-Not13 r = (p : ℕ) → r ≡ refused 13 p → ⊥
+Not13 r = (p : ℕ) → r ≡ refused no-room₁₃ p → ⊥
 
 module _ {A : Type 0} where
   not-good : (a : A) → Not13 (good a)
@@ -97,7 +98,7 @@ module _ (t s : List ℕ) where
       not-refuse (leb (length s) at) 2 at _ (λ e. omega arith) (not-refuse (not (assigned t c)) 4 i _ (λ e. omega arith) (not-cond (valued t c) (valueAt s at i c) _ (not-value at i c) (not-good _)))
 
   not-ops : (n at i : ℕ) → Not13 (opsAt t s n at i)
-  unfolding opsAt
+  unfolding row
   not-ops zero at i = not-good _
   not-ops (suc n) at i = not-then (opAt t s at i) _ (not-op at i) (λ x next _. not-then (opsAt t s n next (i + 1)) _ (not-ops n next (i + 1)) (λ xs end _. not-good _))
 

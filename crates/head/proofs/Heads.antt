@@ -10,29 +10,30 @@ use lib.ListN.{length, getD}
 use lib.Dec.{leb, ltb}
 use lib.Count.{trailingZeros}
 use Rattle.rules.specs.Digits.{leAt}
-use Rattle.rules.specs.Answer.{good, refused, Read, found}
+use Rattle.rules.specs.Answer.{good, refused, Read, found, row}
+use Rattle.rules.specs.Refusals.{past-end₁, over-limit₃, bad-table₁₄}
 use Rattle.rules.specs.Operations.{Op, goodTable}
 use Rattle.rules.specs.Bytes.{least, countBy, countAt, opAt, opsAt, batchCountAt}
 use Rattle.rules.specs.Block.{headAt}
 use Rattle.rules.specs.Functions.{most, headed}
 use Rattle.wire.specs.declared.CountRead.{CountRead}
-use Rattle.decoder.specs.Stages.{counted, IfFound, Staged}
-use Rattle.decoder.proofs.Stages.{more-then, if-refuse, held}
+use Rattle.wire.specs.Stages.{counted, IfFound, Staged}
+use Rattle.wire.proofs.Stages.{more-then, if-refuse, held}
 
 -- ---- the walk over the operations
 
 module _ (t s : List ℕ) (n at i : ℕ) where
   pub turn : (x : Op) (next : ℕ) → i < n → opAt t s at i ≡ found x next
       → counted (λ (l : List Op). i + 1 + length l) (opsAt t s (n - (i + 1)) next (i + 1)) ≡ counted (λ (l : List Op). i + length l) (opsAt t s (n - i) at i)
-  unfolding opsAt
+  unfolding row
   turn x next h o = let e : n - i ≡ suc (n - (i + 1)) = omega arith in rw (e, o) (sym (more-then i x (opsAt t s (n - (i + 1)) next (i + 1))))
 
   pub stop : (f : List Op → ℕ) (m p : ℕ) → i < n → opAt t s at i ≡ refused m p → counted f (opsAt t s (n - i) at i) ≡ counted f (refused m p)
-  unfolding opsAt
+  unfolding row
   stop f m p h o = let e : n - i ≡ suc (n - (i + 1)) = omega arith in rw (e, o)
 
   pub done : n ≤ i → counted (λ (l : List Op). i + length l) (opsAt t s (n - i) at i) ≡ counted (λ (k : ℕ). k) (found i at)
-  unfolding opsAt
+  unfolding row
   done h = let e : n - i ≡ 0 = omega arith in rw (e, add-zero)
 
 -- a stage that leaves nothing in lent runs
@@ -82,16 +83,16 @@ module _ (t s : List ℕ) (at : ℕ) where
 -- ---- what is looked at first
 
 module _ (t s : List ℕ) (at : ℕ) where
-  pub headed-3 : 1048576 < length s → headed t s at ≡ refused 3 0
+  pub headed-3 : 1048576 < length s → headed t s at ≡ refused over-limit₃ 0
   unfolding headed
   headed-3 h = rw (lt-ltb 1048576 (length s) h)
 
   module _ (h : length s ≤ 1048576) where
-    pub headed-14 : goodTable t ≡ false → headed t s at ≡ refused 14 0
+    pub headed-14 : goodTable t ≡ false → headed t s at ≡ refused bad-table₁₄ 0
     unfolding headed
     headed-14 g = rw (le-ltb 1048576 (length s) h, g)
 
-    pub headed-1 : goodTable t ≡ true → length s < at → headed t s at ≡ refused 1 0
+    pub headed-1 : goodTable t ≡ true → length s < at → headed t s at ≡ refused past-end₁ 0
     unfolding headed
     headed-1 g l = rw (le-ltb 1048576 (length s) h, g, lt-ltb (length s) at l)
 

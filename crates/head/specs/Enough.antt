@@ -4,6 +4,7 @@ use mathlib.Core.List.{List}
 use Prim.Native.Nat.{ℕ, _≤_}
 use lib.ListN.{length}
 use Rattle.rules.specs.Answer.{refused, found}
+use Rattle.rules.specs.Refusals.{no-room₁₃}
 use Rattle.rules.specs.Block.{Room, Head}
 use Rattle.rules.specs.Functions.{most, decoded, headed}
 
@@ -14,4 +15,4 @@ pub record Enough (w : ℕ) (t s : List ℕ) (at : ℕ) : Type 0 where
   -- a block whose head is refused is refused in the same way
   pub alike : (n p : ℕ) → headed t s at ≡ refused n p → decoded w t s at most ≡ refused n p
   -- and not for want of room
-  pub never : (p : ℕ) → headed t s at ≡ refused 13 p → ⊥
+  pub never : (p : ℕ) → headed t s at ≡ refused no-room₁₃ p → ⊥

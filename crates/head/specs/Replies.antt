@@ -1,5 +1,4 @@
 -- What `head` answers, said of the definitions' answer.
-use Prim.Native.Nat.{ℕ}
 use lib.ListN.{length}
 use Rattle.rules.specs.Answer.{good, refused, Read}
 use Rattle.rules.specs.Block.{Head}

@@ -1,5 +1,5 @@
 // A block's batches and a refusal, printed for a person. What would be read past a run's end is 0, so that no run can trip the printing up.
-ghost use Prim.Native.Nat.{_+_, _*_, _≤_, _<_};
+ghost use Prim.Native.Nat.{_+_, _≤_, _<_};
 ghost use Rattle.io.specs.Counts.{Counts};
 use console::counted;
 use console::number;

@@ -2,7 +2,7 @@
 use mathlib.Core.Path.{_≡_, refl, ap, _∙_}
 use mathlib.Core.Bool.{Bool, true, _&&_}
 use mathlib.Core.List.{List, [], _∷_}
-use Prim.Native.Nat.{ℕ, zero, suc, _+_, _-_, _*_, _/_, _%_, _^_, _≤_, _<_}
+use Prim.Native.Nat.{ℕ, zero, suc, _+_, _-_, _*_, _^_, _≤_, _<_}
 use native.Mathlib.Nat.{add-zero, pow-suc, pow-le-pow-right}
 use native.Mathlib.Omega.{arith}
 use borrow.Author.Tests.{leb-true}
@@ -14,16 +14,6 @@ use Rattle.rules.specs.Digits.{digits, number}
 use Rattle.rules.specs.Record.{differences, bytesAt}
 use Rattle.rules.specs.Checks.{startsRight}
 use Rattle.rules.proofs.Operations.{true-left, true-right}
-
--- ---- digits from the lowest on
-
-pub digits-turn : (b n i v : ℕ) → i < n → digits b (n - i) v ≡ v % b ∷ digits b (n - (i + 1)) (v / b)
-unfolding digits
-digits-turn b n i v h = let e : n - i ≡ suc (n - (i + 1)) = omega arith in rw e
-
-pub digits-end : (b n i v : ℕ) → n ≤ i → digits b (n - i) v ≡ []
-unfolding digits
-digits-end b n i v h = let e : n - i ≡ 0 = omega arith in rw e
 
 -- ---- a number put together from the highest of n digits on
 

@@ -3,31 +3,82 @@
 use mathlib.Core.Path.{_≡_, refl, sym, ap, _∙_}
 use mathlib.Core.List.{List, [], _∷_, _++_, append-assoc}
 use Prim.Native.Nat.{ℕ, zero, suc, _+_, _-_, _*_, _≤_, _<_}
-use native.Mathlib.Nat.{not-suc-le-zero, le-of-suc-le-suc}
+use native.Mathlib.Nat.{add-zero, not-suc-le-zero, le-of-suc-le-suc}
 use native.Mathlib.Omega.{arith}
-use lib.ListN.{length, set, replicate, length-append, length-replicate}
-use lib.Seq.{sets}
-use Rattle.rules.specs.Lists.{fitted}
-use Rattle.rules.specs.Digits.{digits, leBytes}
-use Rattle.rules.specs.Record.{Record, startsFrom, recordSize, wordBytes, recordBytes}
-use Rattle.rules.proofs.Digits.{length-leBytes, length-digits}
+use lib.ListN.{length, getD, take, drop, set, replicate, length-append, length-replicate}
+use lib.Seq.{sets, length-sets, sets-eq, getD-set-other, length-take-le}
+use Rattle.rules.specs.Lists.{fitted, inRow}
+use Rattle.rules.specs.Digits.{digits, leAt, leBytes}
+use Rattle.rules.specs.Record.{Record, NineAndEight, startsFrom, recordSize, wordBytes, recordBytes, bytesAt, wordsAt, recordAt}
+use Rattle.rules.proofs.Digits.{split, length-leBytes, length-digits}
+use Rattle.rules.proofs.Records.{Sized, record-length, record-back}
 use Rattle.rules.proofs.Runs.{sets-past, sets-front, sets-over, sets-fitted, sets-next}
 use Rattle.rules.proofs.Sizes.{length-words, length-starts}
 use Rattle.op_batch.specs.Stores.{startsSet, flagSet, numberSet, countSet, recordSet, withStarts, withFlag, withNumber, withCount, packed}
 
--- a record of nine starts, eight flags and eight numbers
-pub record Whole (r : Record) : Type 0 where
-  pub starts : length (r .starts) ≡ 9
-  pub flags : length (r .flags) ≡ 8
-  pub numbers : length (r .numbers) ≡ 8
+-- ---- a run of records as a memory
 
-module _ (r : Record) (w : Whole r) where
-  words : length (wordBytes (r .numbers)) ≡ 64
-  words = length-words (r .numbers) ∙ ap (λ (k : ℕ). 8 * k) (w .numbers)
+-- what a load looks at
+bytes-same : (k : ℕ) (s s′ : List ℕ) (at : ℕ) → ((i : ℕ) → i < k → getD s (at + i) 0 ≡ getD s′ (at + i) 0) → bytesAt k s at ≡ bytesAt k s′ at
+unfolding bytesAt
+bytes-same zero s s′ at h = refl
+bytes-same (suc k) s s′ at h =
+    let first : getD s at 0 ≡ getD s′ at 0 = rw (add-zero at) at (h 0 (omega arith)) in
+    rw (first, bytes-same k s s′ (at + 1) (λ i l. let e : at + 1 + i ≡ at + suc i = omega arith in rw e (h (suc i) (omega arith))))
 
-  pub record-length : length (recordBytes r) ≡ recordSize
-  unfolding recordBytes
-  record-length = simp length-append (omega (arith, w .starts, w .flags, words))
+number-same : (k : ℕ) (s s′ : List ℕ) (at : ℕ) → ((i : ℕ) → i < k → getD s (at + i) 0 ≡ getD s′ (at + i) 0) → leAt k s at ≡ leAt k s′ at
+unfolding leAt
+number-same zero s s′ at h = refl
+number-same (suc k) s s′ at h =
+    let first : getD s at 0 ≡ getD s′ at 0 = rw (add-zero at) at (h 0 (omega arith)) in
+    rw (first, number-same k s s′ (at + 1) (λ i l. let e : at + 1 + i ≡ at + suc i = omega arith in rw e (h (suc i) (omega arith))))
+
+words-same : (k : ℕ) (s s′ : List ℕ) (at : ℕ) → ((i : ℕ) → i < 8 * k → getD s (at + i) 0 ≡ getD s′ (at + i) 0) → wordsAt k s at ≡ wordsAt k s′ at
+unfolding wordsAt
+words-same zero s s′ at h = refl
+words-same (suc k) s s′ at h =
+    rw (number-same 8 s s′ at (λ i l. h i (omega arith)), words-same k s s′ (at + 8) (λ i l. let e : at + 8 + i ≡ at + (8 + i) = omega arith in rw e (h (8 + i) (omega arith))))
+
+record-same : (s s′ : List ℕ) (b : ℕ) → ((i : ℕ) → i < recordSize → getD s (recordSize * b + i) 0 ≡ getD s′ (recordSize * b + i) 0) → recordAt s b ≡ recordAt s′ b
+unfolding recordAt
+record-same s s′ b h =
+    let past : (k i : ℕ) → k + i < recordSize → getD s (recordSize * b + k + i) 0 ≡ getD s′ (recordSize * b + k + i) 0 = λ k i l. (let e : recordSize * b + k + i ≡ recordSize * b + (k + i) = omega arith in rw e (h (k + i) l)) in
+    rw (
+      bytes-same 9 s s′ (recordSize * b) (λ i l. h i (omega arith)),
+      bytes-same 8 s s′ (recordSize * b + 9) (λ i l. past 9 i (omega arith)),
+      words-same 8 s s′ (recordSize * b + 17) (λ i l. past 17 i (omega arith)),
+      h 81 (omega arith),
+    )
+
+-- what a store leaves alone
+sets-other : (l : List ℕ) (i : ℕ) (vs : List ℕ) (j : ℕ) → (i ≤ j → i + length vs ≤ j) → getD (sets l i vs) j 0 ≡ getD l j 0
+sets-other l i [] j h = refl
+sets-other l i (v ∷ vs) j h =
+    sets-other (set l i v) (suc i) vs j (λ k. omega (arith, h (omega arith))) ∙ getD-set-other l i j v 0 (λ e. let k : i ≤ j = omega arith in absurd (omega (arith, h k)))
+
+module _ (b : ℕ) (r : Record) (s : List ℕ) where
+  pub stored-length : length (recordSet b r s) ≡ length s
+  unfolding recordSet
+  stored-length = length-sets s (recordSize * b) (recordBytes r)
+
+  -- a load after a store to the same record
+  pub load-after : Sized r → recordSize * b + recordSize ≤ length s → recordAt (recordSet b r s) b ≡ r
+  unfolding recordSet
+  load-after h l =
+      let n = record-length r (h .whole) in
+      let p = recordSize * b in
+      let q = drop (p + length (recordBytes r)) s in
+      ap (λ (x : List ℕ). recordAt x b) (sets-eq (recordBytes r) s p (omega arith) ∙ append-assoc (take p s) (recordBytes r) q) ∙ record-back (take p s) q r b (length-take-le p s (omega arith)) h
+
+  -- and after a store to another
+  pub load-past : (c : ℕ) → (c ≡ b → ⊥) → NineAndEight r → recordAt (recordSet b r s) c ≡ recordAt s c
+  unfolding recordSet
+  load-past c other w =
+      let n = record-length r w in
+      record-same (sets s (recordSize * b) (recordBytes r)) s c (λ i l. sets-other s (recordSize * b) (recordBytes r) (recordSize * c + i) (λ k. past i l k n))
+    where
+      past : (i : ℕ) → i < recordSize → recordSize * b ≤ recordSize * c + i → length (recordBytes r) ≡ recordSize → recordSize * b + length (recordBytes r) ≤ recordSize * c + i
+      past i l k n = split c b (λ m. absurd (omega arith)) (λ m. split b c (λ q. omega arith) (λ q. absurd (other (omega arith))))
 
 -- ---- a run that holds some bytes p, and a record after them, as far as it goes: stores to the record's parts
 
@@ -49,8 +100,11 @@ module _ (n : ℕ) (s s′ : List ℕ) (k i : ℕ) (vs : List ℕ) (e : sets s k
       → sets (fitted n (p ++ (a ++ (b ++ (c ++ (s ++ q)))))) i vs ≡ fitted n (p ++ (a ++ (b ++ (c ++ (s′ ++ q)))))
   part4 p a b c q j = rw (← append-assoc p a (b ++ (c ++ (s ++ q))), ← append-assoc p a (b ++ (c ++ (s′ ++ q)))) (part3 (p ++ a) b c q (omega (arith, length-append p a)))
 
+words : (r : Record) → NineAndEight r → length (wordBytes (r .numbers)) ≡ 64
+words r w = length-words (r .numbers) ∙ ap (λ (k : ℕ). 8 * k) (w .numbers)
+
 words-set : (ns : List ℕ) (j v : ℕ) → j < length ns → sets (wordBytes ns) (8 * j) (leBytes 8 v) ≡ wordBytes (set ns j v)
-unfolding wordBytes
+unfolding inRow
 words-set [] j v h = absurd (not-suc-le-zero h)
 words-set (n ∷ ns) zero v h = sets-over (leBytes 8 n) (wordBytes ns) (leBytes 8 v) (length-leBytes 8 v ∙ sym (length-leBytes 8 n))
 words-set (n ∷ ns) (suc j) v h =
@@ -59,7 +113,7 @@ words-set (n ∷ ns) (suc j) v h =
     ∙ sets-past (leBytes 8 n) (wordBytes ns) (8 * j) (leBytes 8 v)
     ∙ ap (λ (l : List ℕ). leBytes 8 n ++ l) (words-set ns j v (le-of-suc-le-suc h))
 
-module _ (n : ℕ) (p : List ℕ) (b : ℕ) (at : length p ≡ recordSize * b) (r : Record) (w : Whole r) where
+module _ (n : ℕ) (p : List ℕ) (b : ℕ) (at : length p ≡ recordSize * b) (r : Record) (w : NineAndEight r) where
   pub starts-set : (g v : ℕ) → g ≤ 9 → startsSet b g v (fitted n (p ++ recordBytes r)) ≡ fitted n (p ++ recordBytes (withStarts g v r))
   unfolding startsSet recordBytes
   starts-set g v h =
@@ -93,7 +147,7 @@ module _ (n : ℕ) (p : List ℕ) (b : ℕ) (at : length p ≡ recordSize * b) (
 -- ---- a record by its packed forms
 
 module _ (v f : ℕ) (ns : List ℕ) (c : ℕ) (n : length ns ≡ 8) where
-  pub packed-whole : Whole (packed v f ns c)
+  pub packed-whole : NineAndEight (packed v f ns c)
   unfolding packed
   packed-whole = record { starts = length-starts 0 (digits 16 8 v) ∙ ap suc (length-digits 16 8 v); flags = length-digits 2 8 f; numbers = n }
 

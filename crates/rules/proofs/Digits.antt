@@ -1,7 +1,7 @@
 -- Laws of digits and little-endian numbers, and of stores one after the other. Assumes nothing.
 use mathlib.Core.Path.{_≡_, refl, sym, ap, _∙_}
 use mathlib.Core.List.{List, [], _∷_, _++_}
-use Prim.Native.Nat.{ℕ, zero, suc, _+_, _*_, _/_, _%_, _^_, _≤_, _<_}
+use Prim.Native.Nat.{ℕ, zero, suc, _+_, _-_, _*_, _/_, _%_, _^_, _≤_, _<_}
 use native.Mathlib.Nat.{zero-add, suc-add, add-zero, add-suc, pow-suc, mul-assoc, mul-comm, div-div-eq-div-mul}
 use native.Mathlib.Nat.{div-one, lt-of-not-le}
 use native.Mathlib.Decide.{decLe}
@@ -59,3 +59,13 @@ leAt-back (suc k) v p q h =
     let ih : leAt k ((p ++ (v % 256 ∷ [])) ++ r) (length (p ++ (v % 256 ∷ []))) ≡ v / 256 = leAt-back k (v / 256) (p ++ (v % 256 ∷ [])) q small in
     let tl : leAt k (p ++ (v % 256 ∷ r)) (length p + 1) ≡ v / 256 = rw (length-append, append-snoc) at ih in
     omega (arith, hd, tl)
+
+-- ---- digits from the lowest on
+
+pub digits-turn : (b n i v : ℕ) → i < n → digits b (n - i) v ≡ v % b ∷ digits b (n - (i + 1)) (v / b)
+unfolding digits
+digits-turn b n i v h = let e : n - i ≡ suc (n - (i + 1)) = omega arith in rw e
+
+pub digits-end : (b n i v : ℕ) → n ≤ i → digits b (n - i) v ≡ []
+unfolding digits
+digits-end b n i v h = let e : n - i ≡ 0 = omega arith in rw e

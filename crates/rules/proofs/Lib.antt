@@ -5,3 +5,4 @@ pub mod Operations
 pub mod Sizes
 pub mod Slots
 pub mod Loads
+pub mod Records

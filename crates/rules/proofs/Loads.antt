@@ -12,6 +12,7 @@ use Rattle.rules.proofs.Sizes.{length-bytesAt, length-wordsAt}
 use Rattle.rules.proofs.Runs.{sets-all}
 use native.Mathlib.Numerals.{add-one}
 use native.Mathlib.Nat.{add-zero}
+use Rattle.rules.specs.Lists.{inRow}
 
 -- ---- one element
 
@@ -65,11 +66,11 @@ words-end d s n i k j h = let e : n - i ≡ 0 = omega arith in rw e
 module _ (ns : List ℕ) (i : ℕ) where
   pub stored-turn : (l : List ℕ) (at : ℕ) → i < length ns
       → sets (sets l (at + 8 * i) (leBytes 8 (getD ns i 0))) (at + 8 * (i + 1)) (wordBytes (drop (i + 1) ns)) ≡ sets l (at + 8 * i) (wordBytes (drop i ns))
-  unfolding wordBytes
+  unfolding inRow
   stored-turn l at h =
       let e : at + 8 * (i + 1) ≡ at + 8 * i + length (leBytes 8 (getD ns i 0)) = omega (arith, length-leBytes 8 (getD ns i 0)) in
       rw (drop-cons ns i 0 h, e, add-one i) (sym (sets-append l (at + 8 * i) (leBytes 8 (getD ns i 0)) (wordBytes (drop (suc i) ns))))
 
   pub stored-end : (l : List ℕ) (at : ℕ) → length ns ≤ i → sets l at (wordBytes (drop i ns)) ≡ l
-  unfolding wordBytes
+  unfolding inRow
   stored-end l at h = rw (drop-of-length-le ns {i = i} h)

@@ -13,6 +13,7 @@ use Rattle.rules.specs.Record.{Record, startsFrom, differences, wordByte
 use Rattle.rules.specs.Lookups.{marksIn}
 use Rattle.rules.specs.Bytes.{more, countBytes, nibbleBytes, flagBytes}
 use Rattle.rules.proofs.Digits.{length-leBytes}
+use Rattle.rules.specs.Lists.{inRow}
 
 pub length-codes : (xs : List Op) → length (codes xs) ≡ length xs
 unfolding codes
@@ -30,7 +31,7 @@ length-starts n [] = refl
 length-starts n (k ∷ ks) = ap suc (length-starts (n + k) ks)
 
 pub length-words : (ns : List ℕ) → length (wordBytes ns) ≡ 8 * length ns
-unfolding wordBytes
+unfolding inRow
 length-words [] = refl
 length-words (n ∷ ns) = length-append (leBytes 8 n) (wordBytes ns) ∙ omega (arith, length-leBytes 8 n, length-words ns)
 
@@ -63,14 +64,14 @@ unfolding countBytes
 length-count v = length-leBytes (more v + 1) ((2 * v + 1) * 2 ^ more v)
 
 pub length-nibbles : (rs : List Record) → length (nibbleBytes rs) ≡ 4 * length rs
-unfolding nibbleBytes
+unfolding inRow
 length-nibbles [] = refl
 length-nibbles (r ∷ rs) =
     let v = number 16 (differences (r .starts)) in
     length-append (leBytes 4 v) (nibbleBytes rs) ∙ omega (arith, length-leBytes 4 v, length-nibbles rs)
 
 pub length-flags : (rs : List Record) → length (flagBytes rs) ≡ length rs
-unfolding flagBytes
+unfolding inRow
 length-flags [] = refl
 length-flags (r ∷ rs) = ap suc (length-flags rs)
 

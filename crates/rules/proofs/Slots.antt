@@ -7,14 +7,16 @@ use native.Mathlib.Nat.{add-zero, zero-add, lt-of-not-le}
 use native.Mathlib.Decide.{decLe}
 use native.Mathlib.Omega.{arith}
 use borrow.Author.Tests.{le-ltb, lt-ltb}
-use lib.ListN.{length, take, drop, replicate, length-take, length-drop}
+use lib.ListN.{length, getD, take, drop, replicate, length-append, length-take, length-drop}
+use lib.Seq.{append-snoc, getD-append-seam}
 use lib.Dec.{ltb}
 use Rattle.rules.specs.Lists.{fitted, total}
-use Rattle.rules.specs.Answer.{Answer, refused, Read, found, refuse, refuseFirst, _then_}
+use Rattle.rules.specs.Answer.{Answer, good, refused, Read, found, refuse, refuseFirst, _then_, row}
+use Rattle.rules.specs.Refusals.{no-slot₈, slot-taken₉}
 use Rattle.rules.specs.Operations.{Op}
 use Rattle.rules.specs.Record.{Record, part, cut, immediates, codesNumber, recordBy}
 use Rattle.rules.specs.Checks.{orElse, placingFault, paddingRight}
-use Rattle.rules.specs.Block.{placingsFault, numbersFrom, countFrom, batchAt}
+use Rattle.rules.specs.Block.{placingsFault, numbersFrom, countFrom, batchAt, batchesAt}
 use Rattle.rules.proofs.Answer.{no-fault}
 use Rattle.rules.proofs.Runs.{fitted-zeros}
 
@@ -26,12 +28,12 @@ emptyBefore (v ∷ vs) = 0 ∷ v ∷ vs
 -- the numbers of the groups of these sizes under the count, where the immediates `due` still want a slot; the operations start at a place
 unfoldable pub slots : List ℕ → ℕ → List ℕ → List ℕ → List Op → ℕ → Read (List ℕ)
 slots t b [] [] xs at = found [] at
-slots t b [] (v ∷ due) xs at = refused 8 b
+slots t b [] (v ∷ due) xs at = refused no-slot₈ b
 slots t b (zero ∷ ns) [] xs at = slots t b ns [] xs at then λ vs end. found (emptyBefore vs) end
 slots t b (zero ∷ ns) (v ∷ due) xs at = slots t b ns due xs at then λ vs end. found (v ∷ vs) end
 slots t b (suc n ∷ ns) [] xs at =
     slots t b ns (immediates t (part (suc n) xs at)) xs (at + suc n) then λ vs end. found (codesNumber (part (suc n) xs at) ∷ vs) end
-slots t b (suc n ∷ ns) (v ∷ due) xs at = refused 9 b
+slots t b (suc n ∷ ns) (v ∷ due) xs at = refused slot-taken₉ b
 
 -- the b-th batch by it
 unfoldable pub batchBy : ℕ → List ℕ → List Op → ℕ → ℕ → List ℕ → List ℕ → Read Record
@@ -285,3 +287,35 @@ batch-is w t xs at b ns fs z = elim (decLe (at + total ns) (length xs)) [ yes h 
   where
     outside : length xs < at + total ns → batchAt w t xs at b ns fs ≡ batchBy w t xs at b ns fs
     outside h = rw (lt-ltb (length xs) (at + total ns) h)
+
+-- ---- batch by batch along the lists of sizes and flags
+
+unfoldable pub batchByBatch : ℕ → List ℕ → List Op → ℕ → ℕ → List (List ℕ) → List (List ℕ) → Read (List Record)
+batchByBatch w t xs at b [] fss = found [] at
+batchByBatch w t xs at b (ns ∷ nss) [] = found [] at
+batchByBatch w t xs at b (ns ∷ nss) (fs ∷ fss) = batchAt w t xs at b ns fs then λ r next. batchByBatch w t xs next (b + 1) nss fss then λ rs end. found (r ∷ rs) end
+
+module _ (w : ℕ) (t : List ℕ) (xs : List Op) where
+  -- from the b-th batch on, where k batches stand before these lists
+  along : (ps qs : List (List ℕ)) (at b : ℕ) (nss fss : List (List ℕ)) → length ps ≡ b → length qs ≡ b → length nss ≡ length fss
+      → row (λ at b. batchAt w t xs at b (getD (ps ++ nss) b []) (getD (qs ++ fss) b [])) (length nss) at b ≡ batchByBatch w t xs at b nss fss
+  unfolding row batchByBatch
+  along ps qs at b [] fss h k l = refl
+  along ps qs at b (ns ∷ nss) [] h k l = absurd (omega arith)
+  along ps qs at b (ns ∷ nss) (fs ∷ fss) h k l =
+      let e : getD (ps ++ ns ∷ nss) b [] ≡ ns = ap (λ (i : ℕ). getD (ps ++ ns ∷ nss) i []) (sym h) ∙ getD-append-seam ps ns nss [] in
+      let f : getD (qs ++ fs ∷ fss) b [] ≡ fs = ap (λ (i : ℕ). getD (qs ++ fs ∷ fss) i []) (sym k) ∙ getD-append-seam qs fs fss [] in
+      rw (e, f) (go (batchAt w t xs at b ns fs) (λ next.
+      rw (append-snoc ps ns nss, append-snoc qs fs fss) at (along (ps ++ (ns ∷ [])) (qs ++ (fs ∷ [])) next (b + 1) nss fss (omega (arith, length-append ps (ns ∷ []))) (omega (arith, length-append qs (fs ∷ []))) (omega arith))))
+    where
+      rest : ℕ → Read (List Record)
+      rest next = row (λ at b. batchAt w t xs at b (getD (ps ++ ns ∷ nss) b []) (getD (qs ++ fs ∷ fss) b [])) (length nss) next (b + 1)
+
+      go : (d : Read Record) → ((next : ℕ) → rest next ≡ batchByBatch w t xs next (b + 1) nss fss)
+          → (d then λ r next. rest next then λ rs end. found (r ∷ rs) end) ≡ (d then λ r next. batchByBatch w t xs next (b + 1) nss fss then λ rs end. found (r ∷ rs) end)
+      go (refused n p) ih = refl
+      go (good i) ih = rw (ih (i .next))
+
+  pub batches-is : (nss fss : List (List ℕ)) → length nss ≡ length fss → batchesAt w t xs nss fss ≡ batchByBatch w t xs 0 0 nss fss
+  unfolding batchesAt
+  batches-is nss fss l = along [] [] 0 0 nss fss refl refl l

@@ -31,8 +31,18 @@ Read A = Answer (Item A)
 abbrev pub found : {A : Type 0} → A → ℕ → Read A
 found a n = good (record { item = a; next = n })
 
+-- what was read, without the place after it
+abbrev pub itemOf : {A : Type 0} → Read A → Answer A
+itemOf (good a) = good (a .item)
+itemOf (refused n p) = refused n p
+
 -- "Each decoding step ends at the first refusal": read, then go on with the item and the place after it
 infixr 10 _then_
 abbrev pub _then_ : {A B : Type 0} → Read A → (A → ℕ → Answer B) → Answer B
 good a then f = f (a .item) (a .next)
 refused n p then f = refused n p
+
+-- n items in a row, each read at the place where the one before ended; the first of them is the i-th
+unfoldable pub row : {A : Type 0} → (ℕ → ℕ → Read A) → ℕ → ℕ → ℕ → Read (List A)
+row read zero at i = found [] at
+row read (suc n) at i = read at i then λ x next. row read n next (i + 1) then λ xs end. found (x ∷ xs) end

@@ -2,11 +2,12 @@
 use mathlib.Core.Bool.{not, _&&_}
 use mathlib.Core.List.{List, [], _∷_, _++_}
 use Prim.Native.Nat.{ℕ, _+_}
-use lib.ListN.{length, take}
+use lib.ListN.{length, getD, take}
 use lib.Dec.{leb, ltb}
 use Rattle.rules.specs.Lists.{fitted, total}
 use Rattle.rules.specs.Digits.{leBytes}
-use Rattle.rules.specs.Answer.{Read, found, refuse, refuseFirst, _then_}
+use Rattle.rules.specs.Answer.{Read, found, refuse, refuseFirst, _then_, row}
+use Rattle.rules.specs.Refusals.{past-operations₇, bad-padding₁₀, left-over₁₁, no-room₁₃}
 use Rattle.rules.specs.Operations.{Op}
 use Rattle.rules.specs.Record.{Record, Block, startsFrom, cut, immediates, codesNumber}
 use Rattle.rules.specs.Checks.{orElse, placingFault, paddingRight}
@@ -48,15 +49,14 @@ unfoldable pub batchAt : ℕ → List ℕ → List Op → ℕ → ℕ → List �
 batchAt w t xs at b ns fs =
     let gs = cut (take w ns) xs at in
     let n = countFrom t 0 0 gs in
-    refuse (ltb (length xs) (at + total ns)) 7 b
+    refuse (ltb (length xs) (at + total ns)) past-operations₇ b
     (refuseFirst b (placingsFault t gs ∷ [])
-    (refuse (not (paddingRight (take n gs) fs)) 10 b
+    (refuse (not (paddingRight (take n gs) fs)) bad-padding₁₀ b
     (found (record { starts = startsFrom 0 ns; flags = fs; numbers = fitted 8 (numbersFrom t [] gs); count = n }) (at + total ns))))
 
-unfoldable pub batchesAt : ℕ → List ℕ → List Op → ℕ → ℕ → List (List ℕ) → List (List ℕ) → Read (List Record)
-batchesAt w t xs at b [] fss = found [] at
-batchesAt w t xs at b (ns ∷ nss) [] = found [] at
-batchesAt w t xs at b (ns ∷ nss) (fs ∷ fss) = batchAt w t xs at b ns fs then λ r next. batchesAt w t xs next (b + 1) nss fss then λ rs end. found (r ∷ rs) end
+-- all batches, the b-th of the b-th sizes and flags
+unfoldable pub batchesAt : ℕ → List ℕ → List Op → List (List ℕ) → List (List ℕ) → Read (List Record)
+batchesAt w t xs nss fss = row (λ at b. batchAt w t xs at b (getD nss b []) (getD fss b [])) (length nss) 0 0
 
 -- ---- reading a block, in three stages
 
@@ -74,10 +74,10 @@ pub record Head : Type 0 where
 unfoldable pub headAt : List ℕ → List ℕ → ℕ → Room → Read Head
 headAt t s at room =
     countAt s at then λ n a₁.
-    refuse (not (leb n (room .codes) && leb n (room .values))) 13 0
+    refuse (not (leb n (room .codes) && leb n (room .values))) no-room₁₃ 0
     (opsAt t s n a₁ 0 then λ xs a₂.
     batchCountAt s a₂ then λ k a₃.
-    refuse (ltb (room .records) k) 13 0
+    refuse (ltb (room .records) k) no-room₁₃ 0
     (found (record { ops = xs; batches = k }) a₃))
 
 -- items 4 and 5: "all nibbles, all flags"
@@ -94,8 +94,8 @@ layoutAt w s k at =
 -- "then batch by batch 7, 8 or 9, 10, and 11": the records, and how many operations they take
 unfoldable pub batchesBy : ℕ → List ℕ → List Op → Layout → Read (List Record)
 batchesBy w t xs l =
-    batchesAt w t xs 0 0 (l .sizes) (l .flags) then λ rs end.
-    refuse (ltb end (length xs)) 11 0
+    batchesAt w t xs (l .sizes) (l .flags) then λ rs end.
+    refuse (ltb end (length xs)) left-over₁₁ 0
     (found rs end)
 
 -- the block at a place, and the place after it

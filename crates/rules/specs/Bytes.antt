@@ -1,13 +1,14 @@
 -- Document 01, "Block bytes (001)", items 1 to 5, each read at a place of a list of bytes and written.
 use mathlib.Core.Bool.{Bool, cond, not}
-use mathlib.Core.List.{List, [], _∷_, _++_}
+use mathlib.Core.List.{List, [], _∷_}
 use Prim.Native.Nat.{ℕ, zero, suc, _+_, _-_, _*_, _/_, _^_}
 use lib.ListN.{length, getD, drop}
 use lib.Dec.{leb, ltb}
 use lib.Count.{trailingZeros}
-use Rattle.rules.specs.Lists.{every}
+use Rattle.rules.specs.Lists.{every, inRow}
 use Rattle.rules.specs.Digits.{digits, number, leBytes, leAt}
-use Rattle.rules.specs.Answer.{Read, found, refuse, _then_}
+use Rattle.rules.specs.Answer.{Read, found, refuse, row}
+use Rattle.rules.specs.Refusals.{cut-short₂, over-limit₃, inadmissible₄, too-many-batches₅, bad-nibble₆}
 use Rattle.rules.specs.Operations.{Op, assigned, valued, field}
 use Rattle.rules.specs.Record.{Record, differences}
 
@@ -22,16 +23,16 @@ least (suc t) = 128 ^ suc t
 -- The limit is 65,535 padded operations.
 unfoldable pub countBy : ℕ → List ℕ → ℕ → Read ℕ
 countBy t s at =
-    refuse (ltb 2 t) 3 0
-    (refuse (ltb (length s) (at + t + 1)) 2 at
+    refuse (ltb 2 t) over-limit₃ 0
+    (refuse (ltb (length s) (at + t + 1)) cut-short₂ at
     (let v = leAt (t + 1) s at / 2 ^ (t + 1) in
-    refuse (ltb v (least t)) 3 0
-    (refuse (ltb 65535 v) 3 0
+    refuse (ltb v (least t)) over-limit₃ 0
+    (refuse (ltb 65535 v) over-limit₃ 0
     (found v (at + t + 1)))))
 
 -- "the trailing zero bits of its first byte give the length"
 unfoldable pub countAt : List ℕ → ℕ → Read ℕ
-countAt s at = refuse (leb (length s) at) 2 at (countBy (trailingZeros 8 (getD s at 0)) s at)
+countAt s at = refuse (leb (length s) at) cut-short₂ at (countBy (trailingZeros 8 (getD s at 0)) s at)
 
 -- how many bytes besides the first v takes
 unfoldable pub more : ℕ → ℕ
@@ -45,40 +46,38 @@ countBytes v = leBytes (more v + 1) ((2 * v + 1) * 2 ^ more v)
 
 unfoldable pub valueAt : List ℕ → ℕ → ℕ → ℕ → Read Op
 valueAt s at i c =
-    refuse (ltb (length s) (at + 9)) 2 at
+    refuse (ltb (length s) (at + 9)) cut-short₂ at
     (let v = leAt 8 s (at + 1) in
-    refuse (not (ltb v field)) 4 i
+    refuse (not (ltb v field)) inadmissible₄ i
     (found (record { code = c; value = v }) (at + 9)))
 
 -- the operation at a place, the i-th: "unassigned opcode 4 before missing value bytes 2"
 unfoldable pub opAt : List ℕ → List ℕ → ℕ → ℕ → Read Op
 opAt t s at i =
-    refuse (leb (length s) at) 2 at
+    refuse (leb (length s) at) cut-short₂ at
     (let c = getD s at 0 in
-    refuse (not (assigned t c)) 4 i
+    refuse (not (assigned t c)) inadmissible₄ i
     (cond (valued t c) (valueAt s at i c) (found (record { code = c; value = 0 }) (at + 1))))
 
 -- n operations from a place on, the first of them the i-th
-unfoldable pub opsAt : List ℕ → List ℕ → ℕ → ℕ → ℕ → Read (List Op)
-opsAt t s zero at i = found [] at
-opsAt t s (suc n) at i = opAt t s at i then λ x next. opsAt t s n next (i + 1) then λ xs end. found (x ∷ xs) end
+abbrev pub opsAt : List ℕ → List ℕ → ℕ → ℕ → ℕ → Read (List Op)
+opsAt t s = row (opAt t s)
 
 unfoldable pub opBytes : List ℕ → Op → List ℕ
 opBytes t x = x .code ∷ cond (valued t (x .code)) (leBytes 8 (x .value)) []
 
-unfoldable pub opsBytes : List ℕ → List Op → List ℕ
-opsBytes t [] = []
-opsBytes t (x ∷ xs) = opBytes t x ++ opsBytes t xs
+abbrev pub opsBytes : List ℕ → List Op → List ℕ
+opsBytes t = inRow (opBytes t)
 
 -- ---- 3. "Batch count, 4 bytes, little-endian."
 
 -- 5, "batch count over (bytes left / 5), rounded down", before the limit of 16,384 batches
 unfoldable pub batchCountAt : List ℕ → ℕ → Read ℕ
 batchCountAt s at =
-    refuse (ltb (length s) (at + 4)) 2 at
+    refuse (ltb (length s) (at + 4)) cut-short₂ at
     (let k = leAt 4 s at in
-    refuse (ltb ((length s - (at + 4)) / 5) k) 5 0
-    (refuse (ltb 16384 k) 3 0
+    refuse (ltb ((length s - (at + 4)) / 5) k) too-many-batches₅ 0
+    (refuse (ltb 16384 k) over-limit₃ 0
     (found k (at + 4))))
 
 -- ---- 4. "Per batch 4 bytes: eight nibbles, low nibble first, each start i+1 minus start i."
@@ -90,31 +89,27 @@ upTo m ns = every (λ (n : ℕ). leb n m) ns
 unfoldable pub sizesAt : ℕ → List ℕ → ℕ → ℕ → Read (List ℕ)
 sizesAt w s at b =
     let ns = digits 16 8 (leAt 4 s at) in
-    refuse (not (upTo 9 ns)) 6 b
-    (refuse (not (upTo 0 (drop w ns))) 6 b
+    refuse (not (upTo 9 ns)) bad-nibble₆ b
+    (refuse (not (upTo 0 (drop w ns))) bad-nibble₆ b
     (found ns (at + 4)))
 
 -- of k batches, the first of them the b-th
-unfoldable pub nibblesAt : ℕ → List ℕ → ℕ → ℕ → ℕ → Read (List (List ℕ))
-nibblesAt w s zero at b = found [] at
-nibblesAt w s (suc k) at b = sizesAt w s at b then λ ns next. nibblesAt w s k next (b + 1) then λ nss end. found (ns ∷ nss) end
+abbrev pub nibblesAt : ℕ → List ℕ → ℕ → ℕ → ℕ → Read (List (List ℕ))
+nibblesAt w s = row (sizesAt w s)
 
-unfoldable pub nibbleBytes : List Record → List ℕ
-nibbleBytes [] = []
-nibbleBytes (r ∷ rs) = leBytes 4 (number 16 (differences (r .starts))) ++ nibbleBytes rs
+abbrev pub nibbleBytes : List Record → List ℕ
+nibbleBytes = inRow (λ (r : Record). leBytes 4 (number 16 (differences (r .starts))))
 
 -- ---- 5. "Per batch 1 byte: flag of group i in bit i."
 
 unfoldable pub bitsAt : ℕ → List ℕ → ℕ → ℕ → Read (List ℕ)
 bitsAt w s at b =
     let fs = digits 2 8 (getD s at 0) in
-    refuse (not (upTo 0 (drop w fs))) 6 b
+    refuse (not (upTo 0 (drop w fs))) bad-nibble₆ b
     (found fs (at + 1))
 
-unfoldable pub flagsAt : ℕ → List ℕ → ℕ → ℕ → ℕ → Read (List (List ℕ))
-flagsAt w s zero at b = found [] at
-flagsAt w s (suc k) at b = bitsAt w s at b then λ fs next. flagsAt w s k next (b + 1) then λ fss end. found (fs ∷ fss) end
+abbrev pub flagsAt : ℕ → List ℕ → ℕ → ℕ → ℕ → Read (List (List ℕ))
+flagsAt w s = row (bitsAt w s)
 
-unfoldable pub flagBytes : List Record → List ℕ
-flagBytes [] = []
-flagBytes (r ∷ rs) = number 2 (r .flags) ∷ flagBytes rs
+abbrev pub flagBytes : List Record → List ℕ
+flagBytes = inRow (λ (r : Record). number 2 (r .flags) ∷ [])

@@ -7,6 +7,7 @@ use lib.Dec.{leb, eqb}
 use Rattle.rules.specs.Lists.{total, every}
 use Rattle.rules.specs.Operations.{Op}
 use Rattle.rules.specs.Record.{Record, Block, differences, cut, immediates, codesNumber}
+use Rattle.rules.specs.Refusals.{no-slot₈, slot-taken₉, bad-padding₁₀, bad-structure₁₅, bad-commitment₁₆}
 
 -- ---- structure
 
@@ -32,8 +33,8 @@ recordRight w r =
 -- "ninth starts sum to the operations lent": a fault there has the place after the last batch, "the batch total if only the sum is wrong"
 unfoldable pub structureFaults : ℕ → Block → List ℕ
 structureFaults w b =
-    map (λ (r : Record). cond (recordRight w r) 0 15) (b .records) ++
-    (cond (eqb (total (map ninth (b .records))) (length (b .ops))) 0 15 ∷ [])
+    map (λ (r : Record). cond (recordRight w r) 0 bad-structure₁₅) (b .records) ++
+    (cond (eqb (total (map ninth (b .records))) (length (b .ops))) 0 bad-structure₁₅ ∷ [])
 
 -- ---- padding and commitment look at each batch with its operations
 
@@ -64,7 +65,7 @@ paddingRight [] (f ∷ fs) = eqb f 0 && paddingRight [] fs
 paddingRight (g ∷ gs) (f ∷ fs) = cond (eqb f 0) true (endsInNoop g) && paddingRight gs fs
 
 unfoldable pub paddingFault : Held → ℕ
-paddingFault h = cond (paddingRight (underCount h) (h .batch .flags)) 0 10
+paddingFault h = cond (paddingRight (underCount h) (h .batch .flags)) 0 bad-padding₁₀
 
 unfoldable pub paddingFaults : Block → List ℕ
 paddingFaults b = map paddingFault (held b)
@@ -75,9 +76,9 @@ paddingFaults b = map paddingFault (held b)
 -- count here and those under 8 where a batch is decoded
 unfoldable pub placingFault : ℕ → List (List Op) → ℕ
 placingFault zero gs = 0
-placingFault (suc k) [] = 8
+placingFault (suc k) [] = no-slot₈
 placingFault (suc k) ([] ∷ gs) = placingFault k gs
-placingFault (suc k) ((x ∷ xs) ∷ gs) = 9
+placingFault (suc k) ((x ∷ xs) ∷ gs) = slot-taken₉
 
 -- whether a list begins with another
 unfoldable pub begins : List ℕ → List ℕ → Bool
@@ -98,9 +99,9 @@ groupsFault t (g ∷ gs) [] = 0
 groupsFault t ([] ∷ gs) (n ∷ ns) = groupsFault t gs ns
 groupsFault t ((x ∷ xs) ∷ gs) (n ∷ ns) =
     let vs = immediates t (x ∷ xs) in
-    orElse (cond (eqb n (codesNumber (x ∷ xs))) 0 16)
+    orElse (cond (eqb n (codesNumber (x ∷ xs))) 0 bad-commitment₁₆)
     (orElse (placingFault (length vs) gs)
-    (orElse (cond (begins ns vs) 0 16)
+    (orElse (cond (begins ns vs) 0 bad-commitment₁₆)
     (groupsFault t gs ns)))
 
 -- "every empty group under the count without an immediate is 0": the next k empty groups hold the immediates of the group before them, and a group with
@@ -114,7 +115,7 @@ emptyZero t k ((x ∷ xs) ∷ gs) (n ∷ ns) = emptyZero t (length (immediates t
 
 -- "last in each batch, every empty group under the count without an immediate is 0"
 unfoldable pub commitmentFault : List ℕ → Held → ℕ
-commitmentFault t h = orElse (groupsFault t (underCount h) (h .batch .numbers)) (cond (emptyZero t 0 (underCount h) (h .batch .numbers)) 0 16)
+commitmentFault t h = orElse (groupsFault t (underCount h) (h .batch .numbers)) (cond (emptyZero t 0 (underCount h) (h .batch .numbers)) 0 bad-commitment₁₆)
 
 unfoldable pub commitmentFaults : List ℕ → Block → List ℕ
 commitmentFaults t b = map (commitmentFault t) (held b)

@@ -7,14 +7,14 @@ use mathlib.Core.Option.{Option, none, some}
 use Prim.Native.Nat.{ℕ, _+_, _*_}
 use lib.ListN.{length, replicate}
 use Rattle.rules.specs.Lists.{butLast}
-use Rattle.rules.specs.Answer.{Answer, good, refused, Read, found}
+use Rattle.rules.specs.Answer.{Answer, good, refused, Read, found, itemOf}
 use Rattle.rules.specs.Operations.{Op, codes, values, kindOf, admissible}
 use Rattle.rules.specs.Batching.{target}
-use Rattle.rules.specs.Record.{Record, Block, recordsBytes}
+use Rattle.rules.specs.Record.{Record, Block, recordsBytes, noBlock}
 use Rattle.rules.specs.Bytes.{countAt, countBytes}
 use Rattle.rules.specs.Block.{Room, Head}
 use Rattle.rules.specs.Lookups.{Place, nextGroup, rawAt, paddedAt, paddedIndex, rawIndex}
-use Rattle.rules.specs.Functions.{Arena, arena, blockIn, roomIn, filled, built, blockLeft, encoded, written, decoded, readLeft, Totals, totals, lengthTold, used, countHere, opHere, headed, structureChecked, paddingChecked, commitmentChecked, rawTabled, paddedTabled, tableLeft, groupLookup, nextLookup}
+use Rattle.rules.specs.Functions.{Arena, arena, blockIn, roomIn, filled, built, encoded, written, decoded, Totals, totals, lengthTold, used, countHere, opHere, headed, structureChecked, paddingChecked, commitmentChecked, rawTabled, paddedTabled, tableLeft, groupLookup, nextLookup, leaves}
 use Rattle.rules.specs.Open.{document}
 
 -- "Table T: opcodes 0 and 2 kind 0, opcode 1 kind 1, opcode 3 kind 2, the rest 3."
@@ -531,14 +531,14 @@ pub record OfOutputs : Type 0 where
   pub room-for-two : roomIn (arena [] [] (zeros 164)) ≡ room 0 0 2
   pub room-for-none : roomIn (arena [] [] (zeros 81)) ≡ room 0 0 0
   -- content, then zeros; bytes left over are zeroed too
-  pub build-leaves : filled (arena (replicate 3 7) (replicate 4 7) (replicate 85 7)) (blockLeft (build (op 1 5 ∷ []))) ≡ arena (1 ∷ 0 ∷ 0 ∷ []) (5 ∷ 0 ∷ 0 ∷ 0 ∷ []) (p1record ++ zeros 3)
-  pub build-refused : filled (arena (replicate 3 7) (replicate 4 7) (replicate 85 7)) (blockLeft (build (op 4 0 ∷ []))) ≡ arena (zeros 3) (zeros 4) (zeros 85)
-  pub decode-leaves : filled (arena (replicate 3 7) (replicate 4 7) (replicate 85 7)) (readLeft (read p2 0)) ≡ arena (1 ∷ 0 ∷ 0 ∷ []) (5 ∷ 0 ∷ 0 ∷ 0 ∷ []) (p1record ++ zeros 3)
-  pub decode-refused : filled (arena (replicate 3 7) (replicate 4 7) (replicate 85 7)) (readLeft (read p2 1)) ≡ arena (zeros 3) (zeros 4) (zeros 85)
+  pub build-leaves : filled (arena (replicate 3 7) (replicate 4 7) (replicate 85 7)) (leaves noBlock (build (op 1 5 ∷ []))) ≡ arena (1 ∷ 0 ∷ 0 ∷ []) (5 ∷ 0 ∷ 0 ∷ 0 ∷ []) (p1record ++ zeros 3)
+  pub build-refused : filled (arena (replicate 3 7) (replicate 4 7) (replicate 85 7)) (leaves noBlock (build (op 4 0 ∷ []))) ≡ arena (zeros 3) (zeros 4) (zeros 85)
+  pub decode-leaves : filled (arena (replicate 3 7) (replicate 4 7) (replicate 85 7)) (leaves noBlock (itemOf (read p2 0))) ≡ arena (1 ∷ 0 ∷ 0 ∷ []) (5 ∷ 0 ∷ 0 ∷ 0 ∷ []) (p1record ++ zeros 3)
+  pub decode-refused : filled (arena (replicate 3 7) (replicate 4 7) (replicate 85 7)) (leaves noBlock (itemOf (read p2 1))) ≡ arena (zeros 3) (zeros 4) (zeros 85)
   pub table-leaves : tableLeft (replicate 4 7) (rawTabled 8 (lent p1) 4) ≡ 0 ∷ 1 ∷ 0 ∷ 0 ∷ []
   pub table-refused : tableLeft (7 ∷ []) (rawTabled 8 (lent p1) 1) ≡ 0 ∷ []
   -- the lengths and totals of a reply, 0 where it refuses
-  pub totals-told : (totals (blockLeft (build (pushes 8))) ≡ told 2 10) × (totals (blockLeft (build [])) ≡ told 0 0)
+  pub totals-told : (totals (leaves noBlock (build (pushes 8))) ≡ told 2 10) × (totals (leaves noBlock (build [])) ≡ told 0 0)
   pub length-told : (lengthTold (write p1) ≡ 20) × (lengthTold (encoded 8 tableT (lent p1) 19 0) ≡ 0)
   pub bytes-used : (used 2 (read ((7 ∷ 7 ∷ []) ++ (p2 ++ (7 ∷ []))) 2) ≡ 20) × (used 2 (read p2 2) ≡ 0)
   -- encode writes only the block's bytes, and none where it refuses

@@ -8,9 +8,10 @@ use lib.Dec.{leb, ltb, eqb}
 use lib.Seq.{sets}
 use Rattle.rules.specs.Lists.{fitted}
 use Rattle.rules.specs.Answer.{Answer, good, refused, Read, refuse, refuseFirst}
+use Rattle.rules.specs.Refusals.{past-end₁, over-limit₃, empty-list₁₂, no-room₁₃, bad-table₁₄, bad-structure₁₅}
 use Rattle.rules.specs.Operations.{Op, operations, codes, values, goodTable, opFault}
 use Rattle.rules.specs.Batching.{batchesOf}
-use Rattle.rules.specs.Record.{Record, Block, blockOf, noBlock, recordSize, recordsBytes, recordsIn}
+use Rattle.rules.specs.Record.{Record, Block, blockOf, recordSize, recordsBytes, recordsIn}
 use Rattle.rules.specs.Bytes.{countAt, opAt}
 use Rattle.rules.specs.Block.{Room, Head, blockBytes, headAt, blockAt}
 use Rattle.rules.specs.Checks.{recordRight, structureFaults, paddingFaults, commitmentFaults}
@@ -60,51 +61,43 @@ unfoldable pub built : ℕ → List ℕ → List ℕ → List ℕ → Room → A
 built w t cs vs room =
     let xs = operations cs vs in
     let b = blockOf (batchesOf w t xs) in
-    refuse (not (eqb (length cs) (length vs)) || ltb 16384 (length cs)) 3 0
-    (refuse (not (goodTable t)) 14 0
-    (refuse (eqb (length cs) 0) 12 0
+    refuse (not (eqb (length cs) (length vs)) || ltb 16384 (length cs)) over-limit₃ 0
+    (refuse (not (goodTable t)) bad-table₁₄ 0
+    (refuse (eqb (length cs) 0) empty-list₁₂ 0
     (refuseFirst 0 (map (opFault t) xs)
-    (refuse (not (roomFor b room)) 13 0
+    (refuse (not (roomFor b room)) no-room₁₃ 0
     (good b)))))
 
--- "Build, tables and decode zero all lent outputs on refusal": a refused answer leaves an empty block
-abbrev pub blockLeft : Answer Block → Block
-blockLeft (good b) = b
-blockLeft (refused n p) = noBlock
+-- "Build, tables and decode zero all lent outputs on refusal": what an answer leaves, where a refused one leaves what is empty
+abbrev pub leaves : {A : Type 0} → A → Answer A → A
+leaves empty (good a) = a
+leaves empty (refused n p) = empty
 
 -- ---- encode: "3, 14, 1, 15, 4, 13"; the block's bytes, for a buffer of this size from a place on
 
 unfoldable pub encoded : ℕ → List ℕ → Arena → ℕ → ℕ → Answer (List ℕ)
 encoded w t a size at =
     let b = blockIn a in
-    refuse (not (within a) || ltb 1048576 size) 3 0
-    (refuse (not (goodTable t)) 14 0
-    (refuse (ltb size at) 1 0
+    refuse (not (within a) || ltb 1048576 size) over-limit₃ 0
+    (refuse (not (goodTable t)) bad-table₁₄ 0
+    (refuse (ltb size at) past-end₁ 0
     (refuseFirst 0 (structureFaults w b)
     (refuseFirst 0 (map (opFault t) (b .ops))
-    (refuse (ltb size (at + length (blockBytes t b))) 13 0
+    (refuse (ltb size (at + length (blockBytes t b))) no-room₁₃ 0
     (good (blockBytes t b)))))))
 
 -- "Encode writes only the block's bytes"; a refused one writes none
-abbrev pub bytesLeft : Answer (List ℕ) → List ℕ
-bytesLeft (good bytes) = bytes
-bytesLeft (refused n p) = []
-
 unfoldable pub written : List ℕ → ℕ → Answer (List ℕ) → List ℕ
-written out at d = sets out at (bytesLeft d)
+written out at d = sets out at (leaves [] d)
 
 -- ---- decode: "3 (buffer), 14, 1, then count .."
 
 unfoldable pub decoded : ℕ → List ℕ → List ℕ → ℕ → Room → Read Block
 decoded w t s at room =
-    refuse (ltb 1048576 (length s)) 3 0
-    (refuse (not (goodTable t)) 14 0
-    (refuse (ltb (length s) at) 1 0
+    refuse (ltb 1048576 (length s)) over-limit₃ 0
+    (refuse (not (goodTable t)) bad-table₁₄ 0
+    (refuse (ltb (length s) at) past-end₁ 0
     (blockAt w t s at room)))
-
-abbrev pub readLeft : Read Block → Block
-readLeft (good b) = b .item
-readLeft (refused n p) = noBlock
 
 -- ---- what a reply tells: "A refusal replies with every length and total 0", as these are those of what is left
 
@@ -118,7 +111,7 @@ totals b = record { batches = length (b .records); operations = length (b .ops) 
 
 -- how many bytes encode wrote, or entries a table has
 abbrev pub lengthTold : Answer (List ℕ) → ℕ
-lengthTold d = length (bytesLeft d)
+lengthTold d = length (leaves [] d)
 
 -- decode, from a place on: "the reply says how many were used"
 abbrev pub used : ℕ → Read Block → ℕ
@@ -129,15 +122,15 @@ used at (refused n p) = 0
 
 unfoldable pub countHere : List ℕ → ℕ → Read ℕ
 countHere s at =
-    refuse (ltb 1048576 (length s)) 3 0
-    (refuse (ltb (length s) at) 1 0
+    refuse (ltb 1048576 (length s)) over-limit₃ 0
+    (refuse (ltb (length s) at) past-end₁ 0
     (countAt s at))
 
 unfoldable pub opHere : List ℕ → List ℕ → ℕ → ℕ → Read Op
 opHere t s at i =
-    refuse (ltb 1048576 (length s)) 3 0
-    (refuse (not (goodTable t)) 14 0
-    (refuse (ltb (length s) at) 1 0
+    refuse (ltb 1048576 (length s)) over-limit₃ 0
+    (refuse (not (goodTable t)) bad-table₁₄ 0
+    (refuse (ltb (length s) at) past-end₁ 0
     (opAt t s at i)))
 
 -- ---- how much a block needs: decode's first refusals and items 1 to 3, with room for 65,535 operations and 16,384 batches; no block has more, so that 13
@@ -148,30 +141,30 @@ most = record { codes = 65535; values = 65535; records = 16384 }
 
 unfoldable pub headed : List ℕ → List ℕ → ℕ → Read Head
 headed t s at =
-    refuse (ltb 1048576 (length s)) 3 0
-    (refuse (not (goodTable t)) 14 0
-    (refuse (ltb (length s) at) 1 0
+    refuse (ltb 1048576 (length s)) over-limit₃ 0
+    (refuse (not (goodTable t)) bad-table₁₄ 0
+    (refuse (ltb (length s) at) past-end₁ 0
     (headAt t s at most)))
 
 -- ---- checks: "structure 3, 15; padding 3, 15, 10; commitment 3, 14, 15, 4, then batch by batch the first fault"
 
 unfoldable pub structureChecked : ℕ → Arena → Answer Unit
 structureChecked w a =
-    refuse (not (within a)) 3 0
+    refuse (not (within a)) over-limit₃ 0
     (refuseFirst 0 (structureFaults w (blockIn a))
     (good tt))
 
 unfoldable pub paddingChecked : ℕ → Arena → Answer Unit
 paddingChecked w a =
-    refuse (not (within a)) 3 0
+    refuse (not (within a)) over-limit₃ 0
     (refuseFirst 0 (structureFaults w (blockIn a))
     (refuseFirst 0 (paddingFaults (blockIn a))
     (good tt)))
 
 unfoldable pub commitmentChecked : ℕ → List ℕ → Arena → Answer Unit
 commitmentChecked w t a =
-    refuse (not (within a)) 3 0
-    (refuse (not (goodTable t)) 14 0
+    refuse (not (within a)) over-limit₃ 0
+    (refuse (not (goodTable t)) bad-table₁₄ 0
     (refuseFirst 0 (structureFaults w (blockIn a))
     (refuseFirst 0 (map (opFault t) (blockIn a .ops))
     (refuseFirst 0 (commitmentFaults t (blockIn a))
@@ -182,10 +175,10 @@ commitmentChecked w t a =
 unfoldable pub tableOf : (Block → List ℕ) → ℕ → Arena → ℕ → Answer (List ℕ)
 tableOf table w a room =
     let b = blockIn a in
-    refuse (not (within a)) 3 0
+    refuse (not (within a)) over-limit₃ 0
     (refuseFirst 0 (structureFaults w b)
     (refuseFirst 0 (paddingFaults b)
-    (refuse (ltb room (length (table b))) 13 0
+    (refuse (ltb room (length (table b))) no-room₁₃ 0
     (good (table b)))))
 
 abbrev pub rawTabled : ℕ → Arena → ℕ → Answer (List ℕ)
@@ -196,12 +189,12 @@ paddedTabled = tableOf paddedTable
 
 -- content, then zeros; no content where refused
 unfoldable pub tableLeft : List ℕ → Answer (List ℕ) → List ℕ
-tableLeft out d = fitted (length out) (bytesLeft d)
+tableLeft out d = fitted (length out) (leaves [] d)
 
 -- ---- lookups in one batch: "refuse a record that fails structure with 15, place 0, its own ninth start taken as the operations lent"
 
 unfoldable pub groupLookup : ℕ → Record → ℕ → Answer (Option Place)
-groupLookup w r i = refuse (not (recordRight w r)) 15 0 (good (groupOf r i))
+groupLookup w r i = refuse (not (recordRight w r)) bad-structure₁₅ 0 (good (groupOf r i))
 
 unfoldable pub nextLookup : ℕ → Record → ℕ → Answer (Option ℕ)
-nextLookup w r g = refuse (not (recordRight w r)) 15 0 (good (nextGroup r g))
+nextLookup w r g = refuse (not (recordRight w r)) bad-structure₁₅ 0 (good (nextGroup r g))

@@ -1,6 +1,7 @@
 pub mod Lists
 pub mod Digits
 pub mod Answer
+pub mod Refusals
 pub mod Operations
 pub mod Batching
 pub mod Record

@@ -5,6 +5,7 @@ use Prim.Native.Nat.{ℕ}
 use lib.ListN.{length, getD}
 use lib.Dec.{leb, ltb, eqb}
 use Rattle.rules.specs.Lists.{every}
+use Rattle.rules.specs.Refusals.{inadmissible₄}
 
 -- "An operation is an opcode 0..127 and a value"
 pub record Op : Type 0 where
@@ -59,4 +60,4 @@ admissible t x = assigned t (x .code) && valueRight t x
 
 -- 4, "operation not admissible"
 unfoldable pub opFault : List ℕ → Op → ℕ
-opFault t x = cond (admissible t x) 0 4
+opFault t x = cond (admissible t x) 0 inadmissible₄

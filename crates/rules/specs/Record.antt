@@ -1,9 +1,10 @@
 -- What a batch records (document 01, "Batching (000)"), a block's operations, and how records lie in a lent run of bytes.
+use mathlib.Core.Path.{_≡_}
 use mathlib.Core.Bool.{cond}
 use mathlib.Core.List.{List, [], _∷_, _++_, map}
 use Prim.Native.Nat.{ℕ, zero, suc, _+_, _-_, _*_, _/_}
 use lib.ListN.{length, getD, take, drop}
-use Rattle.rules.specs.Lists.{fitted}
+use Rattle.rules.specs.Lists.{fitted, inRow}
 use Rattle.rules.specs.Digits.{number, leBytes, leAt}
 use Rattle.rules.specs.Operations.{Op, codes, hasImmediate}
 use Rattle.rules.specs.Batching.{Group, ops, imm}
@@ -14,6 +15,12 @@ pub record Record : Type 0 where
   pub flags : List ℕ
   pub numbers : List ℕ
   pub count : ℕ
+
+-- so many of each
+pub record NineAndEight (r : Record) : Type 0 where
+  pub starts : length (r .starts) ≡ 9
+  pub flags : length (r .flags) ≡ 8
+  pub numbers : length (r .numbers) ≡ 8
 
 -- "Group i is operations start i up to start i+1, counted within the batch": the starts of groups of these sizes, the first at n, and the end
 unfoldable pub startsFrom : ℕ → List ℕ → List ℕ
@@ -77,13 +84,11 @@ pub record Block : Type 0 where
   pub records : List Record
 
 -- the operations of a batch, and of all: "All batches' padded operations lie one after another."
-unfoldable pub opsOf : List Group → List Op
-opsOf [] = []
-opsOf (g ∷ gs) = opsIn g ++ opsOf gs
+abbrev pub opsOf : List Group → List Op
+opsOf = inRow opsIn
 
-unfoldable pub paddedOf : List (List Group) → List Op
-paddedOf [] = []
-paddedOf (gs ∷ bs) = opsOf gs ++ paddedOf bs
+abbrev pub paddedOf : List (List Group) → List Op
+paddedOf = inRow opsOf
 
 unfoldable pub blockOf : List (List Group) → Block
 blockOf bs = record { ops = paddedOf bs; records = map recordOf bs }
@@ -96,16 +101,14 @@ noBlock = record { ops = []; records = [] }
 abbrev pub recordSize : ℕ
 recordSize = 82
 
-unfoldable pub wordBytes : List ℕ → List ℕ
-wordBytes [] = []
-wordBytes (n ∷ ns) = leBytes 8 n ++ wordBytes ns
+abbrev pub wordBytes : List ℕ → List ℕ
+wordBytes = inRow (leBytes 8)
 
 unfoldable pub recordBytes : Record → List ℕ
 recordBytes r = r .starts ++ (r .flags ++ (wordBytes (r .numbers) ++ (r .count ∷ [])))
 
-unfoldable pub recordsBytes : List Record → List ℕ
-recordsBytes [] = []
-recordsBytes (r ∷ rs) = recordBytes r ++ recordsBytes rs
+abbrev pub recordsBytes : List Record → List ℕ
+recordsBytes = inRow recordBytes
 
 -- k bytes of s from a place on, and k numbers of eight bytes
 unfoldable pub bytesAt : ℕ → List ℕ → ℕ → List ℕ

@@ -7,11 +7,11 @@ use native.Mathlib.Omega.{arith}
 use borrow.Author.Tests.{le-leb}
 use lib.ListN.{length, take, drop}
 use lib.Seq.{sets, length-sets, sets-eq, length-take-le}
-use Rattle.rules.specs.Answer.{Answer, good, Read, found}
+use Rattle.rules.specs.Answer.{Answer, good, Read, found, itemOf}
 use Rattle.rules.specs.Operations.{Op, operations, codes, values}
-use Rattle.rules.specs.Record.{Block}
+use Rattle.rules.specs.Record.{Block, noBlock, recordSize}
 use Rattle.rules.specs.Block.{Room, blockBytes}
-use Rattle.rules.specs.Functions.{Arena, blockIn, roomFor, roomIn, filled, built, blockLeft, encoded, written, decoded, readLeft}
+use Rattle.rules.specs.Functions.{Arena, blockIn, roomFor, roomIn, filled, built, encoded, written, decoded, leaves}
 use Rattle.claims.specs.Demand3.{Premises, Demand3, lent}
 use Rattle.claims.proofs.Right.{width-8}
 use Rattle.claims.proofs.Arena.{block-in}
@@ -26,7 +26,7 @@ use Rattle.encoder.specs.Replies.{Encodes, encodedOf}
 use Rattle.decoder.specs.declared.Decoded.{Decoded}
 use Rattle.decoder.specs.declared.Decoded.the-variants as decoding
 use Rattle.decoder.specs.Replies.{Decodes, decodedOf}
-use Rattle.decoder.proofs.Ops.{codes-operations, values-operations}
+use Rattle.unpacker.proofs.Operations.{codes-operations, values-operations}
 use Rattle.tight.specs.Contracts.{cutAt, Holds, size, FromDecode, FromBuild, blockFor, Contracts}
 
 -- runs that hold a block's totals have room for it
@@ -36,7 +36,7 @@ roomy b a h =
     rw (
       le-leb (length (b .ops)) (length (a .codes)) (h .codes),
       le-leb (length (b .ops)) (length (a .values)) (h .values),
-      le-leb (length (b .records)) (length (a .records) / 82) (omega (arith, h .records)),
+      le-leb (length (b .records)) (length (a .records) / recordSize) (omega (arith, h .records)),
     )
 
 module _ (t : List ℕ) (xs : List Op) (h : Premises t xs) where
@@ -88,7 +88,7 @@ module _ (t : List ℕ) (xs : List Op) (h : Premises t xs) where
       let w = reads at buffer (roomIn out) l r k in
       let u : at + length bytes - at ≡ length bytes = omega arith in (
         e .reply ∙ (ap (decodedOf at) w ∙ ap (decoding.Made (length (block .records)) (length (block .ops))) u),
-        ap cutBlock (e .runs ∙ ap (λ (i : Read Block). filled out (readLeft i)) w) ∙ cut-filled out k,
+        ap cutBlock (e .runs ∙ ap (λ (i : Read Block). filled out (leaves noBlock (itemOf i))) w) ∙ cut-filled out k,
       )
 
   -- ---- one after the other, from runs that are the block's
@@ -124,7 +124,7 @@ module _ (t : List ℕ) (xs : List Op) (h : Premises t xs) where
   builds r before after k o =
       let room = roomy block before k in
       let w = facts .builds (roomIn before) room in
-      returns-from r after (o .reply ∙ ap builtOf w) (ap cutBlock (o .runs ∙ ap (λ (i : Answer Block). filled before (blockLeft i)) w) ∙ cut-filled before room)
+      returns-from r after (o .reply ∙ ap builtOf w) (ap cutBlock (o .runs ∙ ap (λ (i : Answer Block). filled before (leaves noBlock i)) w) ∙ cut-filled before room)
 
   enough : (before : Arena) → Holds 16384 65535 before → Holds (length (block .records)) (length (block .ops)) before
   enough before k =

@@ -4,13 +4,6 @@ use borrow.Author.Needs.{needs}
 use lib.Seq.{length-take-le}
 use Rattle.batch.proofs.batch_text.Statement.{statement}
 use Rattle.batch.proofs.batch_text.Tie as tie
-use Rattle.batch.proofs.batch_text.Reads as reads
-use Rattle.batch.proofs.batch_text.Lts as lts
-use Rattle.batch.proofs.batch.Reads as batch-reads
-use Rattle.batch.proofs.codes_room.Reads as codes-room-reads
-use Rattle.batch.proofs.read.Reads as read-reads
-use Rattle.batch.proofs.tell_refusal.Reads as tell-refusal-reads
-use Rattle.batch.proofs.values_room.Reads as values-room-reads
 
 codes-room-requires : tie.Need-codes-room-requires
 codes-room-requires c κs = search needs

@@ -4,10 +4,6 @@ use borrow.Author.Needs.{needs}
 use lib.Seq.{length-take-le}
 use Rattle.batch.proofs.lend.Statement.{statement}
 use Rattle.batch.proofs.lend.Tie as tie
-use Rattle.batch.proofs.lend.Reads as reads
-use Rattle.batch.proofs.lend.Lts as lts
-use Rattle.batch.proofs.refuse.Reads as refuse-reads
-use Rattle.batch.proofs.write.Reads as write-reads
 
 refuse-requires : tie.Need-refuse-requires
 refuse-requires c κs = search needs

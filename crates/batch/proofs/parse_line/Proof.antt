@@ -4,10 +4,6 @@ use borrow.Author.Needs.{needs}
 use lib.Seq.{length-take-le}
 use Rattle.batch.proofs.parse_line.Statement.{statement}
 use Rattle.batch.proofs.parse_line.Tie as tie
-use Rattle.batch.proofs.parse_line.Reads as reads
-use Rattle.batch.proofs.parse_line.Lts as lts
-use Rattle.batch.proofs.parse.Reads as parse-reads
-use Rattle.text.proofs.words_end.Reads as words-end-reads
 
 words-end-requires : tie.Need-words-end-requires
 words-end-requires c κs = search needs

@@ -4,10 +4,6 @@ use borrow.Author.Needs.{needs}
 use lib.ListN.{length}
 use Rattle.batch.proofs.print_hex.Statement.{statement}
 use Rattle.batch.proofs.print_hex.Tie as tie
-use Rattle.batch.proofs.print_hex.Reads as reads
-use Rattle.batch.proofs.print_hex.Lts as lts
-use Rattle.batch.proofs.print_end.Reads as print-end-reads
-use Rattle.console.proofs.hex.Reads as hex-reads
 
 abbrev Inv-loop : tie.InvT-loop
 Inv-loop page₀ bytes i₀ page i = (i ≤ length bytes) × (length page ≡ length page₀)

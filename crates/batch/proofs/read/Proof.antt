@@ -4,12 +4,6 @@ use borrow.Author.Needs.{needs}
 use lib.ListN.{length}
 use Rattle.batch.proofs.read.Statement.{statement}
 use Rattle.batch.proofs.read.Tie as tie
-use Rattle.batch.proofs.read.Reads as reads
-use Rattle.batch.proofs.read.Lts as lts
-use Rattle.batch.proofs.complain_line.Reads as complain-line-reads
-use Rattle.batch.proofs.parse_line.Reads as parse-line-reads
-use Rattle.batch.proofs.take.Reads as take-reads
-use Rattle.text.proofs.line_end.Reads as line-end-reads
 
 abbrev Inv-loop : tie.InvT-loop
 Inv-loop name s codes₀ values₀ count₀ from₀ n₀ codes values count from n = (count ≤ length codes) × (from ≤ length s) × (n ≤ from) × (length codes ≡ length codes₀) × (length values ≡ length values₀)

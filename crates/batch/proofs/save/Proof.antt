@@ -4,13 +4,6 @@ use borrow.Author.Needs.{needs}
 use lib.Seq.{length-take-le}
 use Rattle.batch.proofs.save.Statement.{statement}
 use Rattle.batch.proofs.save.Tie as tie
-use Rattle.batch.proofs.save.Reads as reads
-use Rattle.batch.proofs.save.Lts as lts
-use Rattle.batch.proofs.replace.Reads as replace-reads
-use Rattle.batch.proofs.replaceable.Reads as replaceable-reads
-use Rattle.console.proofs.copy.Reads as copy-reads
-use Rattle.console.proofs.wrong.Reads as wrong-reads
-use Rattle.io.proofs.large_buffer.Reads as large-buffer-reads
 
 replaceable-requires : tie.Need-replaceable-requires
 replaceable-requires c κs = search needs

@@ -4,13 +4,6 @@ use borrow.Author.Needs.{needs}
 use lib.Seq.{length-take-le}
 use Rattle.batch.proofs.write.Statement.{statement}
 use Rattle.batch.proofs.write.Tie as tie
-use Rattle.batch.proofs.write.Reads as reads
-use Rattle.batch.proofs.write.Lts as lts
-use Rattle.batch.proofs.answer.Reads as answer-reads
-use Rattle.batch.proofs.not_written.Reads as not-written-reads
-use Rattle.batch.proofs.refuse.Reads as refuse-reads
-use Rattle.encoder.proofs.encode.Reads as encode-reads
-use Rattle.vm.proofs.table.Reads as table-reads
 
 table-requires : tie.Need-table-requires
 table-requires c κs = search needs

@@ -6,22 +6,23 @@ use lib.ListN.{length}
 use Rattle.rules.specs.Functions.{arena}
 use Rattle.rules.proofs.Operations.{admitted}
 use Rattle.batcher.specs.Going.{Going}
+use Rattle.accumulator.proofs.Good.{good-wider}
 use Rattle.batcher.proofs.Held.{going-start, going-good, going-turn, going-here, going-back, going-lengths, going-end, going-fault}
 use Rattle.batcher.proofs.batch_ops.Statement.{statement}
 use Rattle.batcher.proofs.batch_ops.Tie as tie
 
 abbrev Inv-loop : tie.InvT-loop
-Inv-loop table codes values out-codes₀ out-values₀ records₀ w₀ i₀ out-codes out-values records w i =
-    (i ≤ length codes) × Going (arena out-codes₀ out-values₀ records₀) table codes values i w (arena out-codes out-values records)
+Inv-loop width table codes values out-codes₀ out-values₀ records₀ work₀ i₀ out-codes out-values records work i =
+    (i ≤ length codes) × Going width (arena out-codes₀ out-values₀ records₀) table codes values i work (arena out-codes out-values records)
 
 abbrev μ-loop : tie.MeasureT-loop
-μ-loop table codes values out-codes₀ out-values₀ records₀ w₀ i₀ out-codes out-values records w i = length codes - i
+μ-loop width table codes values out-codes₀ out-values₀ records₀ work₀ i₀ out-codes out-values records work i = length codes - i
 
 new-requires : tie.Need-new-requires Inv-loop μ-loop
 new-requires c κs = search needs
 
 loop-holds : tie.Need-loop-holds Inv-loop μ-loop
-loop-holds c = rw (c .new .ensures) (omega arith, going-start _ _ _ _ (c .before .before .before .before .before .before .before .pre .1))
+loop-holds c = rw (c .new .ensures) (omega arith, going-start _ (c .before .before .before .before .before .before .before .pre .0 .3) _ _ _ _ (c .before .before .before .before .before .before .before .pre .1))
 
 shared-slice-read-code : tie.Need-shared-slice-read-code Inv-loop μ-loop
 shared-slice-read-code c = search needs
@@ -56,7 +57,7 @@ shared-slice-read-kind c = omega (arith, c .before .before .before .before .befo
 step-requires : tie.Need-step-requires Inv-loop μ-loop
 step-requires c κs =
     let g = c .before .before .before .before .before .before .before .before .before .loop .inv .1 in
-    (going-good g, (omega (arith, g .base, c .before .before .before .before .before .before .before .before .before .before .before .before .before .before .before .before .before .pre .0), omega (arith, g .batches, c .before .before .before .before .before .before .before .before .before .before .before .before .before .before .before .before .before .pre .0), admitted _ _ (sym (c .before .before .before .before .before .fault .ensures) ∙ c .before .before .before .before .if1 .left) .code))
+    ((c .before .before .before .before .before .before .before .before .before .before .before .before .before .before .before .before .before .pre .0 .3, c .before .before .before .before .before .before .before .before .before .before .before .before .before .before .before .before .before .pre .0 .4, going-good g), (omega (arith, g .base, c .before .before .before .before .before .before .before .before .before .before .before .before .before .before .before .before .before .pre .0), omega (arith, g .batches, c .before .before .before .before .before .before .before .before .before .before .before .before .before .before .before .before .before .pre .0), admitted _ _ (sym (c .before .before .before .before .before .fault .ensures) ∙ c .before .before .before .before .if1 .left) .code))
 
 add-join-ops : tie.Need-add-join-ops Inv-loop μ-loop
 add-join-ops c = omega (arith, c .before .before .before .before .before .before .before .before .before .before .before .before .before .before .before .loop-test .taken, c .before .before .before .before .before .before .before .before .before .before .before .before .before .before .before .before .before .before .before .before .before .before .before .before .pre .0)
@@ -65,7 +66,7 @@ join-ops-requires : tie.Need-join-ops-requires Inv-loop μ-loop
 join-ops-requires c κs =
     let p = c .before .before .before .before .before .before .before .before .before .before .before .before .before .before .before .before .before .before .before .before .before .before .before .before .before .before .before .pre .0 in
     let e = c .before .before .before .before .before .before .before .before .before .step .ensures in
-    ((p .0, p .1, p .2, omega arith), going-here (going-turn (c .before .before .before .before .before .before .before .before .before .before .before .before .before .before .before .before .before .before .before .loop .inv .1) (c .before .before .before .before .before .before .before .before .before .before .before .before .before .before .before .before .before .before .loop-test .taken) (omega arith) (p .0) (sym (c .before .before .before .before .before .before .before .before .before .before .before .before .before .before .before .fault .ensures) ∙ c .before .before .before .before .before .before .before .before .before .before .before .before .before .before .if1 .left) (e .0) (λ j. arena (e .1 .0 j) (e .1 .1 .0 j) (e .1 .1 .1 j))))
+    ((p .0, p .1, p .2, omega arith, p .3, p .4), going-here (going-turn (c .before .before .before .before .before .before .before .before .before .before .before .before .before .before .before .before .before .before .before .loop .inv .1) (p .3) (p .4) (c .before .before .before .before .before .before .before .before .before .before .before .before .before .before .before .before .before .before .loop-test .taken) (omega arith) (p .0) (sym (c .before .before .before .before .before .before .before .before .before .before .before .before .before .before .before .fault .ensures) ∙ c .before .before .before .before .before .before .before .before .before .before .before .before .before .before .if1 .left) (e .0) (λ j. arena (e .1 .0 j) (e .1 .1 .0 j) (e .1 .1 .1 j))))
 
 loop-less : tie.Need-loop-less Inv-loop μ-loop
 loop-less c = omega (arith, c .before .before .before .before .before .before .before .join-ops .ensures .0, c .before .before .before .before .before .before .before .before .before .before .before .before .before .before .before .before .before .before .before .before .before .before .before .before .before .before .loop-test .taken)
@@ -75,13 +76,13 @@ loop-again c =
     let p = c .before .before .before .before .before .before .before .before .before .before .before .before .before .before .before .before .before .before .before .before .before .before .before .before .before .before .before .before .before .before .before .before .before .before .before .pre .0 in
     let e = c .before .before .before .before .before .before .before .before .before .before .before .before .before .before .before .before .before .step .ensures in
     let j = c .before .before .before .before .before .before .before .join-ops .ensures in
-    (j .0 .1, going-back (going-turn (c .before .before .before .before .before .before .before .before .before .before .before .before .before .before .before .before .before .before .before .before .before .before .before .before .before .before .before .loop .inv .1) (c .before .before .before .before .before .before .before .before .before .before .before .before .before .before .before .before .before .before .before .before .before .before .before .before .before .before .loop-test .taken) (omega arith) (p .0) (sym (c .before .before .before .before .before .before .before .before .before .before .before .before .before .before .before .before .before .before .before .before .before .before .before .fault .ensures) ∙ c .before .before .before .before .before .before .before .before .before .before .before .before .before .before .before .before .before .before .before .before .before .before .if1 .left) (e .0) (λ j. arena (e .1 .0 j) (e .1 .1 .0 j) (e .1 .1 .1 j))) (j .1))
+    (j .0 .1, going-back (going-turn (c .before .before .before .before .before .before .before .before .before .before .before .before .before .before .before .before .before .before .before .before .before .before .before .before .before .before .before .loop .inv .1) (p .3) (p .4) (c .before .before .before .before .before .before .before .before .before .before .before .before .before .before .before .before .before .before .before .before .before .before .before .before .before .before .loop-test .taken) (omega arith) (p .0) (sym (c .before .before .before .before .before .before .before .before .before .before .before .before .before .before .before .before .before .before .before .before .before .before .before .fault .ensures) ∙ c .before .before .before .before .before .before .before .before .before .before .before .before .before .before .before .before .before .before .before .before .before .before .if1 .left) (e .0) (λ j. arena (e .1 .0 j) (e .1 .1 .0 j) (e .1 .1 .1 j))) (j .1))
 
 end-batch-requires : tie.Need-end-batch-requires Inv-loop μ-loop
 end-batch-requires c κs =
     let l = c .before .before .loop in
     let g = l .inv .1 in
-    (going-good g, (omega (arith, l .inv .0, g .base, c .before .before .before .before .before .before .before .before .before .before .pre .0), omega (arith, l .inv .0, g .batches, c .before .before .before .before .before .before .before .before .before .before .pre .0)))
+    (good-wider _ (c .before .before .before .before .before .before .before .before .before .before .pre .0 .4) (going-good g), (omega (arith, l .inv .0, g .base, c .before .before .before .before .before .before .before .before .before .before .pre .0), omega (arith, l .inv .0, g .batches, c .before .before .before .before .before .before .before .before .before .before .pre .0)))
 
 same-length-4 : tie.Need-same-length-4 Inv-loop μ-loop
 same-length-4 c = going-lengths (c .before .before .before .before .before .loop .inv .1) .0
@@ -96,7 +97,7 @@ returns-2 : tie.Need-returns-2 Inv-loop μ-loop
 returns-2 c =
     let l = c .before .before .before .before .before .loop in
     let e = c .before .before .end-batch .ensures in
-    going-end (l .inv .1) (c .before .before .before .before .loop-test .left) (e .0) (λ j. arena (l .out-codes) (l .out-values) (e .1 j))
+    going-end (l .inv .1) (c .before .before .before .before .before .before .before .before .before .before .before .before .before .pre .0 .3) (c .before .before .before .before .before .before .before .before .before .before .before .before .before .pre .0 .4) (c .before .before .before .before .loop-test .left) (e .0) (λ j. arena (l .out-codes) (l .out-values) (e .1 j))
 
 pub batch-ops-spec : {M : Type 1} → statement M
 batch-ops-spec =

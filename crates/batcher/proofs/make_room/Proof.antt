@@ -1,6 +1,7 @@
 use mathlib.Core.Path.{_≡_, sym, _∙_}
 use mathlib.Core.Bool.{true, false}
-use Rattle.batcher.specs.Model.{fitsIn, roomWork, roomRun}
+use Rattle.accumulator.specs.Model.{fitsIn}
+use Rattle.batcher.specs.Model.{roomWork, roomRun}
 use borrow.Author.Needs.{needs}
 use Rattle.batcher.proofs.make_room.Statement.{statement}
 use Rattle.batcher.proofs.make_room.Tie as tie
@@ -12,7 +13,7 @@ returns : tie.Need-returns
 unfolding roomWork roomRun
 returns c =
     let a = c .before .before .before .before .args in
-    let p : fitsIn (a .imm) (a .w .acc) ≡ true = sym (c .before .can-accept-op .ensures) ∙ c .if1 .taken in
+    let p : fitsIn (a .width) (a .imm) (a .work .acc) ≡ true = sym (c .before .can-accept-op .ensures) ∙ c .if1 .taken in
     (rw p, rw p)
 
 end-batch-requires : tie.Need-end-batch-requires
@@ -25,7 +26,7 @@ returns-2 : tie.Need-returns-2
 unfolding roomWork roomRun
 returns-2 c =
     let a = c .before .before .before .before .before .before .before .before .args in
-    let p : fitsIn (a .imm) (a .w .acc) ≡ false = sym (c .before .before .before .before .before .can-accept-op .ensures) ∙ c .before .before .before .before .if1 .left in
+    let p : fitsIn (a .width) (a .imm) (a .work .acc) ≡ false = sym (c .before .before .before .before .before .can-accept-op .ensures) ∙ c .before .before .before .before .if1 .left in
     rw p (c .before .before .end-batch .ensures)
 
 pub make-room-spec : {M : Type 1} → statement M

@@ -8,11 +8,11 @@ use Rattle.build.proofs.check_input.Tie as tie
 
 returns : tie.Need-returns
 unfolding built
-returns c = record { fit = tt; decides = λ room. simp (ne-eqb _ _ (c .if1 .taken)) }
+returns c = record { fit = tt; decides = λ w room. simp (ne-eqb _ _ (c .if1 .taken)) }
 
 returns-2 : tie.Need-returns-2
 unfolding built
-returns-2 c = record { fit = tt; decides = λ room. simp (eq-eqb _ _ (c .before .if1 .left), lt-ltb _ _ (c .if2 .taken)) }
+returns-2 c = record { fit = tt; decides = λ w room. simp (eq-eqb _ _ (c .before .if1 .left), lt-ltb _ _ (c .if2 .taken)) }
 
 good-table-requires : tie.Need-good-table-requires
 good-table-requires c κs = search needs
@@ -20,12 +20,12 @@ good-table-requires c κs = search needs
 returns-3 : tie.Need-returns-3
 unfolding built
 returns-3 c =
-    record { fit = tt; decides = λ room. simp (eq-eqb _ _ (c .before .before .before .if1 .left), le-ltb _ _ (c .before .before .if2 .left), sym (c .before .good-table .ensures) ∙ not-true _ (c .if3 .taken)) }
+    record { fit = tt; decides = λ w room. simp (eq-eqb _ _ (c .before .before .before .if1 .left), le-ltb _ _ (c .before .before .if2 .left), sym (c .before .good-table .ensures) ∙ not-true _ (c .if3 .taken)) }
 
 returns-4 : tie.Need-returns-4
 unfolding built
 returns-4 c =
-    record { fit = tt; decides = λ room. simp (eq-eqb _ _ (c .before .before .before .before .if1 .left), le-ltb _ _ (c .before .before .before .if2 .left), sym (c .before .before .good-table .ensures) ∙ not-false _ (c .before .if3 .left), eq-eqb _ _ (c .if4 .taken)) }
+    record { fit = tt; decides = λ w room. simp (eq-eqb _ _ (c .before .before .before .before .if1 .left), le-ltb _ _ (c .before .before .before .if2 .left), sym (c .before .before .good-table .ensures) ∙ not-false _ (c .before .if3 .left), eq-eqb _ _ (c .if4 .taken)) }
 
 returns-5 : tie.Need-returns-5
 unfolding built
@@ -34,7 +34,7 @@ returns-5 c =
     let e = c .before .before .before .before .if1 .left in
     record {
       fit = (table-128 _ t, c .before .before .before .if2 .left, sym e);
-      decides = λ room. simp (eq-eqb _ _ e, le-ltb _ _ (c .before .before .before .if2 .left), t, ne-eqb _ _ (c .if4 .left));
+      decides = λ w room. simp (eq-eqb _ _ e, le-ltb _ _ (c .before .before .before .if2 .left), t, ne-eqb _ _ (c .if4 .left));
     }
 
 pub check-input-spec : {M : Type 1} → statement M

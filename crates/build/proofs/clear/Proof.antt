@@ -1,9 +1,10 @@
 use Rattle.rules.specs.Operations.{codes, values}
-use Rattle.rules.specs.Record.{noBlock, recordsBytes}
+use Rattle.rules.specs.Record.{noBlock}
 use Rattle.rules.specs.Functions.{arena, filled}
 use borrow.Author.Needs.{needs}
 use Rattle.build.proofs.clear.Statement.{statement}
 use Rattle.build.proofs.clear.Tie as tie
+use Rattle.rules.specs.Lists.{inRow}
 
 zero-bytes-requires : tie.Need-zero-bytes-requires
 zero-bytes-requires c κs = search needs
@@ -24,7 +25,7 @@ same-length-3 : tie.Need-same-length-3
 same-length-3 c = search needs
 
 returns : tie.Need-returns
-unfolding filled noBlock codes values recordsBytes
+unfolding filled noBlock codes values inRow
 returns c = λ j. arena (c .before .before .before .before .before .before .before .before .before .before .zero-bytes .ensures j) (c .before .before .before .before .before .before .zero-words .ensures j) (c .before .before .zero-bytes2 .ensures j)
 
 pub clear-spec : {M : Type 1} → statement M

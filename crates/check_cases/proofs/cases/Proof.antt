@@ -4,10 +4,6 @@ use borrow.Author.Needs.{needs}
 use lib.ListN.{length}
 use Rattle.check_cases.proofs.cases.Statement.{statement}
 use Rattle.check_cases.proofs.cases.Tie as tie
-use Rattle.check_cases.proofs.cases.Reads as reads
-use Rattle.check_cases.proofs.cases.Lts as lts
-use Rattle.check_cases.proofs.case.Reads as case-reads
-use Rattle.check_cases.proofs.number.Reads as number-reads
 
 abbrev Inv-loop : tie.InvT-loop
 Inv-loop s table₀ codes₀ values₀ runs₀ n at₀ i₀ table codes values runs at i =

@@ -4,9 +4,6 @@ use borrow.Author.Needs.{needs}
 use lib.Seq.{length-take-le}
 use Rattle.check_cases.proofs.lend.Statement.{statement}
 use Rattle.check_cases.proofs.lend.Tie as tie
-use Rattle.check_cases.proofs.lend.Reads as reads
-use Rattle.check_cases.proofs.lend.Lts as lts
-use Rattle.check_cases.proofs.run.Reads as run-reads
 
 slice-aggregate-run : tie.Need-slice-aggregate-run
 slice-aggregate-run c = sym (length-take-le _ _ (omega arith))

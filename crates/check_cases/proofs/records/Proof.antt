@@ -4,13 +4,6 @@ use borrow.Author.Needs.{needs}
 use lib.ListN.{length}
 use Rattle.check_cases.proofs.records.Statement.{statement}
 use Rattle.check_cases.proofs.records.Tie as tie
-use Rattle.check_cases.proofs.records.Reads as reads
-use Rattle.check_cases.proofs.records.Lts as lts
-use Rattle.check_cases.proofs.flags.Reads as flags-reads
-use Rattle.check_cases.proofs.number.Reads as number-reads
-use Rattle.check_cases.proofs.numbers.Reads as numbers-reads
-use Rattle.check_cases.proofs.starts.Reads as starts-reads
-use Rattle.op_batch.proofs.set_count.Reads as set-count-reads
 
 abbrev Inv-loop : tie.InvT-loop
 Inv-loop s from k out₀ at₀ b₀ out at b = (b ≤ k) × (at ≤ length s) × (length out ≡ length out₀)

@@ -4,16 +4,6 @@ use borrow.Author.Needs.{needs}
 use lib.Seq.{length-take-le}
 use Rattle.check_cases.proofs.run.Statement.{statement}
 use Rattle.check_cases.proofs.run.Tie as tie
-use Rattle.check_cases.proofs.run.Reads as reads
-use Rattle.check_cases.proofs.run.Lts as lts
-use Rattle.check_cases.proofs.indexes.Reads as indexes-reads
-use Rattle.check_cases.proofs.lookups.Reads as lookups-reads
-use Rattle.check_cases.proofs.most.Reads as most-reads
-use Rattle.check_cases.proofs.show_verdict.Reads as show-verdict-reads
-use Rattle.check_cases.proofs.tables.Reads as tables-reads
-use Rattle.commitment.proofs.commitment.Reads as commitment-reads
-use Rattle.checks.proofs.padding.Reads as padding-reads
-use Rattle.checks.proofs.structure.Reads as structure-reads
 
 structure-requires : tie.Need-structure-requires
 structure-requires c κs = search needs

@@ -3,9 +3,6 @@ use borrow.Author.Needs.{needs}
 use lib.ListN.{length}
 use Rattle.check_cases.proofs.show_entries.Statement.{statement}
 use Rattle.check_cases.proofs.show_entries.Tie as tie
-use Rattle.check_cases.proofs.show_entries.Reads as reads
-use Rattle.check_cases.proofs.show_entries.Lts as lts
-use Rattle.check_cases.proofs.show.Reads as show-reads
 
 abbrev Inv-loop : tie.InvT-loop
 Inv-loop out i₀ i = i ≤ length out

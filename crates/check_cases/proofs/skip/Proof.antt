@@ -3,9 +3,6 @@ use borrow.Author.Needs.{needs}
 use lib.ListN.{length}
 use Rattle.check_cases.proofs.skip.Statement.{statement}
 use Rattle.check_cases.proofs.skip.Tie as tie
-use Rattle.check_cases.proofs.skip.Reads as reads
-use Rattle.check_cases.proofs.skip.Lts as lts
-use Rattle.text.proofs.starts_number.Reads as starts-number-reads
 
 abbrev Inv-loop : tie.InvT-loop
 Inv-loop s from at₀ at = at ≤ length s

@@ -4,10 +4,6 @@ use borrow.Author.Needs.{needs}
 use lib.ListN.{length}
 use Rattle.check_cases.proofs.starts.Statement.{statement}
 use Rattle.check_cases.proofs.starts.Tie as tie
-use Rattle.check_cases.proofs.starts.Reads as reads
-use Rattle.check_cases.proofs.starts.Lts as lts
-use Rattle.check_cases.proofs.number.Reads as number-reads
-use Rattle.op_batch.proofs.set_start.Reads as set-start-reads
 
 abbrev Inv-loop : tie.InvT-loop
 Inv-loop s from b out₀ at₀ g₀ out at g = (g ≤ 9) × (at ≤ length s) × (length out ≡ length out₀)

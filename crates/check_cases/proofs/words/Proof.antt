@@ -4,10 +4,6 @@ use borrow.Author.Needs.{needs}
 use lib.ListN.{length}
 use Rattle.check_cases.proofs.words.Statement.{statement}
 use Rattle.check_cases.proofs.words.Tie as tie
-use Rattle.check_cases.proofs.words.Reads as reads
-use Rattle.check_cases.proofs.words.Lts as lts
-use Rattle.check_cases.proofs.number.Reads as number-reads
-use Rattle.word.proofs.store64.Reads as store64-reads
 
 abbrev Inv-loop : tie.InvT-loop
 Inv-loop s from n out₀ at₀ i₀ out at i = (i ≤ n) × (at ≤ length s) × (length out ≡ length out₀)

@@ -11,12 +11,6 @@ use Rattle.checks.proofs.Groups.{Lying, lying, bounds}
 use Rattle.checks.proofs.Flags.{padLeft, plain, over, empty, other, noop, no-flags, faulty, faultless}
 use Rattle.checks.proofs.batch_padding.Statement.{statement}
 use Rattle.checks.proofs.batch_padding.Tie as tie
-use Rattle.checks.proofs.batch_padding.Reads as reads
-use Rattle.checks.proofs.batch_padding.Lts as lts
-use Rattle.op_batch.proofs.count.Reads as count-reads
-use Rattle.op_batch.proofs.flag.Reads as flag-reads
-use Rattle.op_batch.proofs.flags.Reads as flags-reads
-use Rattle.op_batch.proofs.start.Reads as start-reads
 
 abbrev Inv-loop : tie.InvT-loop
 Inv-loop codes values records b from count left₀ g₀ left g =

@@ -8,10 +8,6 @@ use native.Mathlib.Omega.{arith}
 use borrow.Author.Needs.{needs}
 use Rattle.checks.proofs.padding.Statement.{statement}
 use Rattle.checks.proofs.padding.Tie as tie
-use Rattle.checks.proofs.padding.Reads as reads
-use Rattle.checks.proofs.padding.Lts as lts
-use Rattle.checks.proofs.padding_fault.Reads as padding-fault-reads
-use Rattle.checks.proofs.structure.Reads as structure-reads
 
 structure-requires : tie.Need-structure-requires
 structure-requires c κs = search needs

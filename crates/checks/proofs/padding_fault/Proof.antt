@@ -10,10 +10,6 @@ use Rattle.operation.specs.Verdict.{verdictOf}
 use Rattle.checks.proofs.Batches.{rest, rest-turn, rest-all, lies, faultFrom, turn, stop, done, begin}
 use Rattle.checks.proofs.padding_fault.Statement.{statement}
 use Rattle.checks.proofs.padding_fault.Tie as tie
-use Rattle.checks.proofs.padding_fault.Reads as reads
-use Rattle.checks.proofs.padding_fault.Lts as lts
-use Rattle.checks.proofs.batch_padding.Reads as batch-padding-reads
-use Rattle.op_batch.proofs.start.Reads as start-reads
 
 abbrev Inv-loop : tie.InvT-loop
 Inv-loop codes values records n from₀ b₀ from b =

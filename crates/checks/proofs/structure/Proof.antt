@@ -6,10 +6,6 @@ use Rattle.rules.specs.Functions.{structureChecked}
 use Rattle.checks.proofs.Walk.{equal-lengths}
 use Rattle.checks.proofs.structure.Statement.{statement}
 use Rattle.checks.proofs.structure.Tie as tie
-use Rattle.checks.proofs.structure.Reads as reads
-use Rattle.checks.proofs.structure.Lts as lts
-use Rattle.checks.proofs.structure_fault.Reads as structure-fault-reads
-use Rattle.checks.proofs.within.Reads as within-reads
 
 within-requires : tie.Need-within-requires
 within-requires c κs = search needs

@@ -10,10 +10,6 @@ use Rattle.op_batch.proofs.Right.{sound, starts-length, ninth-small}
 use Rattle.checks.proofs.Walk.{left, start, turn, stop, short, done}
 use Rattle.checks.proofs.structure_fault.Statement.{statement}
 use Rattle.checks.proofs.structure_fault.Tie as tie
-use Rattle.checks.proofs.structure_fault.Reads as reads
-use Rattle.checks.proofs.structure_fault.Lts as lts
-use Rattle.op_batch.proofs.record_right.Reads as record-right-reads
-use Rattle.op_batch.proofs.start.Reads as start-reads
 
 abbrev Inv-loop : tie.InvT-loop
 Inv-loop width codes values records n sum₀ b₀ sum b =

@@ -2,8 +2,6 @@ use borrow.Author.Tests.{le-leb, lt-leb, eq-eqb, ne-eqb}
 use Rattle.rules.specs.Functions.{within}
 use Rattle.checks.proofs.within.Statement.{statement}
 use Rattle.checks.proofs.within.Tie as tie
-use Rattle.checks.proofs.within.Reads as reads
-use Rattle.checks.proofs.within.Lts as lts
 
 returns : tie.Need-returns
 unfolding within

@@ -12,10 +12,6 @@ use Prim.Native.Nat.{ℕ, _+_, _-_, _/_}
 use mathlib.Core.Path.{_≡_, refl, sym, _∙_}
 use Rattle.commitment.proofs.all_right.Statement.{statement}
 use Rattle.commitment.proofs.all_right.Tie as tie
-use Rattle.commitment.proofs.all_right.Reads as reads
-use Rattle.commitment.proofs.all_right.Lts as lts
-use Rattle.commitment.proofs.batch_right.Reads as batch-right-reads
-use Rattle.op_batch.proofs.start.Reads as start-reads
 
 abbrev Inv-loop : tie.InvT-loop
 Inv-loop table codes values records n from₀ b₀ from b =

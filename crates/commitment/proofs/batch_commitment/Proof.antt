@@ -4,10 +4,6 @@ use Rattle.rules.specs.Checks.{commitmentFault}
 use Rattle.commitment.proofs.Numbers.{first-fault}
 use Rattle.commitment.proofs.batch_commitment.Statement.{statement}
 use Rattle.commitment.proofs.batch_commitment.Tie as tie
-use Rattle.commitment.proofs.batch_commitment.Reads as reads
-use Rattle.commitment.proofs.batch_commitment.Lts as lts
-use Rattle.commitment.proofs.empty_zero.Reads as empty-zero-reads
-use Rattle.commitment.proofs.groups_fault.Reads as groups-fault-reads
 
 groups-fault-requires : tie.Need-groups-fault-requires
 groups-fault-requires c κs = search needs

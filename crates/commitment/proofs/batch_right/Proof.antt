@@ -8,12 +8,6 @@ use Rattle.checks.proofs.Groups.{Lying, lying, within-codes, bounds}
 use Rattle.commitment.proofs.Owed.{Gone, gone-first, gone-held, gone-free, gone-full, gone-all}
 use Rattle.commitment.proofs.batch_right.Statement.{statement}
 use Rattle.commitment.proofs.batch_right.Tie as tie
-use Rattle.commitment.proofs.batch_right.Reads as reads
-use Rattle.commitment.proofs.batch_right.Lts as lts
-use Rattle.commitment.proofs.walk_group.Reads as walk-group-reads
-use Rattle.op_batch.proofs.count.Reads as count-reads
-use Rattle.op_batch.proofs.number.Reads as number-reads
-use Rattle.op_batch.proofs.start.Reads as start-reads
 
 abbrev Inv-loop : tie.InvT-loop
 Inv-loop table codes values records b from count held₀ g₀ held g =

@@ -10,14 +10,6 @@ use native.Mathlib.Omega.{arith}
 use borrow.Author.Needs.{needs}
 use Rattle.commitment.proofs.commitment.Statement.{statement}
 use Rattle.commitment.proofs.commitment.Tie as tie
-use Rattle.commitment.proofs.commitment.Reads as reads
-use Rattle.commitment.proofs.commitment.Lts as lts
-use Rattle.commitment.proofs.all_right.Reads as all-right-reads
-use Rattle.commitment.proofs.commitment_fault.Reads as commitment-fault-reads
-use Rattle.checks.proofs.structure_fault.Reads as structure-fault-reads
-use Rattle.checks.proofs.within.Reads as within-reads
-use Rattle.operation.proofs.first_fault.Reads as first-fault-reads
-use Rattle.operation.proofs.good_table.Reads as good-table-reads
 
 within-requires : tie.Need-within-requires
 within-requires c κs = search needs

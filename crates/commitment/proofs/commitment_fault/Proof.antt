@@ -10,10 +10,6 @@ use Rattle.operation.specs.Verdict.{verdictOf}
 use Rattle.checks.proofs.Batches.{rest, rest-turn, rest-all, lies, faultFrom, turn, stop, done, begin}
 use Rattle.commitment.proofs.commitment_fault.Statement.{statement}
 use Rattle.commitment.proofs.commitment_fault.Tie as tie
-use Rattle.commitment.proofs.commitment_fault.Reads as reads
-use Rattle.commitment.proofs.commitment_fault.Lts as lts
-use Rattle.commitment.proofs.batch_commitment.Reads as batch-commitment-reads
-use Rattle.op_batch.proofs.start.Reads as start-reads
 
 abbrev Inv-loop : tie.InvT-loop
 Inv-loop table codes values records n from₀ b₀ from b =

@@ -10,9 +10,6 @@ use Rattle.checks.specs.Batch.{span}
 use Rattle.commitment.proofs.Numbers.{placed-turn, plain-turn, immediates-none}
 use Rattle.commitment.proofs.count_immediates.Statement.{statement}
 use Rattle.commitment.proofs.count_immediates.Tie as tie
-use Rattle.commitment.proofs.count_immediates.Reads as reads
-use Rattle.commitment.proofs.count_immediates.Lts as lts
-use Rattle.commitment.proofs.placed.Reads as placed-reads
 
 abbrev Inv-loop : tie.InvT-loop
 Inv-loop table codes values from to n₀ i₀ n i =

@@ -9,12 +9,6 @@ use Rattle.checks.proofs.Groups.{Lying, lying, within-codes, bounds}
 use Rattle.commitment.proofs.Numbers.{emptyLeft, empty-begin, empty-done, empty-skip, empty-held, empty-right, empty-wrong}
 use Rattle.commitment.proofs.empty_zero.Statement.{statement}
 use Rattle.commitment.proofs.empty_zero.Tie as tie
-use Rattle.commitment.proofs.empty_zero.Reads as reads
-use Rattle.commitment.proofs.empty_zero.Lts as lts
-use Rattle.commitment.proofs.count_immediates.Reads as count-immediates-reads
-use Rattle.op_batch.proofs.count.Reads as count-reads
-use Rattle.op_batch.proofs.number.Reads as number-reads
-use Rattle.op_batch.proofs.start.Reads as start-reads
 
 abbrev Inv-loop : tie.InvT-loop
 Inv-loop table codes values records b from count held₀ g₀ held g =

@@ -11,15 +11,6 @@ use Rattle.checks.proofs.Groups.{Lying, lying, within-codes, bounds}
 use Rattle.commitment.proofs.Numbers.{lent-right, groupsLeft, groups-begin, groups-done, group-skip, group-wrong, group-unplaced, group-unequal, group-right}
 use Rattle.commitment.proofs.groups_fault.Statement.{statement}
 use Rattle.commitment.proofs.groups_fault.Tie as tie
-use Rattle.commitment.proofs.groups_fault.Reads as reads
-use Rattle.commitment.proofs.groups_fault.Lts as lts
-use Rattle.commitment.proofs.count_immediates.Reads as count-immediates-reads
-use Rattle.commitment.proofs.placing_fault.Reads as placing-fault-reads
-use Rattle.commitment.proofs.values_right.Reads as values-right-reads
-use Rattle.op_batch.proofs.count.Reads as count-reads
-use Rattle.op_batch.proofs.group_number.Reads as group-number-reads
-use Rattle.op_batch.proofs.number.Reads as number-reads
-use Rattle.op_batch.proofs.start.Reads as start-reads
 
 abbrev Inv-loop : tie.InvT-loop
 Inv-loop table codes values records b from count g₀ g =

@@ -3,8 +3,6 @@ use borrow.Author.Needs.{needs}
 use Rattle.rules.proofs.Operations.{kind-at}
 use Rattle.commitment.proofs.placed.Statement.{statement}
 use Rattle.commitment.proofs.placed.Tie as tie
-use Rattle.commitment.proofs.placed.Reads as reads
-use Rattle.commitment.proofs.placed.Lts as lts
 
 shared-slice-read-result : tie.Need-shared-slice-read-result
 shared-slice-read-result c = search needs

@@ -10,10 +10,6 @@ use Rattle.checks.proofs.Groups.{Lying, lying}
 use Rattle.commitment.proofs.Numbers.{no-slot, slot-taken, slot-free, slots-done}
 use Rattle.commitment.proofs.placing_fault.Statement.{statement}
 use Rattle.commitment.proofs.placing_fault.Tie as tie
-use Rattle.commitment.proofs.placing_fault.Reads as reads
-use Rattle.commitment.proofs.placing_fault.Lts as lts
-use Rattle.op_batch.proofs.count.Reads as count-reads
-use Rattle.op_batch.proofs.start.Reads as start-reads
 
 abbrev Inv-loop : tie.InvT-loop
 Inv-loop codes values records b from g n count left₀ j₀ left j =

@@ -5,9 +5,6 @@ use mathlib.Core.Path.{sym, _∙_}
 use borrow.Author.Needs.{needs}
 use Rattle.commitment.proofs.slot_after.Statement.{statement}
 use Rattle.commitment.proofs.slot_after.Tie as tie
-use Rattle.commitment.proofs.slot_after.Reads as reads
-use Rattle.commitment.proofs.slot_after.Lts as lts
-use Rattle.op_batch.proofs.number.Reads as number-reads
 
 returns : tie.Need-returns
 unfolding slotAfter

@@ -12,10 +12,6 @@ use Rattle.checks.specs.Batch.{span}
 use Rattle.commitment.proofs.Numbers.{placed-turn, plain-turn, immediates-none, past, differs, agrees, all-agree}
 use Rattle.commitment.proofs.values_right.Statement.{statement}
 use Rattle.commitment.proofs.values_right.Tie as tie
-use Rattle.commitment.proofs.values_right.Reads as reads
-use Rattle.commitment.proofs.values_right.Lts as lts
-use Rattle.commitment.proofs.placed.Reads as placed-reads
-use Rattle.op_batch.proofs.number.Reads as number-reads
 
 abbrev Inv-loop : tie.InvT-loop
 Inv-loop table codes values records b g from to j₀ i₀ j i =

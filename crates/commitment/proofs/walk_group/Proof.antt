@@ -10,10 +10,6 @@ use Prim.Native.Nat.{ℕ, _+_, _-_, _*_, _^_, _≤_, _<_}
 use mathlib.Core.Path.{_≡_, refl, sym, ap, _∙_}
 use Rattle.commitment.proofs.walk_group.Statement.{statement}
 use Rattle.commitment.proofs.walk_group.Tie as tie
-use Rattle.commitment.proofs.walk_group.Reads as reads
-use Rattle.commitment.proofs.walk_group.Lts as lts
-use Rattle.commitment.proofs.slot_after.Reads as slot-after-reads
-use Rattle.word.proofs.wide.Reads as wide-reads
 
 abbrev Inv-loop : tie.InvT-loop
 Inv-loop table codes values records b g from to number₀ place₀ next₀ i₀ number place next i =

@@ -4,9 +4,6 @@ use borrow.Author.Needs.{needs}
 use lib.ListN.{length}
 use Rattle.console.proofs.copy.Statement.{statement}
 use Rattle.console.proofs.copy.Tie as tie
-use Rattle.console.proofs.copy.Reads as reads
-use Rattle.console.proofs.copy.Lts as lts
-use Rattle.word.proofs.store8.Reads as store8-reads
 
 abbrev Inv-loop : tie.InvT-loop
 Inv-loop page₀ at text to₀ i₀ page to i = (to ≤ 65536) × (i ≤ length text) × (length page ≡ length page₀)

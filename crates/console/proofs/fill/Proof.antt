@@ -6,9 +6,6 @@ use lib.ListN.{length}
 use lib.Seq.{length-take-le}
 use Rattle.console.proofs.fill.Statement.{statement}
 use Rattle.console.proofs.fill.Tie as tie
-use Rattle.console.proofs.fill.Reads as reads
-use Rattle.console.proofs.fill.Lts as lts
-use Rattle.console.proofs.once.Reads as once-reads
 
 abbrev Inv-loop : tie.InvT-loop
 Inv-loop fd room₀ n₀ room n = (n ≤ length room) × (length room ≡ length room₀)

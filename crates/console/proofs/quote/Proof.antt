@@ -4,10 +4,6 @@ use borrow.Author.Needs.{needs}
 use lib.ListN.{length}
 use Rattle.console.proofs.quote.Statement.{statement}
 use Rattle.console.proofs.quote.Tie as tie
-use Rattle.console.proofs.quote.Reads as reads
-use Rattle.console.proofs.quote.Lts as lts
-use Rattle.console.proofs.printable.Reads as printable-reads
-use Rattle.console.proofs.say.Reads as say-reads
 
 abbrev Inv-loop : tie.InvT-loop
 Inv-loop page₀ text most i₀ t5 page i = (i ≤ length text) × (length page ≡ length page₀)

@@ -4,10 +4,6 @@ use borrow.Author.Needs.{needs}
 use lib.Seq.{length-take-le}
 use Rattle.console.proofs.write.Statement.{statement}
 use Rattle.console.proofs.write.Tie as tie
-use Rattle.console.proofs.write.Reads as reads
-use Rattle.console.proofs.write.Lts as lts
-use Rattle.console.proofs.target.Reads as target-reads
-use Rattle.io.proofs.write_all.Reads as write-all-reads
 
 target-requires : tie.Need-target-requires
 target-requires c κs = search needs

@@ -7,10 +7,6 @@ use mathlib.Core.Path.{ap, _∙_}
 use borrow.Author.Needs.{needs}
 use Rattle.crossing.proofs.bytes_out.Statement.{statement}
 use Rattle.crossing.proofs.bytes_out.Tie as tie
-use Rattle.crossing.proofs.bytes_out.Reads as reads
-use Rattle.crossing.proofs.bytes_out.Lts as lts
-use Rattle.crossing.proofs.put_words.Reads as put-words-reads
-use Rattle.word.proofs.zero_bytes.Reads as zero-bytes-reads
 
 put-words-requires : tie.Need-put-words-requires
 put-words-requires c κs = search needs

@@ -4,8 +4,6 @@ use borrow.Author.Tests.{eq-eqb, ne-eqb}
 use Prim.Native.Nat.{_%_}
 use Rattle.crossing.proofs.few_words.Statement.{statement}
 use Rattle.crossing.proofs.few_words.Tie as tie
-use Rattle.crossing.proofs.few_words.Reads as reads
-use Rattle.crossing.proofs.few_words.Lts as lts
 
 returns : tie.Need-returns
 unfolding fewWords

@@ -4,8 +4,6 @@ use borrow.Author.Tests.{eq-eqb, ne-eqb}
 use Prim.Native.Nat.{_%_}
 use Rattle.crossing.proofs.has_word.Statement.{statement}
 use Rattle.crossing.proofs.has_word.Tie as tie
-use Rattle.crossing.proofs.has_word.Reads as reads
-use Rattle.crossing.proofs.has_word.Lts as lts
 
 returns : tie.Need-returns
 unfolding hasWord

@@ -9,9 +9,6 @@ use borrow.Author.Needs.{needs}
 use mathlib.Core.Path.{_≡_, refl, sym, ap, _∙_}
 use Rattle.crossing.proofs.put_words.Statement.{statement}
 use Rattle.crossing.proofs.put_words.Tie as tie
-use Rattle.crossing.proofs.put_words.Reads as reads
-use Rattle.crossing.proofs.put_words.Lts as lts
-use Rattle.word.proofs.put8.Reads as put8-reads
 
 abbrev Inv-loop : tie.InvT-loop
 Inv-loop words out₀ i₀ out i = (length out ≡ length out₀) × (sets out (8 * i) (wordBytes (drop i words)) ≡ sets out₀ 0 (wordBytes words))

@@ -8,9 +8,6 @@ use Rattle.crossing.specs.Words.{wordsIn}
 use Rattle.crossing.proofs.Copies.{left, in-start, in-turn, in-end, front-in}
 use Rattle.crossing.proofs.read_words.Statement.{statement}
 use Rattle.crossing.proofs.read_words.Tie as tie
-use Rattle.crossing.proofs.read_words.Reads as reads
-use Rattle.crossing.proofs.read_words.Lts as lts
-use Rattle.word.proofs.le8.Reads as le8-reads
 
 abbrev Inv-loop : tie.InvT-loop
 Inv-loop s work₀ n i₀ work i = (n ≡ length s / 8) × (length work ≡ length work₀) × (sets work i (left s i) ≡ sets work₀ 0 (wordsIn s))

@@ -4,11 +4,6 @@ use mathlib.Core.Path.{_∙_}
 use borrow.Author.Needs.{needs}
 use Rattle.exports.proofs.build_through.Statement.{statement}
 use Rattle.exports.proofs.build_through.Tie as tie
-use Rattle.exports.proofs.build_through.Reads as reads
-use Rattle.exports.proofs.build_through.Lts as lts
-use Rattle.crossing.proofs.bytes_out.Reads as bytes-out-reads
-use Rattle.crossing.proofs.read_words.Reads as read-words-reads
-use Rattle.exports.proofs.oli_build.Reads as oli-build-reads
 
 read-words-requires : tie.Need-read-words-requires
 read-words-requires c κs = search needs

@@ -2,9 +2,6 @@ use Rattle.exports.proofs.Builds.{cleared}
 use borrow.Author.Needs.{needs}
 use Rattle.exports.proofs.clear.Statement.{statement}
 use Rattle.exports.proofs.clear.Tie as tie
-use Rattle.exports.proofs.clear.Reads as reads
-use Rattle.exports.proofs.clear.Lts as lts
-use Rattle.word.proofs.zero_bytes.Reads as zero-bytes-reads
 
 zero-bytes-requires : tie.Need-zero-bytes-requires
 zero-bytes-requires c κs = search needs

@@ -4,10 +4,6 @@ use native.Mathlib.Omega.{arith}
 use borrow.Author.Needs.{needs}
 use Rattle.exports.proofs.commitment_large.Statement.{statement}
 use Rattle.exports.proofs.commitment_large.Tie as tie
-use Rattle.exports.proofs.commitment_large.Reads as reads
-use Rattle.exports.proofs.commitment_large.Lts as lts
-use Rattle.crossing.proofs.room.Reads as room-reads
-use Rattle.exports.proofs.commitment_through.Reads as commitment-through-reads
 
 room-requires : tie.Need-room-requires
 room-requires c κs = search needs

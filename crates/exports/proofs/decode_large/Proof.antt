@@ -4,11 +4,6 @@ use native.Mathlib.Omega.{arith}
 use borrow.Author.Needs.{needs}
 use Rattle.exports.proofs.decode_large.Statement.{statement}
 use Rattle.exports.proofs.decode_large.Tie as tie
-use Rattle.exports.proofs.decode_large.Reads as reads
-use Rattle.exports.proofs.decode_large.Lts as lts
-use Rattle.crossing.proofs.lent.Reads as lent-reads
-use Rattle.crossing.proofs.room.Reads as room-reads
-use Rattle.exports.proofs.decode_through.Reads as decode-through-reads
 
 lent-requires : tie.Need-lent-requires
 lent-requires c κs = search needs

@@ -2,10 +2,6 @@ use Rattle.exports.proofs.Rooms.{reads-out}
 use borrow.Author.Needs.{needs}
 use Rattle.exports.proofs.decode_through.Statement.{statement}
 use Rattle.exports.proofs.decode_through.Tie as tie
-use Rattle.exports.proofs.decode_through.Reads as reads
-use Rattle.exports.proofs.decode_through.Lts as lts
-use Rattle.crossing.proofs.bytes_out.Reads as bytes-out-reads
-use Rattle.exports.proofs.oli_decode.Reads as oli-decode-reads
 
 oli-decode-requires : tie.Need-oli-decode-requires
 oli-decode-requires c κs = search needs

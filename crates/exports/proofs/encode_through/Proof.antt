@@ -3,10 +3,6 @@ use mathlib.Core.Path.{_∙_}
 use borrow.Author.Needs.{needs}
 use Rattle.exports.proofs.encode_through.Statement.{statement}
 use Rattle.exports.proofs.encode_through.Tie as tie
-use Rattle.exports.proofs.encode_through.Reads as reads
-use Rattle.exports.proofs.encode_through.Lts as lts
-use Rattle.crossing.proofs.read_words.Reads as read-words-reads
-use Rattle.exports.proofs.oli_encode.Reads as oli-encode-reads
 
 read-words-requires : tie.Need-read-words-requires
 read-words-requires c κs = search needs

@@ -3,8 +3,6 @@ use Rattle.exports.specs.Flat.{flatBuilt}
 use borrow.Author.Needs.{needs}
 use Rattle.exports.proofs.flat_built.Statement.{statement}
 use Rattle.exports.proofs.flat_built.Tie as tie
-use Rattle.exports.proofs.flat_built.Reads as reads
-use Rattle.exports.proofs.flat_built.Lts as lts
 
 enum-known-r : tie.Need-enum-known-r
 enum-known-r c = search needs

@@ -3,8 +3,6 @@ use Rattle.exports.specs.Flat.{flatDecoded}
 use borrow.Author.Needs.{needs}
 use Rattle.exports.proofs.flat_decoded.Statement.{statement}
 use Rattle.exports.proofs.flat_decoded.Tie as tie
-use Rattle.exports.proofs.flat_decoded.Reads as reads
-use Rattle.exports.proofs.flat_decoded.Lts as lts
 
 enum-known-r : tie.Need-enum-known-r
 enum-known-r c = search needs

@@ -3,8 +3,6 @@ use Rattle.exports.specs.Flat.{flatEncoded}
 use borrow.Author.Needs.{needs}
 use Rattle.exports.proofs.flat_encoded.Statement.{statement}
 use Rattle.exports.proofs.flat_encoded.Tie as tie
-use Rattle.exports.proofs.flat_encoded.Reads as reads
-use Rattle.exports.proofs.flat_encoded.Lts as lts
 
 enum-known-r : tie.Need-enum-known-r
 enum-known-r c = search needs

@@ -3,8 +3,6 @@ use Rattle.exports.specs.Flat.{flatGroup}
 use borrow.Author.Needs.{needs}
 use Rattle.exports.proofs.flat_group.Statement.{statement}
 use Rattle.exports.proofs.flat_group.Tie as tie
-use Rattle.exports.proofs.flat_group.Reads as reads
-use Rattle.exports.proofs.flat_group.Lts as lts
 
 enum-known-r : tie.Need-enum-known-r
 enum-known-r c = search needs

@@ -3,8 +3,6 @@ use Rattle.exports.specs.Flat.{flatHeaded}
 use borrow.Author.Needs.{needs}
 use Rattle.exports.proofs.flat_headed.Statement.{statement}
 use Rattle.exports.proofs.flat_headed.Tie as tie
-use Rattle.exports.proofs.flat_headed.Reads as reads
-use Rattle.exports.proofs.flat_headed.Lts as lts
 
 enum-known-r : tie.Need-enum-known-r
 enum-known-r c = search needs

@@ -3,8 +3,6 @@ use Rattle.exports.specs.Flat.{flatNext}
 use borrow.Author.Needs.{needs}
 use Rattle.exports.proofs.flat_next.Statement.{statement}
 use Rattle.exports.proofs.flat_next.Tie as tie
-use Rattle.exports.proofs.flat_next.Reads as reads
-use Rattle.exports.proofs.flat_next.Lts as lts
 
 enum-known-r : tie.Need-enum-known-r
 enum-known-r c = search needs

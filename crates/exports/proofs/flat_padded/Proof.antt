@@ -3,8 +3,6 @@ use Rattle.exports.specs.Flat.{flatPadded}
 use borrow.Author.Needs.{needs}
 use Rattle.exports.proofs.flat_padded.Statement.{statement}
 use Rattle.exports.proofs.flat_padded.Tie as tie
-use Rattle.exports.proofs.flat_padded.Reads as reads
-use Rattle.exports.proofs.flat_padded.Lts as lts
 
 enum-known-r : tie.Need-enum-known-r
 enum-known-r c = search needs

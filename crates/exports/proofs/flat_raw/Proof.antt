@@ -3,8 +3,6 @@ use Rattle.exports.specs.Flat.{flatRaw}
 use borrow.Author.Needs.{needs}
 use Rattle.exports.proofs.flat_raw.Statement.{statement}
 use Rattle.exports.proofs.flat_raw.Tie as tie
-use Rattle.exports.proofs.flat_raw.Reads as reads
-use Rattle.exports.proofs.flat_raw.Lts as lts
 
 enum-known-r : tie.Need-enum-known-r
 enum-known-r c = search needs

@@ -3,8 +3,6 @@ use Rattle.exports.specs.Flat.{flatTabled}
 use borrow.Author.Needs.{needs}
 use Rattle.exports.proofs.flat_tabled.Statement.{statement}
 use Rattle.exports.proofs.flat_tabled.Tie as tie
-use Rattle.exports.proofs.flat_tabled.Reads as reads
-use Rattle.exports.proofs.flat_tabled.Lts as lts
 
 enum-known-r : tie.Need-enum-known-r
 enum-known-r c = search needs

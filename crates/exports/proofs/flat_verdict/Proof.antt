@@ -3,8 +3,6 @@ use Rattle.exports.specs.Flat.{flatVerdict}
 use borrow.Author.Needs.{needs}
 use Rattle.exports.proofs.flat_verdict.Statement.{statement}
 use Rattle.exports.proofs.flat_verdict.Tie as tie
-use Rattle.exports.proofs.flat_verdict.Reads as reads
-use Rattle.exports.proofs.flat_verdict.Lts as lts
 
 enum-told : tie.Need-enum-told
 enum-told c = search needs

@@ -5,10 +5,6 @@ use Rattle.exports.proofs.Cross.{cross-built}
 use borrow.Author.Needs.{needs}
 use Rattle.exports.proofs.oli_build.Statement.{statement}
 use Rattle.exports.proofs.oli_build.Tie as tie
-use Rattle.exports.proofs.oli_build.Reads as reads
-use Rattle.exports.proofs.oli_build.Lts as lts
-use Rattle.build.proofs.build.Reads as build-reads
-use Rattle.exports.proofs.flat_built.Reads as flat-built-reads
 
 build-requires : tie.Need-build-requires
 build-requires c κs = search needs

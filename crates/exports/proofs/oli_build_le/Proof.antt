@@ -1,6 +1,6 @@
 use Rattle.exports.proofs.Builds.{built-broken}
 use Rattle.exports.specs.Replies.{buildReply, roomBytes, filledBytes}
-use Rattle.rules.specs.Functions.{arena, blockLeft}
+use Rattle.rules.specs.Functions.{arena, leaves}
 use Rattle.rules.specs.Record.{Block, noBlock}
 use Rattle.rules.specs.Answer.{Answer}
 use borrow.Author.Tests.{not-true, not-false}
@@ -8,12 +8,6 @@ use mathlib.Core.Path.{sym, ap, _∙_}
 use borrow.Author.Needs.{needs}
 use Rattle.exports.proofs.oli_build_le.Statement.{statement}
 use Rattle.exports.proofs.oli_build_le.Tie as tie
-use Rattle.exports.proofs.oli_build_le.Reads as reads
-use Rattle.exports.proofs.oli_build_le.Lts as lts
-use Rattle.crossing.proofs.few_words.Reads as few-words-reads
-use Rattle.crossing.proofs.small_room.Reads as small-room-reads
-use Rattle.exports.proofs.build_in.Reads as build-in-reads
-use Rattle.exports.proofs.clear.Reads as clear-reads
 
 few-words-requires : tie.Need-few-words-requires
 few-words-requires c κs = search needs
@@ -36,7 +30,7 @@ returns c =
     let a = c .before .before .before .before .before .before .before .before .before .before .before .before .before .before .before .before .before .before .args in
     let s = arena (a .out-codes .now) (a .out-values .now) (a .records .now) in
     let d = sym (built-broken (a .values .now) (a .table .now) (a .codes .now) (roomBytes s) (sym (c .before .before .before .before .before .before .before .before .before .before .before .few-words .ensures) ∙ not-true (c .before .before .before .before .before .before .before .before .before .before .before .few-words .result) (c .before .before .before .before .before .before .before .before .before .before .if1 .taken))) in
-    record { reply = ap buildReply d; runs = c .before .before .before .before .before .before .clear .ensures ∙ ap (λ (x : Answer Block). filledBytes s (blockLeft x)) d }
+    record { reply = ap buildReply d; runs = c .before .before .before .before .before .before .clear .ensures ∙ ap (λ (x : Answer Block). filledBytes s (leaves noBlock x)) d }
 
 small-room-requires : tie.Need-small-room-requires
 small-room-requires c κs = search needs

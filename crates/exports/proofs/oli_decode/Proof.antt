@@ -5,10 +5,6 @@ use Rattle.exports.proofs.Cross.{cross-decoded}
 use borrow.Author.Needs.{needs}
 use Rattle.exports.proofs.oli_decode.Statement.{statement}
 use Rattle.exports.proofs.oli_decode.Tie as tie
-use Rattle.exports.proofs.oli_decode.Reads as reads
-use Rattle.exports.proofs.oli_decode.Lts as lts
-use Rattle.decoder.proofs.decode.Reads as decode-reads
-use Rattle.exports.proofs.flat_decoded.Reads as flat-decoded-reads
 
 decode-requires : tie.Need-decode-requires
 decode-requires c κs = search needs

@@ -6,10 +6,6 @@ use Rattle.exports.proofs.Cross.{cross-encoded}
 use borrow.Author.Needs.{needs}
 use Rattle.exports.proofs.oli_encode.Statement.{statement}
 use Rattle.exports.proofs.oli_encode.Tie as tie
-use Rattle.exports.proofs.oli_encode.Reads as reads
-use Rattle.exports.proofs.oli_encode.Lts as lts
-use Rattle.encoder.proofs.encode.Reads as encode-reads
-use Rattle.exports.proofs.flat_encoded.Reads as flat-encoded-reads
 
 encode-requires : tie.Need-encode-requires
 encode-requires c κs = search needs

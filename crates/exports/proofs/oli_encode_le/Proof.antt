@@ -5,11 +5,6 @@ use mathlib.Core.Path.{refl, sym, _∙_}
 use borrow.Author.Needs.{needs}
 use Rattle.exports.proofs.oli_encode_le.Statement.{statement}
 use Rattle.exports.proofs.oli_encode_le.Tie as tie
-use Rattle.exports.proofs.oli_encode_le.Reads as reads
-use Rattle.exports.proofs.oli_encode_le.Lts as lts
-use Rattle.crossing.proofs.few_words.Reads as few-words-reads
-use Rattle.crossing.proofs.small_room.Reads as small-room-reads
-use Rattle.exports.proofs.encode_in.Reads as encode-in-reads
 
 few-words-requires : tie.Need-few-words-requires
 few-words-requires c κs = search needs

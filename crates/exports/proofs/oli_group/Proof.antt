@@ -9,11 +9,6 @@ use Rattle.exports.proofs.Cross.{cross-group}
 use borrow.Author.Needs.{needs}
 use Rattle.exports.proofs.oli_group.Statement.{statement}
 use Rattle.exports.proofs.oli_group.Tie as tie
-use Rattle.exports.proofs.oli_group.Reads as reads
-use Rattle.exports.proofs.oli_group.Lts as lts
-use Rattle.exports.proofs.flat_group.Reads as flat-group-reads
-use Rattle.op_batch.proofs.OpBatch.op_idx_in_batch_to_group.Reads as op-idx-in-batch-to-group-reads
-use Rattle.op_batch.proofs.load.Reads as load-reads
 
 returns : tie.Need-returns
 unfolding oneRecord

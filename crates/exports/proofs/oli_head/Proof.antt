@@ -5,10 +5,6 @@ use Rattle.exports.proofs.Cross.{cross-headed}
 use borrow.Author.Needs.{needs}
 use Rattle.exports.proofs.oli_head.Statement.{statement}
 use Rattle.exports.proofs.oli_head.Tie as tie
-use Rattle.exports.proofs.oli_head.Reads as reads
-use Rattle.exports.proofs.oli_head.Lts as lts
-use Rattle.head.proofs.head.Reads as head-reads
-use Rattle.exports.proofs.flat_headed.Reads as flat-headed-reads
 
 head-requires : tie.Need-head-requires
 head-requires c κs = search needs

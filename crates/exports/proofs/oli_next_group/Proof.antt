@@ -9,11 +9,6 @@ use Rattle.exports.proofs.Cross.{cross-next}
 use borrow.Author.Needs.{needs}
 use Rattle.exports.proofs.oli_next_group.Statement.{statement}
 use Rattle.exports.proofs.oli_next_group.Tie as tie
-use Rattle.exports.proofs.oli_next_group.Reads as reads
-use Rattle.exports.proofs.oli_next_group.Lts as lts
-use Rattle.exports.proofs.flat_next.Reads as flat-next-reads
-use Rattle.op_batch.proofs.OpBatch.next_op_group_index.Reads as next-op-group-index-reads
-use Rattle.op_batch.proofs.load.Reads as load-reads
 
 returns : tie.Need-returns
 unfolding oneRecord

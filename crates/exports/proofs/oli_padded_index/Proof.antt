@@ -5,10 +5,6 @@ use Rattle.exports.proofs.Cross.{cross-padded}
 use borrow.Author.Needs.{needs}
 use Rattle.exports.proofs.oli_padded_index.Statement.{statement}
 use Rattle.exports.proofs.oli_padded_index.Tie as tie
-use Rattle.exports.proofs.oli_padded_index.Reads as reads
-use Rattle.exports.proofs.oli_padded_index.Lts as lts
-use Rattle.exports.proofs.flat_padded.Reads as flat-padded-reads
-use Rattle.prefix.proofs.raw_to_padded_index.Reads as raw-to-padded-index-reads
 
 raw-to-padded-index-requires : tie.Need-raw-to-padded-index-requires
 raw-to-padded-index-requires c κs = search needs

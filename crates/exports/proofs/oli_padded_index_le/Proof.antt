@@ -11,12 +11,6 @@ use mathlib.Core.Path.{sym, ap, _∙_}
 use borrow.Author.Needs.{needs}
 use Rattle.exports.proofs.oli_padded_index_le.Statement.{statement}
 use Rattle.exports.proofs.oli_padded_index_le.Tie as tie
-use Rattle.exports.proofs.oli_padded_index_le.Reads as reads
-use Rattle.exports.proofs.oli_padded_index_le.Lts as lts
-use Rattle.crossing.proofs.has_word.Reads as has-word-reads
-use Rattle.exports.proofs.flat_padded.Reads as flat-padded-reads
-use Rattle.prefix.proofs.padded_by.Reads as padded-by-reads
-use Rattle.word.proofs.le8.Reads as le8-reads
 
 has-word-requires : tie.Need-has-word-requires
 has-word-requires c κs = search needs

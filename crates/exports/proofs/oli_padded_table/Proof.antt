@@ -6,10 +6,6 @@ use Rattle.exports.proofs.Cross.{cross-tabled}
 use borrow.Author.Needs.{needs}
 use Rattle.exports.proofs.oli_padded_table.Statement.{statement}
 use Rattle.exports.proofs.oli_padded_table.Tie as tie
-use Rattle.exports.proofs.oli_padded_table.Reads as reads
-use Rattle.exports.proofs.oli_padded_table.Lts as lts
-use Rattle.exports.proofs.flat_tabled.Reads as flat-tabled-reads
-use Rattle.prefix.proofs.padded_to_raw.Reads as padded-to-raw-reads
 
 padded-to-raw-requires : tie.Need-padded-to-raw-requires
 padded-to-raw-requires c κs = search needs

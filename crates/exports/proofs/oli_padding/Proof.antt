@@ -5,10 +5,6 @@ use Rattle.exports.proofs.Cross.{cross-verdict}
 use borrow.Author.Needs.{needs}
 use Rattle.exports.proofs.oli_padding.Statement.{statement}
 use Rattle.exports.proofs.oli_padding.Tie as tie
-use Rattle.exports.proofs.oli_padding.Reads as reads
-use Rattle.exports.proofs.oli_padding.Lts as lts
-use Rattle.checks.proofs.padding.Reads as padding-reads
-use Rattle.exports.proofs.flat_verdict.Reads as flat-verdict-reads
 
 padding-requires : tie.Need-padding-requires
 padding-requires c κs = search needs

@@ -8,12 +8,6 @@ use mathlib.Core.Path.{sym, ap, _∙_}
 use borrow.Author.Needs.{needs}
 use Rattle.exports.proofs.oli_padding_le.Statement.{statement}
 use Rattle.exports.proofs.oli_padding_le.Tie as tie
-use Rattle.exports.proofs.oli_padding_le.Reads as reads
-use Rattle.exports.proofs.oli_padding_le.Lts as lts
-use Rattle.crossing.proofs.few_words.Reads as few-words-reads
-use Rattle.crossing.proofs.read_words.Reads as read-words-reads
-use Rattle.crossing.proofs.room.Reads as room-reads
-use Rattle.exports.proofs.oli_padding.Reads as oli-padding-reads
 
 few-words-requires : tie.Need-few-words-requires
 few-words-requires c κs = search needs

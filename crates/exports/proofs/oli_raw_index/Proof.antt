@@ -5,10 +5,6 @@ use Rattle.exports.proofs.Cross.{cross-raw}
 use borrow.Author.Needs.{needs}
 use Rattle.exports.proofs.oli_raw_index.Statement.{statement}
 use Rattle.exports.proofs.oli_raw_index.Tie as tie
-use Rattle.exports.proofs.oli_raw_index.Reads as reads
-use Rattle.exports.proofs.oli_raw_index.Lts as lts
-use Rattle.exports.proofs.flat_raw.Reads as flat-raw-reads
-use Rattle.prefix.proofs.padded_to_raw_index.Reads as padded-to-raw-index-reads
 
 padded-to-raw-index-requires : tie.Need-padded-to-raw-index-requires
 padded-to-raw-index-requires c κs = search needs

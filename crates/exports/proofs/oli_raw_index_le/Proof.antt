@@ -11,12 +11,6 @@ use mathlib.Core.Path.{sym, ap, _∙_}
 use borrow.Author.Needs.{needs}
 use Rattle.exports.proofs.oli_raw_index_le.Statement.{statement}
 use Rattle.exports.proofs.oli_raw_index_le.Tie as tie
-use Rattle.exports.proofs.oli_raw_index_le.Reads as reads
-use Rattle.exports.proofs.oli_raw_index_le.Lts as lts
-use Rattle.crossing.proofs.has_word.Reads as has-word-reads
-use Rattle.exports.proofs.flat_raw.Reads as flat-raw-reads
-use Rattle.prefix.proofs.raw_by.Reads as raw-by-reads
-use Rattle.word.proofs.le8.Reads as le8-reads
 
 has-word-requires : tie.Need-has-word-requires
 has-word-requires c κs = search needs

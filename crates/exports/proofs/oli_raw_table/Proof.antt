@@ -6,10 +6,6 @@ use Rattle.exports.proofs.Cross.{cross-tabled}
 use borrow.Author.Needs.{needs}
 use Rattle.exports.proofs.oli_raw_table.Statement.{statement}
 use Rattle.exports.proofs.oli_raw_table.Tie as tie
-use Rattle.exports.proofs.oli_raw_table.Reads as reads
-use Rattle.exports.proofs.oli_raw_table.Lts as lts
-use Rattle.exports.proofs.flat_tabled.Reads as flat-tabled-reads
-use Rattle.prefix.proofs.raw_to_padded.Reads as raw-to-padded-reads
 
 raw-to-padded-requires : tie.Need-raw-to-padded-requires
 raw-to-padded-requires c κs = search needs

@@ -5,10 +5,6 @@ use Rattle.exports.proofs.Cross.{cross-verdict}
 use borrow.Author.Needs.{needs}
 use Rattle.exports.proofs.oli_structure.Statement.{statement}
 use Rattle.exports.proofs.oli_structure.Tie as tie
-use Rattle.exports.proofs.oli_structure.Reads as reads
-use Rattle.exports.proofs.oli_structure.Lts as lts
-use Rattle.checks.proofs.structure.Reads as structure-reads
-use Rattle.exports.proofs.flat_verdict.Reads as flat-verdict-reads
 
 structure-requires : tie.Need-structure-requires
 structure-requires c κs = search needs

@@ -1,17 +1,11 @@
 use Rattle.exports.proofs.Whole.{checked-broken}
 use Rattle.rules.specs.Functions.{tableOf}
-use Rattle.rules.specs.Record.{wordBytes}
 use borrow.Author.Tests.{not-true, not-false}
 use mathlib.Core.Path.{refl, sym, _∙_}
 use borrow.Author.Needs.{needs}
 use Rattle.exports.proofs.table_le.Statement.{statement}
 use Rattle.exports.proofs.table_le.Tie as tie
-use Rattle.exports.proofs.table_le.Reads as reads
-use Rattle.exports.proofs.table_le.Lts as lts
-use Rattle.crossing.proofs.few_words.Reads as few-words-reads
-use Rattle.crossing.proofs.small_room.Reads as small-room-reads
-use Rattle.exports.proofs.table_in.Reads as table-in-reads
-use Rattle.word.proofs.zero_bytes.Reads as zero-bytes-reads
+use Rattle.rules.specs.Lists.{inRow}
 
 few-words-requires : tie.Need-few-words-requires
 few-words-requires c κs = search needs
@@ -23,7 +17,7 @@ same-length : tie.Need-same-length
 same-length c = search needs
 
 returns : tie.Need-returns
-unfolding tableOf wordBytes
+unfolding tableOf inRow
 returns c = let a = c .before .before .before .before .before .before .before .before .before .before .args in rw (checked-broken (a .values .now) (a .codes .now) (a .records .now) (sym (c .before .before .before .before .before .few-words .ensures) ∙ not-true (c .before .before .before .before .before .few-words .result) (c .before .before .before .before .if1 .taken))) (record { reply = refl; left = c .before .before .zero-bytes .ensures })
 
 small-room-requires : tie.Need-small-room-requires

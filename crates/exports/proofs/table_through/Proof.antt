@@ -10,12 +10,6 @@ use mathlib.Core.Path.{ap, _∙_}
 use borrow.Author.Needs.{needs}
 use Rattle.exports.proofs.table_through.Statement.{statement}
 use Rattle.exports.proofs.table_through.Tie as tie
-use Rattle.exports.proofs.table_through.Reads as reads
-use Rattle.exports.proofs.table_through.Lts as lts
-use Rattle.crossing.proofs.bytes_out.Reads as bytes-out-reads
-use Rattle.crossing.proofs.read_words.Reads as read-words-reads
-use Rattle.exports.proofs.flat_tabled.Reads as flat-tabled-reads
-use Rattle.prefix.proofs.table.Reads as table-reads
 
 read-words-requires : tie.Need-read-words-requires
 read-words-requires c κs = search needs

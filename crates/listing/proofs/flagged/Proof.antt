@@ -1,11 +1,7 @@
-use native.Mathlib.Omega.{arith}
 use borrow.Author.Needs.{needs}
 use Prim.Native.Nat.{_≤_, _-_}
 use Rattle.listing.proofs.flagged.Statement.{statement}
 use Rattle.listing.proofs.flagged.Tie as tie
-use Rattle.listing.proofs.flagged.Reads as reads
-use Rattle.listing.proofs.flagged.Lts as lts
-use Rattle.listing.proofs.marked.Reads as marked-reads
 
 abbrev Inv-loop : tie.InvT-loop
 Inv-loop batch n₀ g₀ n g = (g ≤ 8) × (n ≤ g)

@@ -1,14 +1,11 @@
 use native.Mathlib.Omega.{arith}
 use borrow.Author.Needs.{needs}
-use mathlib.Core.Path.{_≡_, sym, _∙_}
+use mathlib.Core.Path.{_≡_, sym}
 use Prim.Native.Nat.{_≤_, _-_}
 use lib.ListN.{length, length-set}
 use lib.Seq.{length-take-le}
 use Rattle.listing.proofs.name.Statement.{statement}
 use Rattle.listing.proofs.name.Tie as tie
-use Rattle.listing.proofs.name.Reads as reads
-use Rattle.listing.proofs.name.Lts as lts
-use Rattle.vm.proofs.name_byte.Reads as name-byte-reads
 
 abbrev Inv-loop : tie.InvT-loop
 Inv-loop code out₀ n₀ out n = (n ≤ length out) × (length out ≡ length out₀)

@@ -1,12 +1,7 @@
-use native.Mathlib.Omega.{arith}
 use borrow.Author.Needs.{needs}
 use Prim.Native.Nat.{_≤_, _-_, _*_}
 use Rattle.listing.proofs.paddings.Statement.{statement}
 use Rattle.listing.proofs.paddings.Tie as tie
-use Rattle.listing.proofs.paddings.Reads as reads
-use Rattle.listing.proofs.paddings.Lts as lts
-use Rattle.listing.proofs.flagged.Reads as flagged-reads
-use Rattle.listing.proofs.record.Reads as record-reads
 
 abbrev Inv-loop : tie.InvT-loop
 Inv-loop records batches n₀ b₀ n b = (b ≤ batches) × (n ≤ 8 * b)

@@ -4,13 +4,6 @@ use borrow.Author.Needs.{needs}
 use lib.ListN.{length}
 use Rattle.listing.proofs.print_batches.Statement.{statement}
 use Rattle.listing.proofs.print_batches.Tie as tie
-use Rattle.listing.proofs.print_batches.Reads as reads
-use Rattle.listing.proofs.print_batches.Lts as lts
-use Rattle.listing.proofs.plus.Reads as plus-reads
-use Rattle.listing.proofs.print_batch.Reads as print-batch-reads
-use Rattle.listing.proofs.print_groups.Reads as print-groups-reads
-use Rattle.listing.proofs.record.Reads as record-reads
-use Rattle.listing.proofs.size.Reads as size-reads
 
 abbrev Inv-loop : tie.InvT-loop
 Inv-loop page₀ codes values records batches first operation₀ at₀ b₀ page operation at b = (b ≤ batches) × (length page ≡ length page₀)

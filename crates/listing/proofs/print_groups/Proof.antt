@@ -4,9 +4,6 @@ use borrow.Author.Needs.{needs}
 use lib.ListN.{length}
 use Rattle.listing.proofs.print_groups.Statement.{statement}
 use Rattle.listing.proofs.print_groups.Tie as tie
-use Rattle.listing.proofs.print_groups.Reads as reads
-use Rattle.listing.proofs.print_groups.Lts as lts
-use Rattle.listing.proofs.print_group.Reads as print-group-reads
 
 abbrev Inv-loop : tie.InvT-loop
 Inv-loop page₀ codes values batch at count g₀ page g = (g ≤ 8) × (length page ≡ length page₀)

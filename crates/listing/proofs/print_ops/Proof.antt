@@ -4,10 +4,6 @@ use borrow.Author.Needs.{needs}
 use lib.ListN.{length}
 use Rattle.listing.proofs.print_ops.Statement.{statement}
 use Rattle.listing.proofs.print_ops.Tie as tie
-use Rattle.listing.proofs.print_ops.Reads as reads
-use Rattle.listing.proofs.print_ops.Lts as lts
-use Rattle.listing.proofs.plus.Reads as plus-reads
-use Rattle.listing.proofs.print_op_at.Reads as print-op-at-reads
 
 abbrev Inv-loop : tie.InvT-loop
 Inv-loop page₀ codes values at n i₀ page i = (i ≤ n) × (length page ≡ length page₀)

@@ -2,10 +2,6 @@ use Prim.Native.Nat.{_-_, _≤_}
 use borrow.Author.Needs.{needs}
 use Rattle.listing.proofs.size.Statement.{statement}
 use Rattle.listing.proofs.size.Tie as tie
-use Rattle.listing.proofs.size.Reads as reads
-use Rattle.listing.proofs.size.Lts as lts
-use Rattle.listing.proofs.plus.Reads as plus-reads
-use Rattle.listing.proofs.size_at.Reads as size-at-reads
 
 abbrev Inv-loop : tie.InvT-loop
 Inv-loop codes at n sum₀ i₀ sum i = i ≤ n

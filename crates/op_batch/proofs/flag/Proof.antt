@@ -4,8 +4,6 @@ use borrow.Author.Needs.{needs}
 use Rattle.op_batch.proofs.Right.{flag-at}
 use Rattle.op_batch.proofs.flag.Statement.{statement}
 use Rattle.op_batch.proofs.flag.Tie as tie
-use Rattle.op_batch.proofs.flag.Reads as reads
-use Rattle.op_batch.proofs.flag.Lts as lts
 
 mul-result : tie.Need-mul-result
 mul-result c = search needs

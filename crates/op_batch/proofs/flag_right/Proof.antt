@@ -1,8 +1,6 @@
 use borrow.Author.Tests.{le-leb, lt-leb}
 use Rattle.op_batch.proofs.flag_right.Statement.{statement}
 use Rattle.op_batch.proofs.flag_right.Tie as tie
-use Rattle.op_batch.proofs.flag_right.Reads as reads
-use Rattle.op_batch.proofs.flag_right.Lts as lts
 
 returns : tie.Need-returns
 returns c = rw (lt-leb _ _ (c .if1 .taken))

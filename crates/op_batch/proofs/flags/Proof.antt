@@ -3,9 +3,6 @@ use mathlib.Core.Path.{sym, _∙_}
 use borrow.Author.Needs.{needs}
 use Rattle.op_batch.proofs.flags.Statement.{statement}
 use Rattle.op_batch.proofs.flags.Tie as tie
-use Rattle.op_batch.proofs.flags.Reads as reads
-use Rattle.op_batch.proofs.flags.Lts as lts
-use Rattle.word.proofs.le8.Reads as le8-reads
 
 mul-le8 : tie.Need-mul-le8
 mul-le8 c = search needs

@@ -10,9 +10,6 @@ use mathlib.Core.Bool.{Bool, _&&_}
 use mathlib.Core.Path.{_≡_, ap, _∙_}
 use Rattle.op_batch.proofs.flags_right.Statement.{statement}
 use Rattle.op_batch.proofs.flags_right.Tie as tie
-use Rattle.op_batch.proofs.flags_right.Reads as reads
-use Rattle.op_batch.proofs.flags_right.Lts as lts
-use Rattle.op_batch.proofs.flag_right.Reads as flag-right-reads
 
 abbrev Inv-loop : tie.InvT-loop
 Inv-loop s at ok₀ i₀ ok i = (i ≤ 8) × ((ok && flagsFrom s at i) ≡ every (λ (f : ℕ). leb f 1) (bytesAt 8 s at))

@@ -8,8 +8,6 @@ use Rattle.op_batch.specs.OpBatch.{foundIn}
 use Rattle.op_batch.proofs.Places.{group-turn, group-stop, group-end}
 use Rattle.op_batch.proofs.group_of.Statement.{statement}
 use Rattle.op_batch.proofs.group_of.Tie as tie
-use Rattle.op_batch.proofs.group_of.Reads as reads
-use Rattle.op_batch.proofs.group_of.Lts as lts
 
 abbrev Inv-loop : tie.InvT-loop
 Inv-loop starts index g₀ g = (g ≤ 8) × (getD starts g 0 ≤ index) × (groupFrom g (drop g starts) index ≡ groupFrom 0 starts index)

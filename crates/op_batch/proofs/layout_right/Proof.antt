@@ -9,10 +9,6 @@ use Rattle.rules.proofs.Loads.{byte}
 use Rattle.op_batch.proofs.Bytes.{last-test}
 use Rattle.op_batch.proofs.layout_right.Statement.{statement}
 use Rattle.op_batch.proofs.layout_right.Tie as tie
-use Rattle.op_batch.proofs.layout_right.Reads as reads
-use Rattle.op_batch.proofs.layout_right.Lts as lts
-use Rattle.op_batch.proofs.flags_right.Reads as flags-right-reads
-use Rattle.op_batch.proofs.starts_right.Reads as starts-right-reads
 
 returns : tie.Need-returns
 unfolding recordRight

@@ -2,11 +2,6 @@ use borrow.Author.Needs.{needs}
 use Rattle.rules.specs.Record.{recordAt}
 use Rattle.op_batch.proofs.load.Statement.{statement}
 use Rattle.op_batch.proofs.load.Tie as tie
-use Rattle.op_batch.proofs.load.Reads as reads
-use Rattle.op_batch.proofs.load.Lts as lts
-use Rattle.op_batch.proofs.load8.Reads as load8-reads
-use Rattle.op_batch.proofs.load9.Reads as load9-reads
-use Rattle.op_batch.proofs.load_words.Reads as load-words-reads
 
 mul-at : tie.Need-mul-at
 mul-at c = search needs

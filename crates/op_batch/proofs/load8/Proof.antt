@@ -9,8 +9,6 @@ use Rattle.rules.specs.Record.{bytesAt}
 use Rattle.rules.proofs.Loads.{bytes-start, bytes-turn, bytes-end}
 use Rattle.op_batch.proofs.load8.Statement.{statement}
 use Rattle.op_batch.proofs.load8.Tie as tie
-use Rattle.op_batch.proofs.load8.Reads as reads
-use Rattle.op_batch.proofs.load8.Lts as lts
 
 abbrev Inv-loop : tie.InvT-loop
 Inv-loop s at out₀ i₀ out i = (i ≤ 8) × (length out ≡ 8) × (sets out i (bytesAt (8 - i) s (at + i)) ≡ bytesAt 8 s at)

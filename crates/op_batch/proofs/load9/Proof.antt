@@ -9,8 +9,6 @@ use Rattle.rules.specs.Record.{bytesAt}
 use Rattle.rules.proofs.Loads.{bytes-start, bytes-turn, bytes-end}
 use Rattle.op_batch.proofs.load9.Statement.{statement}
 use Rattle.op_batch.proofs.load9.Tie as tie
-use Rattle.op_batch.proofs.load9.Reads as reads
-use Rattle.op_batch.proofs.load9.Lts as lts
 
 abbrev Inv-loop : tie.InvT-loop
 Inv-loop s at out₀ i₀ out i = (i ≤ 9) × (length out ≡ 9) × (sets out i (bytesAt (9 - i) s (at + i)) ≡ bytesAt 9 s at)

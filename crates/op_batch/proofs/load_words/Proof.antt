@@ -9,9 +9,6 @@ use Rattle.rules.specs.Record.{wordsAt}
 use Rattle.rules.proofs.Loads.{words-start, words-turn, words-end}
 use Rattle.op_batch.proofs.load_words.Statement.{statement}
 use Rattle.op_batch.proofs.load_words.Tie as tie
-use Rattle.op_batch.proofs.load_words.Reads as reads
-use Rattle.op_batch.proofs.load_words.Lts as lts
-use Rattle.word.proofs.le8.Reads as le8-reads
 
 abbrev Inv-loop : tie.InvT-loop
 Inv-loop s at out₀ i₀ out i = (i ≤ 8) × (length out ≡ 8) × (sets out i (wordsAt (8 - i) s (at + 8 * i)) ≡ wordsAt 8 s at)

@@ -8,8 +8,6 @@ use Rattle.op_batch.specs.OpBatch.{firstFull, nextIn}
 use Rattle.op_batch.proofs.Places.{full-stop, full-turn, full-end}
 use Rattle.op_batch.proofs.next_from.Statement.{statement}
 use Rattle.op_batch.proofs.next_from.Tie as tie
-use Rattle.op_batch.proofs.next_from.Reads as reads
-use Rattle.op_batch.proofs.next_from.Lts as lts
 
 abbrev Inv-loop : tie.InvT-loop
 Inv-loop starts count k g₀ g = (g ≤ 8) × (firstFull g (drop g (take count (differences starts))) ≡ firstFull k (drop k (take count (differences starts))))

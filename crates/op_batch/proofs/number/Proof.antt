@@ -4,9 +4,6 @@ use borrow.Author.Needs.{needs}
 use Rattle.op_batch.proofs.Right.{number-at}
 use Rattle.op_batch.proofs.number.Statement.{statement}
 use Rattle.op_batch.proofs.number.Tie as tie
-use Rattle.op_batch.proofs.number.Reads as reads
-use Rattle.op_batch.proofs.number.Lts as lts
-use Rattle.word.proofs.le8.Reads as le8-reads
 
 mul-le8 : tie.Need-mul-le8
 mul-le8 c = search needs

@@ -5,13 +5,10 @@ use borrow.Author.Needs.{needs}
 use denote.Ref.{now}
 use Prim.Native.Nat.{_+_, _*_, _-_, _^_, _≤_, _<_}
 use Rattle.rules.specs.Digits.{number}
-use Rattle.rules.specs.Record.{recordAt}
+use Rattle.rules.specs.Record.{recordAt, recordSize}
 use Rattle.op_batch.proofs.Packing.{power-turn, power-most, steps, steps-back, differences-steps, starts-at}
 use Rattle.op_batch.proofs.pack_indptr_deltas.Statement.{statement}
 use Rattle.op_batch.proofs.pack_indptr_deltas.Tie as tie
-use Rattle.op_batch.proofs.pack_indptr_deltas.Reads as reads
-use Rattle.op_batch.proofs.pack_indptr_deltas.Lts as lts
-use Rattle.word.proofs.wide.Reads as wide-reads
 
 abbrev Inv-loop : tie.InvT-loop
 Inv-loop records b at v₀ i₀ v i = (i ≤ 8) × (v < 16 ^ (8 - i)) × (v ≡ number 16 (steps (8 - i) records (at + i)))
@@ -53,7 +50,7 @@ sub-wide : tie.Need-sub-wide Inv-loop μ-loop
 unfolding recordAt
 sub-wide c =
     let a = c .before .before .before .before .before .args in
-    starts-at 8 (now (a .records)) (82 * a .b) (c .before .before .before .before .before .pre .1) (c .before .before .before .loop .i - 1) (omega arith) .0
+    starts-at 8 (now (a .records)) (recordSize * a .b) (c .before .before .before .before .before .pre .1) (c .before .before .before .loop .i - 1) (omega arith) .0
 
 wide-requires : tie.Need-wide-requires Inv-loop μ-loop
 wide-requires c κs = omega arith
@@ -63,7 +60,7 @@ unfolding recordAt
 add-v c =
     let l = c .before .before .before .before .loop in
     let a = c .before .before .before .before .before .before .args in
-    let f = starts-at 8 (now (a .records)) (82 * a .b) (c .before .before .before .before .before .before .pre .1) (l .i - 1) (omega arith) in
+    let f = starts-at 8 (now (a .records)) (recordSize * a .b) (c .before .before .before .before .before .before .pre .1) (l .i - 1) (omega arith) in
     omega (arith, power-turn 16 8 (l .i) (omega arith) (omega arith), power-most 16 8 8 (l .i - 1) (omega arith) (omega arith))
 
 loop-less : tie.Need-loop-less Inv-loop μ-loop
@@ -74,10 +71,10 @@ unfolding recordAt
 loop-again c =
     let l = c .before .before .before .before .loop in
     let a = c .before .before .before .before .before .before .args in
-    let f = starts-at 8 (now (a .records)) (82 * a .b) (c .before .before .before .before .before .before .pre .1) (l .i - 1) (omega arith) in (
+    let f = starts-at 8 (now (a .records)) (recordSize * a .b) (c .before .before .before .before .before .before .pre .1) (l .i - 1) (omega arith) in (
       omega arith,
       omega (arith, power-turn 16 8 (l .i) (omega arith) (omega arith)),
-      omega (arith, steps-back 16 8 (now (a .records)) (82 * a .b) (l .i) (omega arith) (omega arith)),
+      omega (arith, steps-back 16 8 (now (a .records)) (recordSize * a .b) (l .i) (omega arith) (omega arith)),
     )
 
 returns : tie.Need-returns Inv-loop μ-loop
@@ -86,7 +83,7 @@ returns c =
     let l = c .before .loop in
     let a = c .before .before .before .args in
     let e : l .i ≡ 0 = omega arith in
-    (rw (e, add-zero) at (l .inv .2)) ∙ ap (number 16) (sym (differences-steps 8 (now (a .records)) (82 * a .b)))
+    (rw (e, add-zero) at (l .inv .2)) ∙ ap (number 16) (sym (differences-steps 8 (now (a .records)) (recordSize * a .b)))
 
 pub pack-indptr-deltas-spec : {M : Type 1} → statement M
 pack-indptr-deltas-spec =

@@ -3,9 +3,6 @@ use Rattle.rules.specs.Record.{recordAt}
 use Rattle.rules.specs.Checks.{recordRight}
 use Rattle.op_batch.proofs.record_right.Statement.{statement}
 use Rattle.op_batch.proofs.record_right.Tie as tie
-use Rattle.op_batch.proofs.record_right.Reads as reads
-use Rattle.op_batch.proofs.record_right.Lts as lts
-use Rattle.op_batch.proofs.layout_right.Reads as layout-right-reads
 
 mul-at : tie.Need-mul-at
 mul-at c = search needs

@@ -4,9 +4,6 @@ use Prim.Native.Nat.{_+_, _-_, _%_}
 use borrow.Author.Needs.{needs}
 use Rattle.op_batch.proofs.start_right.Statement.{statement}
 use Rattle.op_batch.proofs.start_right.Tie as tie
-use Rattle.op_batch.proofs.start_right.Reads as reads
-use Rattle.op_batch.proofs.start_right.Lts as lts
-use Rattle.std.proofs.num.wrapping_sub_u8.Reads as wrapping-sub-u8-reads
 
 wrapping-sub-u8-requires : tie.Need-wrapping-sub-u8-requires
 wrapping-sub-u8-requires c κs = search needs

@@ -10,9 +10,6 @@ use mathlib.Core.Bool.{Bool, true, _&&_}
 use mathlib.Core.Path.{_≡_, sym, ap, _∙_}
 use Rattle.op_batch.proofs.starts_right.Statement.{statement}
 use Rattle.op_batch.proofs.starts_right.Tie as tie
-use Rattle.op_batch.proofs.starts_right.Reads as reads
-use Rattle.op_batch.proofs.starts_right.Lts as lts
-use Rattle.op_batch.proofs.start_right.Reads as start-right-reads
 
 abbrev Inv-loop : tie.InvT-loop
 Inv-loop s at ok₀ i₀ ok i = (i ≤ 8) × ((ok && startsLeft s at i) ≡ startsRight (bytesAt 9 s at)) × (ok ≡ true → getD s (at + i) 0 ≤ 9 * i)

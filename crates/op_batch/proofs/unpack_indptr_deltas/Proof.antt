@@ -6,11 +6,9 @@ use lib.ListN.{length, length-set}
 use lib.Seq.{sets}
 use Rattle.rules.specs.Digits.{digits}
 use Rattle.rules.specs.Record.{startsFrom}
-use Rattle.op_batch.proofs.Packing.{digits-turn, digits-end}
+use Rattle.rules.proofs.Digits.{digits-turn, digits-end}
 use Rattle.op_batch.proofs.unpack_indptr_deltas.Statement.{statement}
 use Rattle.op_batch.proofs.unpack_indptr_deltas.Tie as tie
-use Rattle.op_batch.proofs.unpack_indptr_deltas.Reads as reads
-use Rattle.op_batch.proofs.unpack_indptr_deltas.Lts as lts
 
 abbrev Inv-loop : tie.InvT-loop
 Inv-loop v out₀ b left₀ sum₀ i₀ out left sum i =

@@ -5,11 +5,9 @@ use Prim.Native.Nat.{suc, _+_, _-_, _≤_}
 use lib.ListN.{length, length-set}
 use lib.Seq.{sets}
 use Rattle.rules.specs.Digits.{digits}
-use Rattle.op_batch.proofs.Packing.{digits-turn, digits-end}
+use Rattle.rules.proofs.Digits.{digits-turn, digits-end}
 use Rattle.op_batch.proofs.unpack_padding.Statement.{statement}
 use Rattle.op_batch.proofs.unpack_padding.Tie as tie
-use Rattle.op_batch.proofs.unpack_padding.Reads as reads
-use Rattle.op_batch.proofs.unpack_padding.Lts as lts
 
 abbrev Inv-loop : tie.InvT-loop
 Inv-loop v out₀ b left₀ i₀ out left i = (i ≤ 8) × (length out ≡ length out₀) × (sets out (b + i) (digits 2 (8 - i) left) ≡ sets out₀ b (digits 2 8 v))

@@ -7,9 +7,6 @@ use Rattle.rules.proofs.Operations.{kind-at}
 use borrow.Author.Needs.{needs}
 use Rattle.operation.proofs.fault.Statement.{statement}
 use Rattle.operation.proofs.fault.Tie as tie
-use Rattle.operation.proofs.fault.Reads as reads
-use Rattle.operation.proofs.fault.Lts as lts
-use Rattle.operation.proofs.value_right.Reads as value-right-reads
 
 returns : tie.Need-returns
 unfolding opFault admissible assigned

@@ -7,9 +7,6 @@ use Rattle.operation.specs.Verdict.{verdictOf}
 use Rattle.operation.proofs.Scan.{left, turn, stop, done}
 use Rattle.operation.proofs.first_fault.Statement.{statement}
 use Rattle.operation.proofs.first_fault.Tie as tie
-use Rattle.operation.proofs.first_fault.Reads as reads
-use Rattle.operation.proofs.first_fault.Lts as lts
-use Rattle.operation.proofs.fault.Reads as fault-reads
 
 abbrev Inv-loop : tie.InvT-loop
 Inv-loop table codes values i₀ i = (i ≤ length codes) × (left table codes values i ≡ left table codes values 0)

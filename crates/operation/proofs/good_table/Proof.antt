@@ -5,8 +5,6 @@ use Rattle.rules.specs.Operations.{goodTable}
 use Rattle.rules.proofs.Operations.{kind-at}
 use Rattle.operation.proofs.good_table.Statement.{statement}
 use Rattle.operation.proofs.good_table.Tie as tie
-use Rattle.operation.proofs.good_table.Reads as reads
-use Rattle.operation.proofs.good_table.Lts as lts
 
 returns : tie.Need-returns
 unfolding goodTable

@@ -1,8 +1,6 @@
 use borrow.Author.Tests.{le-leb, lt-leb}
 use Rattle.operation.proofs.kind_right.Statement.{statement}
 use Rattle.operation.proofs.kind_right.Tie as tie
-use Rattle.operation.proofs.kind_right.Reads as reads
-use Rattle.operation.proofs.kind_right.Lts as lts
 
 returns : tie.Need-returns
 returns c = rw (lt-leb _ _ (c .if1 .taken))

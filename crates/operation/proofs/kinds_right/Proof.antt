@@ -6,9 +6,6 @@ use Prim.Native.Nat.{_+_, _-_, _≤_}
 use Rattle.operation.proofs.Scan.{kindsFrom, kind-turn, kinds-end}
 use Rattle.operation.proofs.kinds_right.Statement.{statement}
 use Rattle.operation.proofs.kinds_right.Tie as tie
-use Rattle.operation.proofs.kinds_right.Reads as reads
-use Rattle.operation.proofs.kinds_right.Lts as lts
-use Rattle.operation.proofs.kind_right.Reads as kind-right-reads
 
 abbrev Inv-loop : tie.InvT-loop
 Inv-loop table ok₀ i₀ ok i = (i ≤ 128) × ((ok && kindsFrom table i) ≡ kindsFrom table 0)

@@ -1,8 +1,6 @@
 use borrow.Author.Tests.{eq-eqb, ne-eqb}
 use Rattle.operation.proofs.value_right.Statement.{statement}
 use Rattle.operation.proofs.value_right.Tie as tie
-use Rattle.operation.proofs.value_right.Reads as reads
-use Rattle.operation.proofs.value_right.Lts as lts
 
 returns : tie.Need-returns
 returns c = simp (eq-eqb _ _ (c .if1 .taken))

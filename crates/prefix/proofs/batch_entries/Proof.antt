@@ -10,14 +10,6 @@ use Rattle.checks.proofs.Groups.{Laid, laid}
 use Rattle.prefix.proofs.Entries.{On, first-on, wait-on, run-on, last-on, in-batch}
 use Rattle.prefix.proofs.batch_entries.Statement.{statement}
 use Rattle.prefix.proofs.batch_entries.Tie as tie
-use Rattle.prefix.proofs.batch_entries.Reads as reads
-use Rattle.prefix.proofs.batch_entries.Lts as lts
-use Rattle.op_batch.proofs.flag.Reads as flag-reads
-use Rattle.op_batch.proofs.flags.Reads as flags-reads
-use Rattle.op_batch.proofs.start.Reads as start-reads
-use Rattle.prefix.proofs.fill64.Reads as fill64-reads
-use Rattle.prefix.proofs.kept_in.Reads as kept-in-reads
-use Rattle.prefix.proofs.pads_in.Reads as pads-in-reads
 
 abbrev Inv-loop : tie.InvT-loop
 Inv-loop records b padded out₀ entries₀ waiting₀ paddings₀ left₀ g₀ out entries waiting paddings left g =

@@ -11,10 +11,6 @@ use Prim.Native.Nat.{_+_, _-_, _*_, _/_, _≤_}
 use mathlib.Core.Path.{_≡_, refl, ap, _∙_}
 use Rattle.prefix.proofs.fill.Statement.{statement}
 use Rattle.prefix.proofs.fill.Tie as tie
-use Rattle.prefix.proofs.fill.Reads as reads
-use Rattle.prefix.proofs.fill.Lts as lts
-use Rattle.prefix.proofs.batch_entries.Reads as batch-entries-reads
-use Rattle.prefix.proofs.fill64.Reads as fill64-reads
 
 abbrev Inv-loop : tie.InvT-loop
 Inv-loop records padded out₀ n done₀ b₀ out done b =

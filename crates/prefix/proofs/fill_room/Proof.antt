@@ -8,8 +8,6 @@ use Prim.Native.Nat.{_+_, _-_, _≤_}
 use mathlib.Core.Path.{_≡_, refl, sym, _∙_}
 use Rattle.prefix.proofs.fill_room.Statement.{statement}
 use Rattle.prefix.proofs.fill_room.Tie as tie
-use Rattle.prefix.proofs.fill_room.Reads as reads
-use Rattle.prefix.proofs.fill_room.Lts as lts
 
 abbrev Inv-loop : tie.InvT-loop
 Inv-loop out₀ at n v i₀ out i = (i ≤ n) × (length out ≡ length out₀) × (sets out (at + i) (replicate (n - i) v) ≡ sets out₀ at (replicate n v))

@@ -9,9 +9,6 @@ use lib.Seq.{sets}
 use Rattle.rules.proofs.Runs.{fill-turn, fill-end}
 use Rattle.prefix.proofs.fill_some.Statement.{statement}
 use Rattle.prefix.proofs.fill_some.Tie as tie
-use Rattle.prefix.proofs.fill_some.Reads as reads
-use Rattle.prefix.proofs.fill_some.Lts as lts
-use Rattle.word.proofs.store64.Reads as store64-reads
 
 abbrev Inv-loop : tie.InvT-loop
 Inv-loop out₀ at n v i₀ out i = (i ≤ n) × (length out ≡ length out₀) × (sets out (at + i) (replicate (n - i) v) ≡ sets out₀ at (replicate n v))

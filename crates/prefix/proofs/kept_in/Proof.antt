@@ -2,8 +2,6 @@ use native.Mathlib.Omega.{arith}
 use borrow.Author.Needs.{needs}
 use Rattle.prefix.proofs.kept_in.Statement.{statement}
 use Rattle.prefix.proofs.kept_in.Tie as tie
-use Rattle.prefix.proofs.kept_in.Reads as reads
-use Rattle.prefix.proofs.kept_in.Lts as lts
 
 returns : tie.Need-returns
 returns c = search needs

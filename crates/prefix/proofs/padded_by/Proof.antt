@@ -5,8 +5,6 @@ use Prim.Native.Nat.{_+_}
 use borrow.Author.Needs.{needs}
 use Rattle.prefix.proofs.padded_by.Statement.{statement}
 use Rattle.prefix.proofs.padded_by.Tie as tie
-use Rattle.prefix.proofs.padded_by.Reads as reads
-use Rattle.prefix.proofs.padded_by.Lts as lts
 
 sub-if1 : tie.Need-sub-if1
 sub-if1 c = search needs

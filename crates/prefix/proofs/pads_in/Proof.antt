@@ -5,8 +5,6 @@ use borrow.Author.Needs.{needs}
 use borrow.Author.Tests.{eq-eqb, ne-eqb}
 use Rattle.prefix.proofs.pads_in.Statement.{statement}
 use Rattle.prefix.proofs.pads_in.Tie as tie
-use Rattle.prefix.proofs.pads_in.Reads as reads
-use Rattle.prefix.proofs.pads_in.Lts as lts
 
 returns : tie.Need-returns
 returns c = search needs

@@ -1,8 +1,6 @@
 use borrow.Author.Tests.{le-leb, lt-leb}
 use Rattle.prefix.proofs.raw_by.Statement.{statement}
 use Rattle.prefix.proofs.raw_by.Tie as tie
-use Rattle.prefix.proofs.raw_by.Reads as reads
-use Rattle.prefix.proofs.raw_by.Lts as lts
 
 returns : tie.Need-returns
 returns c = let a = c .before .args in simp (lt-leb (a .entry) (a .i .0) (c .if1 .taken))

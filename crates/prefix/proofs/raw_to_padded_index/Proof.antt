@@ -4,9 +4,6 @@ use borrow.Author.Tests.{lt-ltb, le-ltb}
 use borrow.Author.Needs.{needs}
 use Rattle.prefix.proofs.raw_to_padded_index.Statement.{statement}
 use Rattle.prefix.proofs.raw_to_padded_index.Tie as tie
-use Rattle.prefix.proofs.raw_to_padded_index.Reads as reads
-use Rattle.prefix.proofs.raw_to_padded_index.Lts as lts
-use Rattle.prefix.proofs.padded_by.Reads as padded-by-reads
 
 returns : tie.Need-returns
 unfolding paddedIndex

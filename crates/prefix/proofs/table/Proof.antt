@@ -7,11 +7,6 @@ use Rattle.checks.proofs.Passed.{was-good, checked, padding-good, all-fit}
 use Rattle.prefix.proofs.Entries.{refused-way, no-room, made}
 use Rattle.prefix.proofs.table.Statement.{statement}
 use Rattle.prefix.proofs.table.Tie as tie
-use Rattle.prefix.proofs.table.Reads as reads
-use Rattle.prefix.proofs.table.Lts as lts
-use Rattle.checks.proofs.padding.Reads as padding-reads
-use Rattle.prefix.proofs.fill.Reads as fill-reads
-use Rattle.word.proofs.zero_words.Reads as zero-words-reads
 
 padding-requires : tie.Need-padding-requires
 padding-requires c κs = search needs

@@ -2,12 +2,6 @@ use native.Mathlib.Omega.{arith}
 use borrow.Author.Needs.{needs}
 use Rattle.replay.proofs.build.Statement.{statement}
 use Rattle.replay.proofs.build.Tie as tie
-use Rattle.replay.proofs.build.Reads as reads
-use Rattle.replay.proofs.build.Lts as lts
-use Rattle.exports.proofs.oli_build.Reads as oli-build-reads
-use Rattle.replay.proofs.block_is.Reads as block-is-reads
-use Rattle.replay.proofs.made.Reads as made-reads
-use Rattle.replay.proofs.soil.Reads as soil-reads
 
 soil-requires : tie.Need-soil-requires
 soil-requires c κs = search needs

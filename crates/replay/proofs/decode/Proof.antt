@@ -2,13 +2,6 @@ use native.Mathlib.Omega.{arith}
 use borrow.Author.Needs.{needs}
 use Rattle.replay.proofs.decode.Statement.{statement}
 use Rattle.replay.proofs.decode.Tie as tie
-use Rattle.replay.proofs.decode.Reads as reads
-use Rattle.replay.proofs.decode.Lts as lts
-use Rattle.exports.proofs.oli_decode.Reads as oli-decode-reads
-use Rattle.replay.proofs.block_is.Reads as block-is-reads
-use Rattle.replay.proofs.is.Reads as is-reads
-use Rattle.replay.proofs.made.Reads as made-reads
-use Rattle.replay.proofs.soil.Reads as soil-reads
 
 soil-requires : tie.Need-soil-requires
 soil-requires c κs = search needs

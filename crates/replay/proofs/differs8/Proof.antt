@@ -3,10 +3,6 @@ use borrow.Author.Needs.{needs}
 use lib.ListN.{length}
 use Rattle.replay.proofs.differs8.Statement.{statement}
 use Rattle.replay.proofs.differs8.Tie as tie
-use Rattle.replay.proofs.differs8.Reads as reads
-use Rattle.replay.proofs.differs8.Lts as lts
-use Rattle.replay.proofs.item.Reads as item-reads
-use Rattle.word.proofs.wide.Reads as wide-reads
 
 abbrev Inv-loop : tie.InvT-loop
 Inv-loop s from given ours x₀ i₀ x i = i ≤ length ours

@@ -4,9 +4,6 @@ use borrow.Author.Needs.{needs}
 use lib.ListN.{length}
 use Rattle.replay.proofs.files.Statement.{statement}
 use Rattle.replay.proofs.files.Tie as tie
-use Rattle.replay.proofs.files.Reads as reads
-use Rattle.replay.proofs.files.Lts as lts
-use Rattle.replay.proofs.argument.Reads as argument-reads
 
 abbrev Inv-loop : tie.InvT-loop
 Inv-loop count counts₀ i₀ counts i = length counts ≡ length counts₀

@@ -4,9 +4,6 @@ use borrow.Author.Needs.{needs}
 use lib.ListN.{length}
 use Rattle.replay.proofs.fill8.Statement.{statement}
 use Rattle.replay.proofs.fill8.Tie as tie
-use Rattle.replay.proofs.fill8.Reads as reads
-use Rattle.replay.proofs.fill8.Lts as lts
-use Rattle.word.proofs.store8.Reads as store8-reads
 
 abbrev Inv-loop : tie.InvT-loop
 Inv-loop out₀ from to v i₀ out i = length out ≡ length out₀

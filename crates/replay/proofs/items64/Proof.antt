@@ -4,10 +4,6 @@ use borrow.Author.Needs.{needs}
 use lib.ListN.{length}
 use Rattle.replay.proofs.items64.Statement.{statement}
 use Rattle.replay.proofs.items64.Tie as tie
-use Rattle.replay.proofs.items64.Reads as reads
-use Rattle.replay.proofs.items64.Lts as lts
-use Rattle.replay.proofs.number.Reads as number-reads
-use Rattle.word.proofs.store64.Reads as store64-reads
 
 abbrev Inv-loop : tie.InvT-loop
 Inv-loop s from n out₀ at₀ last₀ i₀ out at last i = (i ≤ n) × (length out ≡ length out₀)

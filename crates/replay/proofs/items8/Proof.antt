@@ -4,11 +4,6 @@ use borrow.Author.Needs.{needs}
 use lib.ListN.{length}
 use Rattle.replay.proofs.items8.Statement.{statement}
 use Rattle.replay.proofs.items8.Tie as tie
-use Rattle.replay.proofs.items8.Reads as reads
-use Rattle.replay.proofs.items8.Lts as lts
-use Rattle.replay.proofs.lost.Reads as lost-reads
-use Rattle.replay.proofs.number.Reads as number-reads
-use Rattle.word.proofs.store8.Reads as store8-reads
 
 abbrev Inv-loop : tie.InvT-loop
 Inv-loop s from n out₀ at₀ last₀ i₀ out at last i = (i ≤ n) × (length out ≡ length out₀)

@@ -4,12 +4,6 @@ use lib.Seq.{length-take-le}
 use borrow.Author.Needs.{needs}
 use Rattle.replay.proofs.line.Statement.{statement}
 use Rattle.replay.proofs.line.Tie as tie
-use Rattle.replay.proofs.line.Reads as reads
-use Rattle.replay.proofs.line.Lts as lts
-use Rattle.replay.proofs.dispatch.Reads as dispatch-reads
-use Rattle.replay.proofs.new_table.Reads as new-table-reads
-use Rattle.replay.proofs.number.Reads as number-reads
-use Rattle.replay.proofs.tally.Reads as tally-reads
 
 number-requires : tie.Need-number-requires
 number-requires c κs = search needs

@@ -4,10 +4,6 @@ use borrow.Author.Needs.{needs}
 use lib.ListN.{length}
 use Rattle.replay.proofs.lines.Statement.{statement}
 use Rattle.replay.proofs.lines.Tie as tie
-use Rattle.replay.proofs.lines.Reads as reads
-use Rattle.replay.proofs.lines.Lts as lts
-use Rattle.replay.proofs.line.Reads as line-reads
-use Rattle.text.proofs.line_end.Reads as line-end-reads
 
 abbrev Inv-loop : tie.InvT-loop
 Inv-loop s counts₀ table₀ t₀ from₀ n₀ counts table t from n = (t ≤ length table) × (from ≤ length s) × (n ≤ from) × (256 ≡ length table) × (length counts ≡ length counts₀)

@@ -4,14 +4,6 @@ use lib.Seq.{length-take-le}
 use borrow.Author.Needs.{needs}
 use Rattle.replay.proofs.on_block.Statement.{statement}
 use Rattle.replay.proofs.on_block.Tie as tie
-use Rattle.replay.proofs.on_block.Reads as reads
-use Rattle.replay.proofs.on_block.Lts as lts
-use Rattle.replay.proofs.bytes.Reads as bytes-reads
-use Rattle.replay.proofs.with_block.Reads as with-block-reads
-use Rattle.replay.proofs.words.Reads as words-reads
-use Rattle.space.proofs.codes.Reads as codes-reads
-use Rattle.space.proofs.records.Reads as records-reads
-use Rattle.space.proofs.values.Reads as values-reads
 
 codes-requires : tie.Need-codes-requires
 codes-requires c κs = search needs

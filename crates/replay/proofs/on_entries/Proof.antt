@@ -4,12 +4,6 @@ use lib.Seq.{length-take-le}
 use borrow.Author.Needs.{needs}
 use Rattle.replay.proofs.on_entries.Statement.{statement}
 use Rattle.replay.proofs.on_entries.Tie as tie
-use Rattle.replay.proofs.on_entries.Reads as reads
-use Rattle.replay.proofs.on_entries.Lts as lts
-use Rattle.replay.proofs.index.Reads as index-reads
-use Rattle.replay.proofs.number.Reads as number-reads
-use Rattle.replay.proofs.words.Reads as words-reads
-use Rattle.space.proofs.values.Reads as values-reads
 
 values-requires : tie.Need-values-requires
 values-requires c κs = search needs

@@ -4,13 +4,6 @@ use lib.Seq.{length-take-le}
 use borrow.Author.Needs.{needs}
 use Rattle.replay.proofs.on_list.Statement.{statement}
 use Rattle.replay.proofs.on_list.Tie as tie
-use Rattle.replay.proofs.on_list.Reads as reads
-use Rattle.replay.proofs.on_list.Lts as lts
-use Rattle.replay.proofs.to_block.Reads as to-block-reads
-use Rattle.replay.proofs.bytes.Reads as bytes-reads
-use Rattle.replay.proofs.words.Reads as words-reads
-use Rattle.space.proofs.codes.Reads as codes-reads
-use Rattle.space.proofs.values.Reads as values-reads
 
 codes-requires : tie.Need-codes-requires
 codes-requires c κs = search needs

@@ -4,13 +4,6 @@ use lib.Seq.{length-take-le}
 use borrow.Author.Needs.{needs}
 use Rattle.replay.proofs.on_record.Statement.{statement}
 use Rattle.replay.proofs.on_record.Tie as tie
-use Rattle.replay.proofs.on_record.Reads as reads
-use Rattle.replay.proofs.on_record.Lts as lts
-use Rattle.replay.proofs.bytes.Reads as bytes-reads
-use Rattle.replay.proofs.group.Reads as group-reads
-use Rattle.replay.proofs.next_group.Reads as next-group-reads
-use Rattle.replay.proofs.number.Reads as number-reads
-use Rattle.space.proofs.records.Reads as records-reads
 
 records-requires : tie.Need-records-requires
 records-requires c κs = search needs

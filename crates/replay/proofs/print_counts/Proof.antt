@@ -2,10 +2,6 @@ use Prim.Native.Nat.{_-_, _≤_}
 use borrow.Author.Needs.{needs}
 use Rattle.replay.proofs.print_counts.Statement.{statement}
 use Rattle.replay.proofs.print_counts.Tie as tie
-use Rattle.replay.proofs.print_counts.Reads as reads
-use Rattle.replay.proofs.print_counts.Lts as lts
-use Rattle.replay.proofs.counted.Reads as counted-reads
-use Rattle.replay.proofs.print_count.Reads as print-count-reads
 
 abbrev Inv-loop : tie.InvT-loop
 Inv-loop counts what₀ what = what ≤ 13

@@ -2,9 +2,6 @@ use Prim.Native.Nat.{_-_, _≤_}
 use borrow.Author.Needs.{needs}
 use Rattle.replay.proofs.skip.Statement.{statement}
 use Rattle.replay.proofs.skip.Tie as tie
-use Rattle.replay.proofs.skip.Reads as reads
-use Rattle.replay.proofs.skip.Lts as lts
-use Rattle.replay.proofs.number.Reads as number-reads
 
 abbrev Inv-loop : tie.InvT-loop
 Inv-loop s from n at₀ i₀ at i = i ≤ n

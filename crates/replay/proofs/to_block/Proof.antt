@@ -4,13 +4,6 @@ use lib.Seq.{length-take-le}
 use borrow.Author.Needs.{needs}
 use Rattle.replay.proofs.to_block.Statement.{statement}
 use Rattle.replay.proofs.to_block.Tie as tie
-use Rattle.replay.proofs.to_block.Reads as reads
-use Rattle.replay.proofs.to_block.Lts as lts
-use Rattle.replay.proofs.block_room.Reads as block-room-reads
-use Rattle.replay.proofs.build.Reads as build-reads
-use Rattle.space.proofs.codes.Reads as codes-reads
-use Rattle.space.proofs.records.Reads as records-reads
-use Rattle.space.proofs.values.Reads as values-reads
 
 block-room-requires : tie.Need-block-room-requires
 block-room-requires c κs = search needs

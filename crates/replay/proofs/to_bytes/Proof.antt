@@ -4,12 +4,6 @@ use lib.Seq.{length-take-le}
 use borrow.Author.Needs.{needs}
 use Rattle.replay.proofs.to_bytes.Statement.{statement}
 use Rattle.replay.proofs.to_bytes.Tie as tie
-use Rattle.replay.proofs.to_bytes.Reads as reads
-use Rattle.replay.proofs.to_bytes.Lts as lts
-use Rattle.replay.proofs.bytes.Reads as bytes-reads
-use Rattle.replay.proofs.encode.Reads as encode-reads
-use Rattle.replay.proofs.number.Reads as number-reads
-use Rattle.space.proofs.records.Reads as records-reads
 
 records-requires : tie.Need-records-requires
 records-requires c κs = search needs

@@ -4,11 +4,6 @@ use lib.Seq.{length-take-le}
 use borrow.Author.Needs.{needs}
 use Rattle.replay.proofs.to_table.Statement.{statement}
 use Rattle.replay.proofs.to_table.Tie as tie
-use Rattle.replay.proofs.to_table.Reads as reads
-use Rattle.replay.proofs.to_table.Lts as lts
-use Rattle.replay.proofs.index_table.Reads as index-table-reads
-use Rattle.replay.proofs.room.Reads as room-reads
-use Rattle.space.proofs.values.Reads as values-reads
 
 room-requires : tie.Need-room-requires
 room-requires c κs = search needs

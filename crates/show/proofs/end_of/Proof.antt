@@ -10,9 +10,6 @@ use mir.Val.{Fits, toZ, ofZ}
 use mir.ValLaws.{toZ-ofZ}
 use Rattle.show.proofs.end_of.Statement.{statement}
 use Rattle.show.proofs.end_of.Tie as tie
-use Rattle.show.proofs.end_of.Reads as reads
-use Rattle.show.proofs.end_of.Lts as lts
-use Rattle.libc.proofs.lseek.Reads as lseek-reads
 
 lseek-requires : tie.Need-lseek-requires
 lseek-requires c κs = search needs

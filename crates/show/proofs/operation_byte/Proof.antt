@@ -2,11 +2,6 @@ use Prim.Native.Nat.{_-_, _≤_}
 use borrow.Author.Needs.{needs}
 use Rattle.show.proofs.operation_byte.Statement.{statement}
 use Rattle.show.proofs.operation_byte.Tie as tie
-use Rattle.show.proofs.operation_byte.Reads as reads
-use Rattle.show.proofs.operation_byte.Lts as lts
-use Rattle.console.proofs.byte.Reads as byte-reads
-use Rattle.listing.proofs.op_size.Reads as op-size-reads
-use Rattle.listing.proofs.plus.Reads as plus-reads
 
 abbrev Inv-loop : tie.InvT-loop
 Inv-loop s first i at₀ k₀ at k = k ≤ i

@@ -3,10 +3,6 @@ use borrow.Author.Needs.{needs}
 use lib.ListN.{length}
 use Rattle.text.proofs.end.Statement.{statement}
 use Rattle.text.proofs.end.Tie as tie
-use Rattle.text.proofs.end.Reads as reads
-use Rattle.text.proofs.end.Lts as lts
-use Rattle.text.proofs.base.Reads as base-reads
-use Rattle.text.proofs.digit.Reads as digit-reads
 
 abbrev Inv-loop : tie.InvT-loop
 Inv-loop s from hex b at₀ at = (from ≤ at) × (at ≤ length s)

@@ -3,8 +3,6 @@ use borrow.Author.Needs.{needs}
 use lib.ListN.{length}
 use Rattle.text.proofs.line_end.Statement.{statement}
 use Rattle.text.proofs.line_end.Tie as tie
-use Rattle.text.proofs.line_end.Reads as reads
-use Rattle.text.proofs.line_end.Lts as lts
 
 abbrev Inv-loop : tie.InvT-loop
 Inv-loop s from at₀ at = (from ≤ at) × (at ≤ length s)

@@ -3,11 +3,6 @@ use borrow.Author.Needs.{needs}
 use lib.ListN.{length}
 use Rattle.text.proofs.whole.Statement.{statement}
 use Rattle.text.proofs.whole.Tie as tie
-use Rattle.text.proofs.whole.Reads as reads
-use Rattle.text.proofs.whole.Lts as lts
-use Rattle.text.proofs.base.Reads as base-reads
-use Rattle.text.proofs.digit.Reads as digit-reads
-use Rattle.text.proofs.with_digit.Reads as with-digit-reads
 
 abbrev Inv-loop : tie.InvT-loop
 Inv-loop text hex b v₀ i₀ v i = (i ≤ length text) × (b ≤ 16)

@@ -3,9 +3,6 @@ use borrow.Author.Needs.{needs}
 use lib.ListN.{length}
 use Rattle.text.proofs.word_end.Statement.{statement}
 use Rattle.text.proofs.word_end.Tie as tie
-use Rattle.text.proofs.word_end.Reads as reads
-use Rattle.text.proofs.word_end.Lts as lts
-use Rattle.text.proofs.parts.Reads as parts-reads
 
 abbrev Inv-loop : tie.InvT-loop
 Inv-loop line from at₀ at = (from ≤ at) × (at ≤ length line)

@@ -3,9 +3,6 @@ use borrow.Author.Needs.{needs}
 use lib.ListN.{length}
 use Rattle.text.proofs.word_start.Statement.{statement}
 use Rattle.text.proofs.word_start.Tie as tie
-use Rattle.text.proofs.word_start.Reads as reads
-use Rattle.text.proofs.word_start.Lts as lts
-use Rattle.text.proofs.blank.Reads as blank-reads
 
 abbrev Inv-loop : tie.InvT-loop
 Inv-loop line from at₀ at = (from ≤ at) × (at ≤ length line)

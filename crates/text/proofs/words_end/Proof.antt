@@ -3,9 +3,6 @@ use borrow.Author.Needs.{needs}
 use lib.ListN.{length}
 use Rattle.text.proofs.words_end.Statement.{statement}
 use Rattle.text.proofs.words_end.Tie as tie
-use Rattle.text.proofs.words_end.Reads as reads
-use Rattle.text.proofs.words_end.Lts as lts
-use Rattle.text.proofs.blank.Reads as blank-reads
 
 abbrev Inv-loop : tie.InvT-loop
 Inv-loop line end₀ at₀ end at = (end ≤ at) × (at ≤ length line)

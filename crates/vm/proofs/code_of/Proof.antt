@@ -3,9 +3,6 @@ use borrow.Author.Needs.{needs}
 use lib.ListN.{length}
 use Rattle.vm.proofs.code_of.Statement.{statement}
 use Rattle.vm.proofs.code_of.Tie as tie
-use Rattle.vm.proofs.code_of.Reads as reads
-use Rattle.vm.proofs.code_of.Lts as lts
-use Rattle.vm.proofs.is_named.Reads as is-named-reads
 
 abbrev Inv-loop : tie.InvT-loop
 Inv-loop name code₀ code = (code ≤ 128) × (0 < length name)

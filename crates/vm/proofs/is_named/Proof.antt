@@ -3,10 +3,6 @@ use borrow.Author.Needs.{needs}
 use lib.ListN.{length}
 use Rattle.vm.proofs.is_named.Statement.{statement}
 use Rattle.vm.proofs.is_named.Tie as tie
-use Rattle.vm.proofs.is_named.Reads as reads
-use Rattle.vm.proofs.is_named.Lts as lts
-use Rattle.vm.proofs.name_byte.Reads as name-byte-reads
-use Rattle.vm.proofs.small.Reads as small-reads
 
 abbrev Inv-loop : tie.InvT-loop
 Inv-loop code name i₀ i = i ≤ length name

@@ -2,8 +2,6 @@ use borrow.Author.Tests.{le-ltb, lt-ltb}
 use Rattle.rules.specs.Bytes.{more}
 use Rattle.wire.proofs.count_size.Statement.{statement}
 use Rattle.wire.proofs.count_size.Tie as tie
-use Rattle.wire.proofs.count_size.Reads as reads
-use Rattle.wire.proofs.count_size.Lts as lts
 
 returns : tie.Need-returns
 unfolding more

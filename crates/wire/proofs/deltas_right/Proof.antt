@@ -3,11 +3,10 @@ use native.Mathlib.Omega.{arith}
 use Prim.Native.Nat.{_+_, _-_, _/_, _%_, _≤_}
 use Rattle.rules.specs.Digits.{digits}
 use Rattle.rules.specs.Bytes.{upTo}
-use Rattle.wire.proofs.Laws.{digits-turn, digits-end, up-to-stop, up-to-turn, up-to-end}
+use Rattle.rules.proofs.Digits.{digits-turn, digits-end}
+use Rattle.wire.proofs.Laws.{up-to-stop, up-to-turn, up-to-end}
 use Rattle.wire.proofs.deltas_right.Statement.{statement}
 use Rattle.wire.proofs.deltas_right.Tie as tie
-use Rattle.wire.proofs.deltas_right.Reads as reads
-use Rattle.wire.proofs.deltas_right.Lts as lts
 
 abbrev Inv-loop : tie.InvT-loop
 Inv-loop v left₀ i₀ left i = (i ≤ 8) × (upTo 9 (digits 16 (8 - i) left) ≡ upTo 9 (digits 16 8 v))

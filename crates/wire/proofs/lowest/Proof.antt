@@ -3,8 +3,6 @@ use native.Mathlib.Omega.{arith}
 use borrow.Author.Needs.{needs}
 use Rattle.wire.proofs.lowest.Statement.{statement}
 use Rattle.wire.proofs.lowest.Tie as tie
-use Rattle.wire.proofs.lowest.Reads as reads
-use Rattle.wire.proofs.lowest.Lts as lts
 
 returns : tie.Need-returns
 returns c = search needs

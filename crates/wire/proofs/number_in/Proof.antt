@@ -6,10 +6,6 @@ use Rattle.rules.proofs.Digits.{leAt-split}
 use borrow.Author.Needs.{needs}
 use Rattle.wire.proofs.number_in.Statement.{statement}
 use Rattle.wire.proofs.number_in.Tie as tie
-use Rattle.wire.proofs.number_in.Reads as reads
-use Rattle.wire.proofs.number_in.Lts as lts
-use Rattle.word.proofs.le2.Reads as le2-reads
-use Rattle.word.proofs.wide.Reads as wide-reads
 
 shared-slice-read-wide : tie.Need-shared-slice-read-wide
 shared-slice-read-wide c = search needs

@@ -8,9 +8,6 @@ use Rattle.rules.specs.Bytes.{batchCountAt}
 use borrow.Author.Needs.{needs}
 use Rattle.wire.proofs.read_batch_count.Statement.{statement}
 use Rattle.wire.proofs.read_batch_count.Tie as tie
-use Rattle.wire.proofs.read_batch_count.Reads as reads
-use Rattle.wire.proofs.read_batch_count.Lts as lts
-use Rattle.word.proofs.le4.Reads as le4-reads
 
 returns : tie.Need-returns
 unfolding batchCountAt

@@ -9,10 +9,6 @@ use Rattle.rules.specs.Bytes.{countAt, countBy, least}
 use borrow.Author.Needs.{needs}
 use Rattle.wire.proofs.read_count.Statement.{statement}
 use Rattle.wire.proofs.read_count.Tie as tie
-use Rattle.wire.proofs.read_count.Reads as reads
-use Rattle.wire.proofs.read_count.Lts as lts
-use Rattle.wire.proofs.lowest.Reads as lowest-reads
-use Rattle.wire.proofs.number_in.Reads as number-in-reads
 
 returns : tie.Need-returns
 unfolding countAt

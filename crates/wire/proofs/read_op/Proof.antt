@@ -8,9 +8,6 @@ use Rattle.rules.proofs.Operations.{kind-at}
 use borrow.Author.Needs.{needs}
 use Rattle.wire.proofs.read_op.Statement.{statement}
 use Rattle.wire.proofs.read_op.Tie as tie
-use Rattle.wire.proofs.read_op.Reads as reads
-use Rattle.wire.proofs.read_op.Lts as lts
-use Rattle.wire.proofs.read_value.Reads as read-value-reads
 
 returns : tie.Need-returns
 unfolding opAt

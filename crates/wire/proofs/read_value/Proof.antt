@@ -9,9 +9,6 @@ use Rattle.rules.specs.Bytes.{valueAt}
 use borrow.Author.Needs.{needs}
 use Rattle.wire.proofs.read_value.Statement.{statement}
 use Rattle.wire.proofs.read_value.Tie as tie
-use Rattle.wire.proofs.read_value.Reads as reads
-use Rattle.wire.proofs.read_value.Lts as lts
-use Rattle.word.proofs.le8.Reads as le8-reads
 
 sub-if1 : tie.Need-sub-if1
 sub-if1 c = search needs

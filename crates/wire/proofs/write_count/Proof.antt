@@ -11,9 +11,6 @@ use Rattle.rules.proofs.Sizes.{more-0, more-1, more-2}
 use borrow.Author.Needs.{needs}
 use Rattle.wire.proofs.write_count.Statement.{statement}
 use Rattle.wire.proofs.write_count.Tie as tie
-use Rattle.wire.proofs.write_count.Reads as reads
-use Rattle.wire.proofs.write_count.Lts as lts
-use Rattle.word.proofs.put2.Reads as put2-reads
 
 mul-out : tie.Need-mul-out
 mul-out c = search needs

@@ -10,9 +10,6 @@ use Rattle.wire.proofs.Laws.{op-plain, op-valued}
 use borrow.Author.Needs.{needs}
 use Rattle.wire.proofs.write_op.Statement.{statement}
 use Rattle.wire.proofs.write_op.Tie as tie
-use Rattle.wire.proofs.write_op.Reads as reads
-use Rattle.wire.proofs.write_op.Lts as lts
-use Rattle.word.proofs.put8.Reads as put8-reads
 
 shared-slice-read-kind : tie.Need-shared-slice-read-kind
 shared-slice-read-kind c = search needs

@@ -2,17 +2,13 @@ use native.Mathlib.Nat.{add-zero, sub-zero}
 use mathlib.Core.Path.{_≡_, refl, sym, ap, _∙_}
 use native.Mathlib.Omega.{arith}
 use borrow.Author.Needs.{needs}
-use Prim.Native.Nat.{ℕ, _≤_, _-_, _+_, _/_, _%_}
-use lib.ListN.{length, replicate, length-set}
+use Prim.Native.Nat.{ℕ, _≤_, _-_, _+_}
+use lib.ListN.{length, replicate}
 use lib.Seq.{sets}
 use mathlib.Core.List.{List}
-use Rattle.rules.proofs.Runs.{fill-turn, fill-end, bytes-turn, bytes-end}
-use Rattle.rules.specs.Digits.{digits, leBytes}
+use Rattle.rules.proofs.Runs.{fill-turn, fill-end}
 use Rattle.word.proofs.fill8.Statement.{statement}
 use Rattle.word.proofs.fill8.Tie as tie
-use Rattle.word.proofs.fill8.Reads as reads
-use Rattle.word.proofs.fill8.Lts as lts
-use Rattle.word.proofs.store8.Reads as store8-reads
 
 abbrev Inv-loop : tie.InvT-loop
 Inv-loop out₀ at n v i₀ out i = (i ≤ n) × (length out ≡ length out₀) × (sets out (at + i) (replicate (n - i) v) ≡ sets out₀ at (replicate n v))

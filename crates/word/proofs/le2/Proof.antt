@@ -3,9 +3,6 @@ use Rattle.rules.specs.Digits.{leAt}
 use borrow.Author.Needs.{needs}
 use Rattle.word.proofs.le2.Statement.{statement}
 use Rattle.word.proofs.le2.Tie as tie
-use Rattle.word.proofs.le2.Reads as reads
-use Rattle.word.proofs.le2.Lts as lts
-use Rattle.word.proofs.wide.Reads as wide-reads
 
 shared-slice-read-wide : tie.Need-shared-slice-read-wide
 shared-slice-read-wide c = search needs

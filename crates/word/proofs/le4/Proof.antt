@@ -4,9 +4,6 @@ use Rattle.rules.proofs.Digits.{leAt-split}
 use borrow.Author.Needs.{needs}
 use Rattle.word.proofs.le4.Statement.{statement}
 use Rattle.word.proofs.le4.Tie as tie
-use Rattle.word.proofs.le4.Reads as reads
-use Rattle.word.proofs.le4.Lts as lts
-use Rattle.word.proofs.le2.Reads as le2-reads
 
 le2-requires : tie.Need-le2-requires
 le2-requires c κs = search needs

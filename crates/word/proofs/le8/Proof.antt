@@ -4,9 +4,6 @@ use Rattle.rules.proofs.Digits.{leAt-split}
 use borrow.Author.Needs.{needs}
 use Rattle.word.proofs.le8.Statement.{statement}
 use Rattle.word.proofs.le8.Tie as tie
-use Rattle.word.proofs.le8.Reads as reads
-use Rattle.word.proofs.le8.Lts as lts
-use Rattle.word.proofs.le4.Reads as le4-reads
 
 le4-requires : tie.Need-le4-requires
 le4-requires c κs = search needs

@@ -1,12 +1,10 @@
 use lib.ListN.{length-set}
 use native.Mathlib.Numerals.{add-one}
 use native.Mathlib.Omega.{arith}
-use Rattle.rules.specs.Digits.{digits, leBytes}
+use Rattle.rules.specs.Digits.{digits}
 use borrow.Author.Needs.{needs}
 use Rattle.word.proofs.put2.Statement.{statement}
 use Rattle.word.proofs.put2.Tie as tie
-use Rattle.word.proofs.put2.Reads as reads
-use Rattle.word.proofs.put2.Lts as lts
 
 cast-out : tie.Need-cast-out
 cast-out c = search needs

@@ -1,14 +1,8 @@
 use Rattle.rules.proofs.Digits.{length-leBytes}
-use Rattle.rules.specs.Digits.{digits, leBytes}
-use denote.Ref.{now}
-use mathlib.Core.Path.{_∙_, sym, ap}
 use Rattle.rules.proofs.Digits.{leBytes-split, sets-append}
 use borrow.Author.Needs.{needs}
 use Rattle.word.proofs.put4.Statement.{statement}
 use Rattle.word.proofs.put4.Tie as tie
-use Rattle.word.proofs.put4.Reads as reads
-use Rattle.word.proofs.put4.Lts as lts
-use Rattle.word.proofs.put2.Reads as put2-reads
 
 put2-requires : tie.Need-put2-requires
 put2-requires c κs = search needs

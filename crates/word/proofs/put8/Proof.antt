@@ -1,14 +1,8 @@
 use Rattle.rules.proofs.Digits.{length-leBytes}
-use Rattle.rules.specs.Digits.{digits, leBytes}
-use denote.Ref.{now}
-use mathlib.Core.Path.{_∙_, sym, ap}
 use Rattle.rules.proofs.Digits.{leBytes-split, sets-append}
 use borrow.Author.Needs.{needs}
 use Rattle.word.proofs.put8.Statement.{statement}
 use Rattle.word.proofs.put8.Tie as tie
-use Rattle.word.proofs.put8.Reads as reads
-use Rattle.word.proofs.put8.Lts as lts
-use Rattle.word.proofs.put4.Reads as put4-reads
 
 put4-requires : tie.Need-put4-requires
 put4-requires c κs = search needs

@@ -1,18 +1,15 @@
-use native.Mathlib.Nat.{add-zero, sub-zero}
+use native.Mathlib.Nat.{add-zero}
 use mathlib.Core.Path.{_≡_, refl, sym, ap, _∙_}
 use native.Mathlib.Omega.{arith}
 use borrow.Author.Needs.{needs}
-use Prim.Native.Nat.{ℕ, _≤_, _-_, _+_, _/_, _%_}
-use lib.ListN.{length, replicate, length-set}
+use Prim.Native.Nat.{ℕ, _≤_, _-_, _+_, _/_}
+use lib.ListN.{length}
 use lib.Seq.{sets}
 use mathlib.Core.List.{List}
-use Rattle.rules.proofs.Runs.{fill-turn, fill-end, bytes-turn, bytes-end}
-use Rattle.rules.specs.Digits.{digits, leBytes}
+use Rattle.rules.proofs.Runs.{bytes-turn, bytes-end}
+use Rattle.rules.specs.Digits.{leBytes}
 use Rattle.word.proofs.put_some.Statement.{statement}
 use Rattle.word.proofs.put_some.Tie as tie
-use Rattle.word.proofs.put_some.Reads as reads
-use Rattle.word.proofs.put_some.Lts as lts
-use Rattle.word.proofs.store8.Reads as store8-reads
 
 abbrev Inv-loop : tie.InvT-loop
 Inv-loop out₀ at v left₀ i₀ out left i = (i ≤ 8) × (length out ≡ length out₀) × (sets out (at + i) (leBytes (8 - i) left) ≡ sets out₀ at (leBytes 8 v))

@@ -1,10 +1,8 @@
-use mathlib.Core.Path.{_≡_, refl, sym, ap, _∙_}
+use mathlib.Core.Path.{sym}
 use lib.Seq.{set-out}
 use borrow.Author.Needs.{needs}
 use Rattle.word.proofs.store64.Statement.{statement}
 use Rattle.word.proofs.store64.Tie as tie
-use Rattle.word.proofs.store64.Reads as reads
-use Rattle.word.proofs.store64.Lts as lts
 
 mul-out : tie.Need-mul-out
 mul-out c = search needs

@@ -1,10 +1,8 @@
-use mathlib.Core.Path.{_≡_, refl, sym, ap, _∙_}
+use mathlib.Core.Path.{sym}
 use lib.Seq.{set-out}
 use borrow.Author.Needs.{needs}
 use Rattle.word.proofs.store8.Statement.{statement}
 use Rattle.word.proofs.store8.Tie as tie
-use Rattle.word.proofs.store8.Reads as reads
-use Rattle.word.proofs.store8.Lts as lts
 
 slice-write-out : tie.Need-slice-write-out
 slice-write-out c = search needs

@@ -7,8 +7,6 @@ use Prim.Native.Nat.{_-_}
 use mathlib.Core.Path.{_≡_, refl, _∙_, sym}
 use Rattle.word.proofs.zero_words.Statement.{statement}
 use Rattle.word.proofs.zero_words.Tie as tie
-use Rattle.word.proofs.zero_words.Reads as reads
-use Rattle.word.proofs.zero_words.Lts as lts
 
 abbrev Inv-loop : tie.InvT-loop
 Inv-loop out₀ k i₀ out i =

@@ -12,10 +12,6 @@ use Rattle.op_batch.proofs.Right.{sound}
 use Rattle.op_batch.proofs.Places.{full-end, next-after}
 use Rattle.op_batch.proofs.OpBatch.next_op_group_index.Statement.{statement}
 use Rattle.op_batch.proofs.OpBatch.next_op_group_index.Tie as tie
-use Rattle.op_batch.proofs.OpBatch.next_op_group_index.Reads as reads
-use Rattle.op_batch.proofs.OpBatch.next_op_group_index.Lts as lts
-use Rattle.op_batch.proofs.OpBatch.right.Reads as right-reads
-use Rattle.op_batch.proofs.next_from.Reads as next-from-reads
 
 right-requires : tie.Need-right-requires
 right-requires c κs = search needs

@@ -8,10 +8,6 @@ use Rattle.op_batch.specs.OpBatch.{recordIn}
 use Rattle.op_batch.proofs.Right.{sound}
 use Rattle.op_batch.proofs.OpBatch.op_idx_in_batch_to_group.Statement.{statement}
 use Rattle.op_batch.proofs.OpBatch.op_idx_in_batch_to_group.Tie as tie
-use Rattle.op_batch.proofs.OpBatch.op_idx_in_batch_to_group.Reads as reads
-use Rattle.op_batch.proofs.OpBatch.op_idx_in_batch_to_group.Lts as lts
-use Rattle.op_batch.proofs.OpBatch.right.Reads as right-reads
-use Rattle.op_batch.proofs.group_of.Reads as group-of-reads
 
 right-requires : tie.Need-right-requires
 right-requires c κs = search needs

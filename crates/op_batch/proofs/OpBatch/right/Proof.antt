@@ -9,9 +9,6 @@ use Rattle.op_batch.proofs.Bytes.{bytes-all}
 use Rattle.op_batch.specs.OpBatch.{layout}
 use Rattle.op_batch.proofs.OpBatch.right.Statement.{statement}
 use Rattle.op_batch.proofs.OpBatch.right.Tie as tie
-use Rattle.op_batch.proofs.OpBatch.right.Reads as reads
-use Rattle.op_batch.proofs.OpBatch.right.Lts as lts
-use Rattle.op_batch.proofs.layout_right.Reads as layout-right-reads
 
 slice-aggregate-layout-right : tie.Need-slice-aggregate-layout-right
 slice-aggregate-layout-right c = search needs

@@ -1,0 +1,5 @@
+pub mod Places
+pub mod Good
+pub mod Draft
+pub mod Groups
+pub mod View

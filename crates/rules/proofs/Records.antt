@@ -1,0 +1,84 @@
+-- Records in a run of bytes: how long they are, and that they are read as they were written. Assumes nothing.
+use mathlib.Core.Path.{_≡_, refl, sym, ap, ap₂, _∙_}
+use mathlib.Core.List.{List, [], _∷_, _++_, append-assoc, append-nil}
+use Prim.Native.Nat.{ℕ, _+_, _*_, _/_, _^_, _<_}
+use native.Mathlib.Omega.{arith}
+use lib.ListN.{length, getD, length-append}
+use lib.Seq.{append-snoc, getD-append-seam}
+use Rattle.rules.specs.Lists.{inRow, All}
+use Rattle.rules.specs.Digits.{leAt, leBytes}
+use Rattle.rules.specs.Record.{Record, NineAndEight, recordSize, wordBytes, recordBytes, recordsBytes, bytesAt, wordsAt, recordAt, recordsFrom, recordsIn}
+use Rattle.rules.proofs.Digits.{leAt-back, length-leBytes}
+use Rattle.rules.proofs.Sizes.{length-words}
+
+bytes-back : (xs p q : List ℕ) → bytesAt (length xs) (p ++ (xs ++ q)) (length p) ≡ xs
+unfolding bytesAt
+bytes-back [] p q = refl
+bytes-back (x ∷ xs) p q =
+    let ih = bytes-back xs (p ++ (x ∷ [])) q in
+    let e : length (p ++ (x ∷ [])) ≡ length p + 1 = length-append p (x ∷ []) in
+    ap₂ (λ (a : ℕ) (r : List ℕ). a ∷ r) (getD-append-seam p x (xs ++ q) 0)
+    (ap₂ (λ (l : List ℕ) (k : ℕ). bytesAt (length xs) l k) (sym (append-snoc p x (xs ++ q))) (sym e) ∙ ih)
+
+words-back : (ns p q : List ℕ) → All (λ n. n < 256 ^ 8) ns → wordsAt (length ns) (p ++ (wordBytes ns ++ q)) (length p) ≡ ns
+unfolding wordsAt inRow
+words-back [] p q h = refl
+words-back (n ∷ ns) p q h =
+    let b = leBytes 8 n in
+    let e : length (p ++ b) ≡ length p + 8 = length-append p b ∙ ap (λ (k : ℕ). length p + k) (length-leBytes 8 n) in
+    let s : p ++ (b ++ wordBytes ns ++ q) ≡ p ++ (b ++ (wordBytes ns ++ q)) = ap (λ (l : List ℕ). p ++ l) (append-assoc b (wordBytes ns) q) in
+    ap₂ (λ (a : ℕ) (r : List ℕ). a ∷ r) (ap (λ (l : List ℕ). leAt 8 l (length p)) s ∙ leAt-back 8 n p (wordBytes ns ++ q) (h .0))
+    (ap₂ (λ (l : List ℕ) (k : ℕ). wordsAt (length ns) l k) (s ∙ sym (append-assoc p b (wordBytes ns ++ q))) (sym e) ∙ words-back ns (p ++ b) q (h .1))
+
+-- a record that fits its bytes
+pub record Sized (r : Record) : Type 0 where
+  pub whole : NineAndEight r
+  pub small : All (λ n. n < 256 ^ 8) (r .numbers)
+
+pub record-back : (p q : List ℕ) (r : Record) (b : ℕ) → length p ≡ recordSize * b → Sized r → recordAt (p ++ (recordBytes r ++ q)) b ≡ r
+unfolding recordAt recordBytes
+record-back p q r b e h =
+    let s = r .starts in
+    let f = r .flags in
+    let w = wordBytes (r .numbers) in
+    let c = r .count ∷ [] in
+    let all = p ++ (s ++ (f ++ (w ++ c)) ++ q) in
+    let lw : length w ≡ 64 = length-words (r .numbers) ∙ ap (λ (k : ℕ). 8 * k) (h .whole .numbers) in
+    let a1 : all ≡ p ++ (s ++ (f ++ (w ++ c) ++ q)) = ap (λ (l : List ℕ). p ++ l) (append-assoc s (f ++ (w ++ c)) q) in
+    let a2 : all ≡ (p ++ s) ++ (f ++ (w ++ c ++ q)) = a1 ∙ sym (append-assoc p s (f ++ (w ++ c) ++ q)) ∙ ap (λ (l : List ℕ). (p ++ s) ++ l) (append-assoc f (w ++ c) q) in
+    let a3 : all ≡ ((p ++ s) ++ f) ++ (w ++ (c ++ q)) = a2 ∙ sym (append-assoc (p ++ s) f (w ++ c ++ q)) ∙ ap (λ (l : List ℕ). ((p ++ s) ++ f) ++ l) (append-assoc w c q) in
+    let a4 : all ≡ (((p ++ s) ++ f) ++ w) ++ (r .count ∷ q) = a3 ∙ sym (append-assoc ((p ++ s) ++ f) w (c ++ q)) in
+    let l1 : length (p ++ s) ≡ recordSize * b + 9 = length-append p s ∙ ap₂ (λ (x y : ℕ). x + y) e (h .whole .starts) in
+    let l2 : length ((p ++ s) ++ f) ≡ recordSize * b + 17 = omega (arith, length-append (p ++ s) f, l1, h .whole .flags) in
+    let l3 : length (((p ++ s) ++ f) ++ w) ≡ recordSize * b + 81 = omega (arith, length-append ((p ++ s) ++ f) w, l2, lw) in
+    let e1 : bytesAt 9 all (recordSize * b) ≡ s = (λ j. bytesAt (sym (h .whole .starts) j) (a1 j) (sym e j)) ∙ bytes-back s p (f ++ (w ++ c) ++ q) in
+    let e2 : bytesAt 8 all (recordSize * b + 9) ≡ f = (λ j. bytesAt (sym (h .whole .flags) j) (a2 j) (sym l1 j)) ∙ bytes-back f (p ++ s) (w ++ c ++ q) in
+    let e3 : wordsAt 8 all (recordSize * b + 17) ≡ r .numbers = (λ j. wordsAt (sym (h .whole .numbers) j) (a3 j) (sym l2 j)) ∙ words-back (r .numbers) ((p ++ s) ++ f) (c ++ q) (h .small) in
+    let e4 : getD all (recordSize * b + 81) 0 ≡ r .count = (λ j. getD (a4 j) (sym l3 j) 0) ∙ getD-append-seam (((p ++ s) ++ f) ++ w) (r .count) q 0 in
+    λ j. record { starts = e1 j; flags = e2 j; numbers = e3 j; count = e4 j }
+
+pub record-length : (r : Record) → NineAndEight r → length (recordBytes r) ≡ recordSize
+unfolding recordBytes
+record-length r h = simp length-append (omega (arith, h .starts, h .flags, length-words (r .numbers), h .numbers))
+
+pub records-length : (rs : List Record) → All Sized rs → length (recordsBytes rs) ≡ recordSize * length rs
+unfolding inRow
+records-length [] h = refl
+records-length (r ∷ rs) h = length-append (recordBytes r) (recordsBytes rs) ∙ omega (arith, record-length r (h .0 .whole), records-length rs (h .1))
+
+records-from : (rs : List Record) (p q : List ℕ) (b : ℕ) → length p ≡ recordSize * b → All Sized rs → recordsFrom (length rs) (p ++ (recordsBytes rs ++ q)) b ≡ rs
+unfolding recordsFrom inRow
+records-from [] p q b e h = refl
+records-from (r ∷ rs) p q b e h =
+    let x = recordBytes r in
+    let y = recordsBytes rs in
+    let l : length (p ++ x) ≡ recordSize * (b + 1) = length-append p x ∙ omega (arith, record-length r (h .0 .whole)) in
+    let s : p ++ ((x ++ y) ++ q) ≡ p ++ (x ++ (y ++ q)) = ap (λ (l : List ℕ). p ++ l) (append-assoc x y q) in
+    ap₂ (λ (a : Record) (l : List Record). a ∷ l) (ap (λ (l : List ℕ). recordAt l b) s ∙ record-back p (y ++ q) r b e (h .0))
+    (ap (λ (l : List ℕ). recordsFrom (length rs) l (b + 1)) (s ∙ sym (append-assoc p x (y ++ q))) ∙ records-from rs (p ++ x) q (b + 1) l (h .1))
+
+pub records-back : (rs : List Record) → All Sized rs → recordsIn (recordsBytes rs) ≡ rs
+unfolding recordsIn
+records-back rs h =
+    let n : length (recordsBytes rs) / recordSize ≡ length rs = omega (arith, records-length rs h) in
+    rw n (rw (append-nil (recordsBytes rs)) at (records-from rs [] [] 0 refl h))

@@ -1,0 +1,66 @@
+-- Document 01, "Numbers of refusal": a name for each, which ends in the number.
+use Prim.Native.Nat.{ℕ}
+
+-- "offset or write position past the buffer's end"
+abbrev pub past-end₁ : ℕ
+past-end₁ = 1
+
+-- "bytes end inside count, operation or batch count"
+abbrev pub cut-short₂ : ℕ
+cut-short₂ = 2
+
+-- "over a limit; lists of unequal length; count's form wrong"
+abbrev pub over-limit₃ : ℕ
+over-limit₃ = 3
+
+-- "operation not admissible"
+abbrev pub inadmissible₄ : ℕ
+inadmissible₄ = 4
+
+-- "batch count over (bytes left / 5), rounded down"
+abbrev pub too-many-batches₅ : ℕ
+too-many-batches₅ = 5
+
+-- "nibble over 9"
+abbrev pub bad-nibble₆ : ℕ
+bad-nibble₆ = 6
+
+-- "batch runs past the operations"
+abbrev pub past-operations₇ : ℕ
+past-operations₇ = 7
+
+-- "immediate's slot not under 8, or (check) not under the count"
+abbrev pub no-slot₈ : ℕ
+no-slot₈ = 8
+
+-- "slot is an operation group"
+abbrev pub slot-taken₉ : ℕ
+slot-taken₉ = 9
+
+-- "padding check"
+abbrev pub bad-padding₁₀ : ℕ
+bad-padding₁₀ = 10
+
+-- "operations left over"
+abbrev pub left-over₁₁ : ℕ
+left-over₁₁ = 11
+
+-- "empty list to batch"
+abbrev pub empty-list₁₂ : ℕ
+empty-list₁₂ = 12
+
+-- "lent output smaller than the result needs"
+abbrev pub no-room₁₃ : ℕ
+no-room₁₃ = 13
+
+-- "table not 128 bytes or not good"
+abbrev pub bad-table₁₄ : ℕ
+bad-table₁₄ = 14
+
+-- "structure check"
+abbrev pub bad-structure₁₅ : ℕ
+bad-structure₁₅ = 15
+
+-- "commitment: a group number, immediate or empty group's 0 differs"
+abbrev pub bad-commitment₁₆ : ℕ
+bad-commitment₁₆ = 16
