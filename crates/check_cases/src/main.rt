@@ -5,7 +5,7 @@
 //   argument: a table's room, an operation number, a group or an index
 //   table: its length, the kind of opcode 4 (opcodes 0 and 2 have kind 0, 1 has 1, 3 has 2, the rest 3)
 //   codes, values and records each: how many are lent (of records the bytes), how many are listed, those; the rest are 0
-ghost use Prim.Native.Nat.{_+_, _≤_, _<_};
+ghost use Prim.Native.Nat.{_≤_, _<_};
 ghost use lib.ListN.{length};
 use op_batch::Lookup;
 use op_batch::NextGroup;
@@ -62,15 +62,15 @@ fn most(v: u64, n: usize) -> usize
 
 // ---- runs
 
-fn bytes(s: &[u8], from: usize, base: usize, n: usize, out: &mut [u8]) -> usize
-    requires { ⌜ (from ≤ length (now s)) × (base ≤ 2000000) × (n ≤ 2000000) ⌝ }
+fn bytes(s: &[u8], from: usize, n: usize, out: &mut [u8]) -> usize
+    requires { ⌜ from ≤ length (now s) ⌝ }
     ensures { λ r. ⌜ r ≤ length (now (s .entry)) ⌝ }
 {
     let mut at = from;
     let mut i: usize = 0;
     while i < n {
         let x = number(s, at);
-        word::store8(out, base + i, (x.value % 256) as u8);
+        word::store8(out, i, (x.value % 256) as u8);
         at = x.at;
         i += 1;
     }
@@ -92,17 +92,49 @@ fn words(s: &[u8], from: usize, n: usize, out: &mut [u64]) -> usize
     at
 }
 
-fn numbers(s: &[u8], from: usize, base: usize, out: &mut [u8]) -> usize
-    requires { ⌜ (from ≤ length (now s)) × (base ≤ 2000000) ⌝ }
+// ---- records
+
+fn starts(s: &[u8], from: usize, b: usize, out: &mut [u8]) -> usize
+    requires { ⌜ (from ≤ length (now s)) × (b < 1000) ⌝ }
     ensures { λ r. ⌜ r ≤ length (now (s .entry)) ⌝ }
 {
     let mut at = from;
-    let mut i: usize = 0;
-    while i < 8 {
+    let mut g: usize = 0;
+    while g < 9 {
         let x = number(s, at);
-        word::store_le8(out, base + 8 * i, x.value);
+        op_batch::set_start(out, b, g, (x.value % 256) as u8);
         at = x.at;
-        i += 1;
+        g += 1;
+    }
+    at
+}
+
+fn flags(s: &[u8], from: usize, b: usize, out: &mut [u8]) -> usize
+    requires { ⌜ (from ≤ length (now s)) × (b < 1000) ⌝ }
+    ensures { λ r. ⌜ r ≤ length (now (s .entry)) ⌝ }
+{
+    let mut at = from;
+    let mut g: usize = 0;
+    while g < 8 {
+        let x = number(s, at);
+        op_batch::set_flag(out, b, g, (x.value % 256) as u8);
+        at = x.at;
+        g += 1;
+    }
+    at
+}
+
+fn numbers(s: &[u8], from: usize, b: usize, out: &mut [u8]) -> usize
+    requires { ⌜ (from ≤ length (now s)) × (b < 1000) ⌝ }
+    ensures { λ r. ⌜ r ≤ length (now (s .entry)) ⌝ }
+{
+    let mut at = from;
+    let mut g: usize = 0;
+    while g < 8 {
+        let x = number(s, at);
+        op_batch::set_number(out, b, g, x.value);
+        at = x.at;
+        g += 1;
     }
     at
 }
@@ -115,9 +147,12 @@ fn records(s: &[u8], from: usize, k: usize, out: &mut [u8]) -> usize
     let mut at = from;
     let mut b: usize = 0;
     while b < k {
-        at = bytes(s, at, 82 * b, 17, out);
-        at = numbers(s, at, 82 * b + 17, out);
-        at = bytes(s, at, 82 * b + 81, 1, out);
+        at = starts(s, at, b, out);
+        at = flags(s, at, b, out);
+        at = numbers(s, at, b, out);
+        let count = number(s, at);
+        op_batch::set_count(out, b, (count.value % 256) as u8);
+        at = count.at;
         b += 1;
     }
     at
@@ -335,7 +370,7 @@ fn read_codes(s: &[u8], from: usize, out: &mut [u8]) -> Front
     let lent = number(s, from);
     let listed = number(s, lent.at);
     word::zero_bytes(out, 0);
-    let at = bytes(s, listed.at, 0, most(listed.value, 1000), out);
+    let at = bytes(s, listed.at, most(listed.value, 1000), out);
     Front {
         lent: most(lent.value, out.len()),
         at,

@@ -12,14 +12,13 @@ use lib.Seq.{drop-cons}
 use lib.Dec.{ltb, eqb}
 use Rattle.rules.specs.Digits.{number}
 use Rattle.rules.specs.Operations.{Op, operations}
-use Rattle.rules.specs.Record.{Record, recordAt, part}
+use Rattle.rules.specs.Record.{Record, differences, cut, part}
 use Rattle.rules.specs.Checks.{paddingFault, endsInNoop, paddingRight}
-use Rattle.rules.specs.Functions.{Arena}
 use Rattle.rules.proofs.Digits.{split}
 use Rattle.rules.proofs.Operations.{op}
 use Rattle.op_batch.proofs.Right.{flags-ahead}
-use Rattle.checks.specs.Batch.{heldAt, Lies, under}
-use Rattle.checks.proofs.Groups.{Lying, lying, part-turn, span-none, group, under-start, under-turn, under-none, in-order, within-codes}
+use Rattle.checks.specs.Batch.{under}
+use Rattle.checks.proofs.Groups.{Lying, part-turn, span-none, group, under-start, under-turn, under-none, bounds}
 
 -- ---- how a group ends
 
@@ -50,7 +49,7 @@ module _ (r : Record) (cs vs : List ℕ) (from : ℕ) (x : Lying r cs vs from) (
       ≡ cond (eqb (getD (r .flags) g 0) 0) true (ltb g (r .count) && endsInNoop (group r (operations cs vs) from g)) && padLeft r (operations cs vs) from (g + 1)
   unfolding padLeft paddingRight
   step =
-      let f : drop g (r .flags) ≡ getD (r .flags) g 0 ∷ drop (g + 1) (r .flags) = rw (add-one g) (drop-cons (r .flags) g 0 (omega (arith, x .flags))) in
+      let f : drop g (r .flags) ≡ getD (r .flags) g 0 ∷ drop (g + 1) (r .flags) = rw (add-one g) (drop-cons (r .flags) g 0 (omega (arith, x .laid .flags))) in
       split g (r .count)
       (λ k. rw (under-turn r cs vs from x g k, f, lt-ltb g (r .count) k))
       (λ k. rw (under-none r (operations cs vs) from g k, under-none r (operations cs vs) from (g + 1) (omega arith), f, le-ltb g (r .count) k, same (eqb (getD (r .flags) g 0) 0)))
@@ -63,43 +62,55 @@ module _ (r : Record) (cs vs : List ℕ) (from : ℕ) (x : Lying r cs vs from) (
     pub over : r .count ≤ g → padLeft r (operations cs vs) from g ≡ false
     over k = step ∙ rw (ne-eqb (getD (r .flags) g 0) 0 f, le-ltb g (r .count) k)
 
-    module _ (k : g < r .count) where
-      pub empty : getD (r .starts) g 0 ≡ getD (r .starts) (g + 1) 0 → padLeft r (operations cs vs) from g ≡ false
+    -- of a group under the count, from one operation up to another
+    module _ (k : g < r .count) (start end : ℕ) (a : start ≡ getD (r .starts) g 0) (z : end ≡ getD (r .starts) (g + 1) 0) where
+      pub empty : start ≡ end → padLeft r (operations cs vs) from g ≡ false
       unfolding endsInNoop
       empty e = step ∙ rw (ne-eqb (getD (r .flags) g 0) 0 f, lt-ltb g (r .count) k, span-none (from + getD (r .starts) g 0) (from + getD (r .starts) (g + 1) 0) (operations cs vs) (omega arith))
 
-      module _ (n : getD (r .starts) g 0 ≡ getD (r .starts) (g + 1) 0 → ⊥) where
-        last : endsInNoop (group r (operations cs vs) from g) ≡ eqb (getD cs (from + getD (r .starts) (g + 1) 0 - 1) 0) 0
+      module _ (n : start ≡ end → ⊥) where
+        last : endsInNoop (group r (operations cs vs) from g) ≡ eqb (getD cs (from + end - 1) 0) 0
         last =
             let i = from + getD (r .starts) g 0 in
             let to = from + getD (r .starts) (g + 1) 0 in
-            let o = in-order r cs vs from x g h in
-            let l = within-codes r cs vs from x (g + 1) (omega arith) in
+            let b = bounds r cs vs from x g k start end a z in
             let e : to - i ≡ suc (to - i - 1) = omega arith in
             ap (λ (k : ℕ). endsInNoop (part k (operations cs vs) i)) e
             ∙ ends (to - i - 1) i cs vs (omega arith) (x .equal)
             ∙ ap (λ (k : ℕ). eqb (getD cs k 0) 0) (omega arith)
 
-        pub other : (getD cs (from + getD (r .starts) (g + 1) 0 - 1) 0 ≡ 0 → ⊥) → padLeft r (operations cs vs) from g ≡ false
-        other c = step ∙ rw (ne-eqb (getD (r .flags) g 0) 0 f, lt-ltb g (r .count) k, last, ne-eqb (getD cs (from + getD (r .starts) (g + 1) 0 - 1) 0) 0 c)
+        pub other : (getD cs (from + end - 1) 0 ≡ 0 → ⊥) → padLeft r (operations cs vs) from g ≡ false
+        other c = step ∙ rw (ne-eqb (getD (r .flags) g 0) 0 f, lt-ltb g (r .count) k, last, ne-eqb (getD cs (from + end - 1) 0) 0 c)
 
-        pub noop : getD cs (from + getD (r .starts) (g + 1) 0 - 1) 0 ≡ 0 → padLeft r (operations cs vs) from (g + 1) ≡ padLeft r (operations cs vs) from g
-        noop c = sym (step ∙ rw (ne-eqb (getD (r .flags) g 0) 0 f, lt-ltb g (r .count) k, last, eq-eqb (getD cs (from + getD (r .starts) (g + 1) 0 - 1) 0) 0 c))
+        pub noop : getD cs (from + end - 1) 0 ≡ 0 → padLeft r (operations cs vs) from (g + 1) ≡ padLeft r (operations cs vs) from g
+        noop c = sym (step ∙ rw (ne-eqb (getD (r .flags) g 0) 0 f, lt-ltb g (r .count) k, last, eq-eqb (getD cs (from + end - 1) 0) 0 c))
 
 padded : (r : Record) (cs vs : List ℕ) (from : ℕ) (x : Lying r cs vs from) (g : ℕ) → 8 ≤ g → padLeft r (operations cs vs) from g ≡ true
 unfolding padLeft paddingRight
-padded r cs vs from x g h = rw (drop-of-length-le (r .flags) {i = g} (omega (arith, x .flags)))
+padded r cs vs from x g h = rw (drop-of-length-le (r .flags) {i = g} (omega (arith, x .laid .flags)))
 
 -- ---- where no flag is ahead
 
 module _ (r : Record) (cs vs : List ℕ) (from : ℕ) (x : Lying r cs vs from) where
   unflagged : (k g : ℕ) → g + k ≡ 8 → number 256 (drop g (r .flags)) ≡ 0 → padLeft r (operations cs vs) from g ≡ true
   unflagged zero g h e = padded r cs vs from x g (omega arith)
-  unflagged (suc k) g h e = let a = flags-ahead (x .width) r (x .sound) (x .flags) g (omega arith) in sym (plain r cs vs from x g (omega arith) (omega arith)) ∙ unflagged k (g + 1) (omega arith) (omega arith)
+  unflagged (suc k) g h e = let a = flags-ahead (x .laid .width) r (x .laid .sound) (x .laid .flags) g (omega arith) in sym (plain r cs vs from x g (omega arith) (omega arith)) ∙ unflagged k (g + 1) (omega arith) (omega arith)
 
   pub no-flags : (g left : ℕ) → g ≤ 8 → left ≡ number 256 (drop g (r .flags)) → left ≡ 0 → padLeft r (operations cs vs) from g ≡ true
   no-flags g left h e z = unflagged (8 - g) g (omega arith) (sym e ∙ z)
 
-pub begin : (a : Arena) (b from : ℕ) → Lies a b from → cond (padLeft (recordAt (a .records) b) (operations (a .codes) (a .values)) from 0) 0 10 ≡ paddingFault (heldAt a b from)
-unfolding padLeft paddingFault
-begin a b from x = rw (under-start (recordAt (a .records) b) (a .codes) (a .values) from (lying a b from x))
+-- ---- the answer, where the walk came to the g-th group
+
+module _ (r : Record) (cs vs : List ℕ) (from : ℕ) (x : Lying r cs vs from) (g : ℕ) (same : padLeft r (operations cs vs) from g ≡ padLeft r (operations cs vs) from 0) where
+  abbrev fault : ℕ
+  fault = paddingFault (record { batch = r; groups = cut (differences (r .starts)) (operations cs vs) from })
+
+  begin : cond (padLeft r (operations cs vs) from 0) 0 10 ≡ fault
+  unfolding padLeft paddingFault
+  begin = rw (under-start r cs vs from x)
+
+  pub faulty : padLeft r (operations cs vs) from g ≡ false → 10 ≡ fault
+  faulty e = ap (λ (b : Bool). cond b 0 10) (sym e ∙ same) ∙ begin
+
+  pub faultless : padLeft r (operations cs vs) from g ≡ true → 0 ≡ fault
+  faultless e = ap (λ (b : Bool). cond b 0 10) (sym e ∙ same) ∙ begin

@@ -13,33 +13,37 @@ use Rattle.rules.specs.Checks.{ninth}
 use Rattle.rules.specs.Functions.{Arena}
 use Rattle.rules.proofs.Operations.{op, operations-turn}
 use Rattle.op_batch.proofs.Right.{Sound, sound, starts-length, flags-length, numbers-length, rise, below-ninth}
-use Rattle.checks.specs.Batch.{Lies, groupsFrom, under, span}
+use Rattle.checks.specs.Batch.{Fits, Lies, groupsFrom, under, span}
 
--- what the walks know of a batch's record and of its operations, which begin at a place
-pub record Lying (r : Record) (cs vs : List ℕ) (from : ℕ) : Type 0 where
-  pub equal : length cs ≡ length vs
+-- what the walks know of a batch's record
+pub record Laid (r : Record) : Type 0 where
   pub starts : length (r .starts) ≡ 9
   pub flags : length (r .flags) ≡ 8
   pub numbers : length (r .numbers) ≡ 8
   pub width : ℕ
   pub sound : Sound width r
   pub count : r .count ≤ 8
+
+pub laid : (s : List ℕ) (b : ℕ) → Fits (recordAt s b) → Laid (recordAt s b)
+laid s b f =
+    let x = sound (f .width) (recordAt s b) (f .right) in
+    record {
+      starts = starts-length s b;
+      flags = flags-length s b;
+      numbers = numbers-length s b;
+      width = f .width;
+      sound = x;
+      count = omega (arith, x .count, f .room);
+    }
+
+-- and of its operations, which begin at a place
+pub record Lying (r : Record) (cs vs : List ℕ) (from : ℕ) : Type 0 where
+  pub laid : Laid r
+  pub equal : length cs ≡ length vs
   pub inside : from + ninth r ≤ length cs
 
 pub lying : (a : Arena) (b from : ℕ) → Lies a b from → Lying (recordAt (a .records) b) (a .codes) (a .values) from
-lying a b from x =
-    let f = x .fits in
-    let s = sound (f .width) (recordAt (a .records) b) (f .right) in
-    record {
-      equal = x .equal;
-      starts = starts-length (a .records) b;
-      flags = flags-length (a .records) b;
-      numbers = numbers-length (a .records) b;
-      width = f .width;
-      sound = s;
-      count = omega (arith, s .count, f .room);
-      inside = x .inside;
-    }
+lying a b from x = record { laid = laid (a .records) b (x .fits); equal = x .equal; inside = x .inside }
 
 -- ---- parts of the operations
 
@@ -75,29 +79,30 @@ module _ (r : Record) (cs vs : List ℕ) (from : ℕ) (x : Lying r cs vs from) w
   unfolding groupsFrom differences cut
   groups-turn g h =
       let s = r .starts in
-      let up = x .sound .rises g (omega (arith, x .starts)) in
+      let up = x .laid .sound .rises g (omega (arith, x .laid .starts)) in
       let e : from + getD s g 0 + (getD s (g + 1) 0 - getD s g 0) ≡ from + getD s (g + 1) 0 = rw (add-one g) (omega (arith, up)) in
       let f : getD s (g + 1) 0 - getD s g 0 ≡ from + getD s (g + 1) 0 - (from + getD s g 0) = omega arith in
-      rw (drop-cons s g 0 (omega (arith, x .starts)), sym (add-one g), drop-cons s (g + 1) 0 (omega (arith, x .starts)), e, f)
+      rw (drop-cons s g 0 (omega (arith, x .laid .starts)), sym (add-one g), drop-cons s (g + 1) 0 (omega (arith, x .laid .starts)), e, f)
 
   pub under-start : under r (operations cs vs) from 0 ≡ take (r .count) (cut (differences (r .starts)) (operations cs vs) from)
   unfolding groupsFrom
-  under-start = rw (sub-zero, x .sound .first, add-zero from)
+  under-start = rw (sub-zero, x .laid .sound .first, add-zero from)
 
   pub under-turn : (g : ℕ) → g < r .count → under r (operations cs vs) from g ≡ group r (operations cs vs) from g ∷ under r (operations cs vs) from (g + 1)
   under-turn g h =
       let e : r .count - g ≡ suc (r .count - (g + 1)) = omega arith in
-      rw (e, groups-turn g (omega (arith, x .count)))
+      rw (e, groups-turn g (omega (arith, x .laid .count)))
 
   -- where the g-th group lies
   pub in-order : (g : ℕ) → g < 8 → getD (r .starts) g 0 ≤ getD (r .starts) (g + 1) 0
-  in-order g h = rise (x .width) r (x .sound) (x .starts) g h .0
-
-  pub at-most-9 : (g : ℕ) → g < 8 → getD (r .starts) (g + 1) 0 ≤ getD (r .starts) g 0 + 9
-  at-most-9 g h = rise (x .width) r (x .sound) (x .starts) g h .1
+  in-order g h = rise (x .laid .width) r (x .laid .sound) (x .laid .starts) g h .0
 
   pub within-codes : (g : ℕ) → g < 9 → from + getD (r .starts) g 0 ≤ length cs
-  within-codes g h = omega (arith, below-ninth (x .width) r (x .sound) (x .starts) g h, x .inside)
+  within-codes g h = omega (arith, below-ninth (x .laid .width) r (x .laid .sound) (x .laid .starts) g h, x .inside)
+
+  pub bounds : (g : ℕ) → g < r .count → (start end : ℕ) → start ≡ getD (r .starts) g 0 → end ≡ getD (r .starts) (g + 1) 0
+      → (start ≤ end) × (end ≤ start + 9) × (from + end ≤ length cs)
+  bounds g h start end a z = omega (arith, rise (x .laid .width) r (x .laid .sound) (x .laid .starts) g (omega (arith, x .laid .count)), within-codes (g + 1) (omega (arith, x .laid .count)))
 
 pub under-none : (r : Record) (xs : List Op) (from g : ℕ) → r .count ≤ g → under r xs from g ≡ []
 under-none r xs from g h = let e : r .count - g ≡ 0 = omega arith in rw e

@@ -2,21 +2,20 @@
 use mathlib.Core.Path.{_≡_, refl, sym, ap, _∙_}
 use mathlib.Core.Bool.{Bool, true, false, cond}
 use mathlib.Core.List.{List, [], _∷_}
-use Prim.Native.Nat.{ℕ, zero, suc, _+_, _-_, _*_, _^_, _≤_, _<_}
-use native.Mathlib.Nat.{pow-zero, pow-suc, pow-le-pow-right}
+use Prim.Native.Nat.{ℕ, zero, suc, _+_, _-_, _*_, _≤_, _<_}
 use native.Mathlib.Numerals.{add-one}
 use native.Mathlib.Omega.{arith}
 use borrow.Author.Tests.{eq-eqb, ne-eqb}
-use lib.ListN.{length, getD, take, drop, drop-of-length-le}
-use lib.Seq.{drop-cons}
+use lib.ListN.{length, getD, take, drop, drop-of-length-le, length-take, length-drop}
+use lib.Seq.{drop-cons, getD-take, getD-drop}
 use lib.Dec.{eqb}
 use Rattle.rules.specs.Digits.{number}
 use Rattle.rules.specs.Operations.{Op, operations, codes, kindOf, hasImmediate}
-use Rattle.rules.specs.Record.{Record, differences, codesNumber, cut, part, immediates}
+use Rattle.rules.specs.Record.{Record, differences, codesNumber, cut, immediates}
 use Rattle.rules.specs.Checks.{placingFault, begins, orElse, groupsFault, emptyZero}
 use Rattle.rules.proofs.Operations.{op}
-use Rattle.checks.specs.Batch.{under, span}
-use Rattle.checks.proofs.Groups.{Lying, part-turn, span-turn, span-none, under-start, under-turn, under-none, in-order, within-codes}
+use Rattle.checks.specs.Batch.{Apt, under, span}
+use Rattle.checks.proofs.Groups.{Lying, drop-operations, span-turn, span-none, under-start, under-turn, under-none, in-order, within-codes, bounds}
 
 -- ---- the operations of a group, one after the other
 
@@ -41,15 +40,28 @@ pub immediates-none : (t : List ℕ) (i to : ℕ) (xs : List Op) → to ≤ i �
 unfolding immediates
 immediates-none t i to xs h = rw (span-none i to xs h)
 
--- a group of nine has a number under 2^63: one of eight leaves room for the ninth opcode
-module _ (cs vs : List ℕ) (e : length cs ≡ length vs) (small : (i : ℕ) → i < length cs → getD cs i 0 < 128) where
-  below : (n i : ℕ) → i + n ≤ length cs → codesNumber (part n (operations cs vs) i) < 128 ^ n
-  unfolding codesNumber codes number
-  below zero i h = rw pow-zero (omega arith)
-  below (suc n) i h = rw (part-turn n i cs vs (omega arith) e, pow-suc 128 n) (omega (arith, below n (i + 1) (omega arith), small i (omega arith)))
+-- the opcodes from one index up to another, as they are lent
+abbrev lent : List ℕ → ℕ → ℕ → List ℕ
+lent cs i to = take (to - i) (drop i cs)
 
-  pub number-fits : (i to : ℕ) → i ≤ to → to ≤ i + 8 → to ≤ length cs → codesNumber (span (operations cs vs) i to) < 72057594037927936
-  number-fits i to h l k = omega (arith, below (to - i) i (omega arith), pow-le-pow-right {n = 128} (omega arith) {i = to - i} {j = 8} (omega arith))
+lent-codes : (cs : List ℕ) (i to : ℕ) → i ≤ to → to ≤ length cs → to ≤ i + 9 → ((j : ℕ) → j < length cs → getD cs j 0 < 128)
+    → (length (lent cs i to) ≤ 9) × ((j : ℕ) → j < length (lent cs i to) → getD (lent cs i to) j 0 < 128)
+lent-codes cs i to h k l f =
+    let n : length (lent cs i to) ≡ to - i = simp (length-take, length-drop) (omega arith) in
+    (omega arith, λ j m. let o : j < to - i = omega arith in rw (getD-take (to - i) (drop i cs) j 0 o, getD-drop i cs j 0) (f (i + j) (omega arith)))
+
+front : (n : ℕ) (cs vs : List ℕ) → length cs ≡ length vs → codes (take n (operations cs vs)) ≡ take n cs
+unfolding operations codes
+front zero cs vs h = refl
+front (suc n) [] vs h = refl
+front (suc n) (c ∷ cs) [] h = absurd (omega arith)
+front (suc n) (c ∷ cs) (v ∷ vs) h = ap (λ (l : List ℕ). c ∷ l) (front n cs vs (omega arith))
+
+lent-number : (cs vs : List ℕ) → length cs ≡ length vs → (i to : ℕ) → number 128 (lent cs i to) ≡ codesNumber (span (operations cs vs) i to)
+unfolding codesNumber
+lent-number cs vs e i to =
+    let h : length (drop i cs) ≡ length (drop i vs) = simp length-drop (omega arith) in
+    rw (drop-operations i cs vs) (sym (ap (number 128) (front (to - i) (drop i cs) (drop i vs) h)))
 
 -- ---- slots for immediates: the groups under the count from the j-th on
 
@@ -65,7 +77,7 @@ module _ (r : Record) (cs vs : List ℕ) (from : ℕ) (x : Lying r cs vs from) (
     pub slot-taken : (getD (r .starts) j 0 ≡ getD (r .starts) (j + 1) 0 → ⊥) → placingFault n (under r (operations cs vs) from j) ≡ 9
     unfolding placingFault
     slot-taken d =
-        let i : j < 8 = omega (arith, x .count) in
+        let i : j < 8 = omega (arith, x .laid .count) in
         let o = in-order r cs vs from x j i in
         let l = within-codes r cs vs from x (j + 1) (omega arith) in
         rw (under-turn r cs vs from x j h, span-turn (from + getD (r .starts) j 0) (from + getD (r .starts) (j + 1) 0) cs vs (omega arith) l (x .equal), one-more)
@@ -125,12 +137,22 @@ module _ (t : List ℕ) (r : Record) (cs vs : List ℕ) (from : ℕ) (x : Lying 
   empty-done k h = rw (under-none r (operations cs vs) from g h)
 
   -- a group under the count, from one operation up to another
-  module _ (h : g < r .count) (i to : ℕ) (a : i ≡ from + getD (r .starts) g 0) (z : to ≡ from + getD (r .starts) (g + 1) 0) where
+  module _ (h : g < r .count) (start end : ℕ) (a : start ≡ getD (r .starts) g 0) (z : end ≡ getD (r .starts) (g + 1) 0) where
+    abbrev i : ℕ
+    i = from + start
+
+    abbrev to : ℕ
+    to = from + end
+
+    -- its opcodes, as they are lent
+    pub lent-right : Apt t cs → (length (lent cs i to) ≤ 9) × ((j : ℕ) → j < length (lent cs i to) → getD (lent cs i to) j 0 < 128)
+    lent-right p = let b = bounds r cs vs from x g h start end a z in lent-codes cs i to (omega arith) (b .2) (omega arith) (p .codes)
+
     ahead : under r (operations cs vs) from g ≡ span (operations cs vs) i to ∷ under r (operations cs vs) from (g + 1)
     ahead = rw (a, z) (under-turn r cs vs from x g h)
 
     number-ahead : drop g (r .numbers) ≡ getD (r .numbers) g 0 ∷ drop (g + 1) (r .numbers)
-    number-ahead = rw (add-one g) (drop-cons (r .numbers) g 0 (omega (arith, x .numbers, x .count)))
+    number-ahead = rw (add-one g) (drop-cons (r .numbers) g 0 (omega (arith, x .laid .numbers, x .laid .count)))
 
     module _ (e : i ≡ to) where
       none : span (operations cs vs) i to ≡ []
@@ -160,7 +182,7 @@ module _ (t : List ℕ) (r : Record) (cs vs : List ℕ) (from : ℕ) (x : Lying 
 
       some : span (operations cs vs) i to ≡ op (getD cs i 0) (getD vs i 0) ∷ more
       some =
-          let j : g < 8 = omega (arith, x .count) in
+          let j : g < 8 = omega (arith, x .laid .count) in
           span-turn i to cs vs (omega (arith, in-order r cs vs from x g j)) (omega (arith, within-codes r cs vs from x (g + 1) (omega arith))) (x .equal)
 
       pub empty-skip : (k m : ℕ) → m ≡ length (immediates t (span (operations cs vs) i to)) → emptyLeft t r (operations cs vs) from m (g + 1) ≡ emptyLeft t r (operations cs vs) from k g
@@ -175,9 +197,6 @@ module _ (t : List ℕ) (r : Record) (cs vs : List ℕ) (from : ℕ) (x : Lying 
       unfolding groupsLeft groupsFault
       full = rw (ahead, number-ahead, some)
 
-      pub group-wrong : (getD (r .numbers) g 0 ≡ codesNumber (span (operations cs vs) i to) → ⊥) → groupsLeft t r (operations cs vs) from g ≡ 16
-      group-wrong n = full ∙ rw (ne-eqb (getD (r .numbers) g 0) (codesNumber (span (operations cs vs) i to)) n)
-
       module _ (n : getD (r .numbers) g 0 ≡ codesNumber (span (operations cs vs) i to)) (m : ℕ) (d : m ≡ length (immediates t (span (operations cs vs) i to))) where
         pub counted : groupsLeft t r (operations cs vs) from g
             ≡ orElse (placingFault m (under r (operations cs vs) from (g + 1)))
@@ -185,15 +204,24 @@ module _ (t : List ℕ) (r : Record) (cs vs : List ℕ) (from : ℕ) (x : Lying 
             (groupsLeft t r (operations cs vs) from (g + 1)))
         counted = full ∙ rw (eq-eqb (getD (r .numbers) g 0) (codesNumber (span (operations cs vs) i to)) n, d)
 
-        pub group-unplaced : (p : ℕ) → p ≡ placingFault m (under r (operations cs vs) from (g + 1)) → (p ≡ 0 → ⊥) → groupsLeft t r (operations cs vs) from g ≡ p
-        group-unplaced p e q = counted ∙ rw (sym e) (first-fault p _ q)
+      -- the number of the opcodes as they are lent
+      module _ (k : ℕ) (c : k ≡ number 128 (lent cs i to)) where
+        is-number : k ≡ codesNumber (span (operations cs vs) i to)
+        is-number = c ∙ lent-number cs vs (x .equal) i to
 
-        module _ (e : placingFault m (under r (operations cs vs) from (g + 1)) ≡ 0) where
-          pub group-unequal : begins (drop (g + 1) (r .numbers)) (immediates t (span (operations cs vs) i to)) ≡ false → groupsLeft t r (operations cs vs) from g ≡ 16
-          group-unequal b = counted ∙ rw (e, b)
+        pub group-wrong : (getD (r .numbers) g 0 ≡ k → ⊥) → groupsLeft t r (operations cs vs) from g ≡ 16
+        group-wrong n = full ∙ rw (ne-eqb (getD (r .numbers) g 0) (codesNumber (span (operations cs vs) i to)) (λ e. n (e ∙ sym is-number)))
 
-          pub group-right : begins (drop (g + 1) (r .numbers)) (immediates t (span (operations cs vs) i to)) ≡ true → groupsLeft t r (operations cs vs) from (g + 1) ≡ groupsLeft t r (operations cs vs) from g
-          group-right b = sym (counted ∙ rw (e, b))
+        module _ (n : getD (r .numbers) g 0 ≡ k) (m : ℕ) (d : m ≡ length (immediates t (span (operations cs vs) i to))) where
+          pub group-unplaced : (p : ℕ) → p ≡ placingFault m (under r (operations cs vs) from (g + 1)) → (p ≡ 0 → ⊥) → groupsLeft t r (operations cs vs) from g ≡ p
+          group-unplaced p e q = counted (n ∙ is-number) m d ∙ rw (sym e) (first-fault p _ q)
+
+          module _ (e : placingFault m (under r (operations cs vs) from (g + 1)) ≡ 0) where
+            pub group-unequal : begins (drop (g + 1) (r .numbers)) (immediates t (span (operations cs vs) i to)) ≡ false → groupsLeft t r (operations cs vs) from g ≡ 16
+            group-unequal b = counted (n ∙ is-number) m d ∙ rw (e, b)
+
+            pub group-right : begins (drop (g + 1) (r .numbers)) (immediates t (span (operations cs vs) i to)) ≡ true → groupsLeft t r (operations cs vs) from (g + 1) ≡ groupsLeft t r (operations cs vs) from g
+            group-right b = sym (counted (n ∙ is-number) m d ∙ rw (e, b))
 
 -- where the walks begin
 module _ (t : List ℕ) (r : Record) (cs vs : List ℕ) (from : ℕ) (x : Lying r cs vs from) where

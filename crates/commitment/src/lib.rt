@@ -2,8 +2,8 @@
 // whether all is right.
 ghost use mathlib.Core.Path.{_≡_};
 ghost use mathlib.Core.Bool.{true};
-ghost use Prim.Native.Nat.{ℕ, _+_, _*_, _≤_, _<_};
-ghost use lib.ListN.{length, getD, drop};
+ghost use Prim.Native.Nat.{_+_, _*_, _≤_, _<_};
+ghost use lib.ListN.{length, drop};
 ghost use lib.Dec.{eqb};
 ghost use Rattle.rules.specs.Answer.{good, refuseFirst};
 ghost use Rattle.rules.specs.Operations.{operations, kindOf};
@@ -25,21 +25,6 @@ fn placed(table: &[u8], code: u8) -> bool
     ensures { λ r. ⌜ r ≡ eqb (kindOf (now (table .entry)) code) 1 ⌝ }
 {
     table[code as usize] == 1
-}
-
-// The group number of the operations from one index up to another, at most nine; the last opcode counts most.
-fn codes_number(codes: &[u8], values: &[u64], from: usize, to: usize) -> u64
-    requires { ⌜ (length (now codes) ≡ length (now values)) × (to ≤ length (now codes)) × (from ≤ to) × (to ≤ from + 9) ⌝ }
-    requires { ⌜ ((i : ℕ) → i < length (now codes) → getD (now codes) i 0 < 128) ⌝ }
-    ensures { λ r. ⌜ r ≡ codesNumber (span (operations (now (codes .entry)) (now (values .entry))) from to) ⌝ }
-{
-    let mut sum: u64 = 0;
-    let mut i = to;
-    while from < i {
-        i -= 1;
-        sum = word::wide(codes[i]) + 128 * sum;
-    }
-    sum
 }
 
 // How many of the operations from one index up to another have an immediate.
@@ -144,7 +129,7 @@ fn groups_fault(
             g += 1;
             continue;
         }
-        if op_batch::number(records, b, g) != codes_number(codes, values, start, end) {
+        if op_batch::number(records, b, g) != op_batch::group_number(&codes[start..end]) {
             return 16;
         }
         let n = count_immediates(table, codes, values, start, end);

@@ -8,6 +8,9 @@ use Rattle.rules.specs.Record.{Record, startsFrom, recordSize, recordBytes}
 
 -- ---- in the run
 
+unfoldable pub startSet : ℕ → ℕ → ℕ → List ℕ → List ℕ
+startSet b g v s = set s (recordSize * b + g) v
+
 -- all starts from the g-th on
 unfoldable pub startsSet : ℕ → ℕ → ℕ → List ℕ → List ℕ
 startsSet b g v s = sets s (recordSize * b + g) (replicate (9 - g) v)

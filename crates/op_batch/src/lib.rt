@@ -12,7 +12,7 @@ ghost use Rattle.rules.specs.Checks.{startsRight, recordRight};
 ghost use Rattle.rules.specs.Lookups.{groupFrom};
 ghost use Rattle.rules.specs.Functions.{groupLookup, nextLookup};
 ghost use Rattle.op_batch.specs.OpBatch.{layout, recordIn, foundIn, lookupOf, firstFull, nextIn, nextOf};
-ghost use Rattle.op_batch.specs.Stores.{startsSet, flagSet, numberSet, countSet, recordSet, packed};
+ghost use Rattle.op_batch.specs.Stores.{startSet, startsSet, flagSet, numberSet, countSet, recordSet, packed};
 
 // A record's bytes in a run, and where its flags, its numbers and its count stand among them. No other crate knows.
 pub const RECORD: usize = 82;
@@ -165,6 +165,14 @@ pub fn count(records: &[u8], b: usize) -> usize
 }
 
 // ---- stores to the b-th record of a run; what the run has no room for falls away
+
+// One start.
+pub fn set_start(records: &mut [u8], b: usize, g: usize, v: u8)
+    requires { ⌜ (b < 2 ^ 20) × (g < 9) ⌝ }
+    ensures { λ _. ⌜ now (records .exit) ≡ startSet b g v (now (records .entry)) ⌝ }
+{
+    word::store8(records, RECORD * b + g, v);
+}
 
 // All starts from the g-th on. The first is 0 in every record that is written, so that it is never stored.
 pub fn set_starts(records: &mut [u8], b: usize, g: usize, v: u8)

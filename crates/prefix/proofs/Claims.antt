@@ -13,16 +13,18 @@ use lib.Dec.{ltb}
 use Rattle.rules.specs.Lists.{fitted, total}
 use Rattle.rules.specs.Answer.{Answer, good, refused}
 use Rattle.rules.specs.Record.{Record, Block, recordSize, recordAt, recordsFrom, recordsIn}
-use Rattle.rules.specs.Checks.{ninth, recordRight, structureFaults, paddingFaults}
+use Rattle.rules.specs.Checks.{ninth, structureFaults, paddingFaults}
 use Rattle.rules.specs.Lookups.{marksIn, marks, rawEntries, paddedEntries, rawTable, paddedTable, rawAt, paddedAt, largest, paddedIndex, rawIndex}
 use Rattle.rules.specs.Functions.{Arena, blockIn, within, structureChecked, tableOf, tableLeft}
 use Rattle.rules.proofs.Answer.{passed, value, no-fault, all-passed}
 use Rattle.rules.proofs.Operations.{length-operations}
 use Rattle.rules.proofs.Runs.{fitted-front}
 use Rattle.rules.proofs.Sizes.{marks-in}
-use Rattle.op_batch.proofs.Right.{Sound, sound, rise, starts-length, flags-length}
+use Rattle.op_batch.proofs.Right.{rise}
+use Rattle.checks.specs.Batch.{Fits}
+use Rattle.checks.proofs.Groups.{Laid, laid}
 use Rattle.checks.proofs.Walk.{equal-lengths, few-codes}
-use Rattle.checks.proofs.Passed.{checked}
+use Rattle.checks.proofs.Passed.{checked, all-fit}
 use Rattle.prefix.specs.Tables.{marksAt, tabledOf, Answered}
 use Rattle.prefix.specs.declared.Tabled.the-variants.{Made}
 use Rattle.prefix.specs.Claims.{raws, placeOf, TablesLead, AllMarked, TablesLeft}
@@ -147,41 +149,41 @@ tables-lead b l =
 
 -- ---- each operation has a mark
 
-module _ (w : ℕ) (r : Record) (s : length (r .starts) ≡ 9) (f : length (r .flags) ≡ 8) (x : Sound w r) where
+module _ (r : Record) (x : Laid r) where
   batch-marks : (k g : ℕ) → g + k ≡ 8 → length (marksAt r g) + getD (r .starts) g 0 ≡ ninth r
-  batch-marks zero g h = let e : g ≡ 8 = omega arith in omega (arith, ap length (marks-end r s f g e), ap (λ (i : ℕ). getD (r .starts) i 0) e)
+  batch-marks zero g h = let e : g ≡ 8 = omega arith in omega (arith, ap length (marks-end r x g e), ap (λ (i : ℕ). getD (r .starts) i 0) e)
   batch-marks (suc k) g h =
       let size = getD (r .starts) (g + 1) 0 - getD (r .starts) g 0 in
       let flag = getD (r .flags) g 0 in
       omega (
         arith,
-        ap length (marks-turn r s f g (omega arith)),
+        ap length (marks-turn r x g (omega arith)),
         length-append (marksIn size flag) (marksAt r (g + 1)),
         marks-in size flag,
-        rise w r x s g (omega arith),
+        rise (x .width) r (x .sound) (x .starts) g (omega arith),
         batch-marks k (g + 1) (omega arith),
       )
 
-marks-all : (w k : ℕ) (s : List ℕ) (b : ℕ) → ((j : ℕ) → j < k → recordRight w (recordAt s (b + j)) ≡ true) → length (marks (recordsFrom k s b)) ≡ total (map ninth (recordsFrom k s b))
+marks-all : (k : ℕ) (s : List ℕ) (b : ℕ) → ((j : ℕ) → j < k → Fits (recordAt s (b + j))) → length (marks (recordsFrom k s b)) ≡ total (map ninth (recordsFrom k s b))
 unfolding marks recordsFrom total marksAt
-marks-all w zero s b h = refl
-marks-all w (suc k) s b h =
+marks-all zero s b h = refl
+marks-all (suc k) s b h =
     let r = recordAt s b in
-    let z : recordRight w r ≡ true = rw (add-zero b) at (h 0 (omega arith)) in
-    let one = batch-marks w r (starts-length s b) (flags-length s b) (sound w r z) 8 0 (omega arith) in
-    let more = marks-all w k s (b + 1) (λ j l. let e : b + 1 + j ≡ b + suc j = omega arith in rw e (h (suc j) (omega arith))) in
-    omega (arith, length-append (marksAt r 0) (marks (recordsFrom k s (b + 1))), one, sound w r z .first, more)
+    let x = laid s b (rw (add-zero b) at (h 0 (omega arith))) in
+    let one = batch-marks r x 8 0 (omega arith) in
+    let more = marks-all k s (b + 1) (λ j l. let e : b + 1 + j ≡ b + suc j = omega arith in rw e (h (suc j) (omega arith))) in
+    omega (arith, length-append (marksAt r 0) (marks (recordsFrom k s (b + 1))), one, x .sound .first, more)
 
-marked : (w : ℕ) (a : Arena) → structureChecked w a ≡ good tt → length (marks (blockIn a .records)) ≡ length (a .codes)
+marked : (w : ℕ) → w ≤ 8 → (a : Arena) → structureChecked w a ≡ good tt → length (marks (blockIn a .records)) ≡ length (a .codes)
 unfolding blockIn recordsIn
-marked w a h =
+marked w room a h =
     let k = checked w (a .codes) (a .values) (a .records) h in
-    marks-all w (length (a .records) / recordSize) (a .records) 0 (λ j l. rw (zero-add j) (k .1 .right j l))
+    marks-all (length (a .records) / recordSize) (a .records) 0 (λ j l. rw (zero-add j) (all-fit w (a .codes) (a .values) (a .records) room (k .1) j l))
     ∙ k .1 .sum
     ∙ length-operations (a .codes) (a .values) (equal-lengths (a .codes) (a .values) (a .records) (k .0))
 
 pub all-marked : AllMarked
-all-marked = marked 8
+all-marked = marked 8 (omega arith)
 
 -- ---- what the two functions left
 
@@ -230,5 +232,5 @@ pub tables-left : TablesLeft
 tables-left a rawRun rawRun′ paddedRun paddedRun′ n m h k =
     let r = was-left rawTable 8 a rawRun rawRun′ n h in
     let p = was-left paddedTable 8 a paddedRun paddedRun′ m k in
-    let few : length (marks (blockIn a .records)) ≤ largest = omega (arith, marked 8 a (r .0), few-codes (a .codes) (a .values) (a .records) (checked 8 (a .codes) (a .values) (a .records) (r .0) .0)) in
+    let few : length (marks (blockIn a .records)) ≤ largest = omega (arith, all-marked a (r .0), few-codes (a .codes) (a .values) (a .records) (checked 8 (a .codes) (a .values) (a .records) (r .0) .0)) in
     rw (r .1, p .1) (tables-lead (blockIn a) few)

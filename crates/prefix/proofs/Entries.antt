@@ -21,28 +21,29 @@ use Rattle.rules.proofs.Digits.{sets-append}
 use Rattle.rules.proofs.Runs.{zeroed}
 use Rattle.operation.specs.Verdict.{verdictOf}
 use Rattle.operation.specs.declared.Verdict.the-variants.{Refused}
-use Rattle.op_batch.proofs.Right.{Sound, rise, below-ninth, flags-ahead}
+use Rattle.op_batch.proofs.Right.{rise, below-ninth, ninth-small, flagged, flags-ahead}
+use Rattle.checks.proofs.Groups.{Laid}
 use Rattle.checks.proofs.Walk.{records-turn, records-end}
 use Rattle.checks.proofs.Passed.{was-refused, andThen, refuse-then, first-then, went-on}
 use Rattle.prefix.specs.declared.Tabled.the-variants as tabled
-use Rattle.prefix.specs.Tables.{Answered, tableBy, tableFrom, padsIn, keptIn, marksAt, ahead, Filling}
+use Rattle.prefix.specs.Tables.{Answered, tableBy, tableFrom, padsIn, keptIn, marksAt, ahead, Goes, Filling}
 
 -- ---- the marks of a batch
 
-module _ (r : Record) (s : length (r .starts) ≡ 9) (f : length (r .flags) ≡ 8) where
+module _ (r : Record) (x : Laid r) where
   pub marks-turn : (g : ℕ) → g < 8 → marksAt r g ≡ marksIn (getD (r .starts) (g + 1) 0 - getD (r .starts) g 0) (getD (r .flags) g 0) ++ marksAt r (g + 1)
   unfolding marksAt differences marksOf
   marks-turn g h =
       rw (
-        drop-cons (r .starts) g 0 (omega arith),
-        drop-cons (r .flags) g 0 (omega arith),
+        drop-cons (r .starts) g 0 (omega (arith, x .starts)),
+        drop-cons (r .flags) g 0 (omega (arith, x .flags)),
         sym (add-one g),
-        drop-cons (r .starts) (g + 1) 0 (omega arith),
+        drop-cons (r .starts) (g + 1) 0 (omega (arith, x .starts)),
       )
 
   pub marks-end : (g : ℕ) → g ≡ 8 → marksAt r g ≡ []
   unfolding marksAt differences marksOf
-  marks-end g h = rw (drop-cons (r .starts) g 0 (omega arith), drop-of-length-le (r .starts) {i = suc g} (omega arith))
+  marks-end g h = rw (drop-cons (r .starts) g 0 (omega (arith, x .starts)), drop-of-length-le (r .starts) {i = suc g} (omega (arith, x .starts)))
 
 -- ---- the entries of a group: n plain operations, and perhaps a padding
 
@@ -81,29 +82,30 @@ copies : (w n k : ℕ) (es : List ℕ) → replicate w k ++ (replicate n k ++ es
 copies zero n k es = ap (λ (m : ℕ). replicate m k ++ es) (sym (zero-add n))
 copies (suc w) n k es = ap (λ (l : List ℕ). k ∷ l) (copies w n k es) ∙ ap (λ (m : ℕ). replicate m k ++ es) (sym (suc-add w n))
 
-module _ (padded : Bool) (r : Record) (s : length (r .starts) ≡ 9) (f : length (r .flags) ≡ 8) (g : ℕ) (h : g < 8) (k w n p : ℕ)
-    (en : n ≡ keptIn padded (getD (r .starts) (g + 1) 0 - getD (r .starts) g 0) p)
-    (ep : p ≡ padsIn (getD (r .starts) (g + 1) 0 - getD (r .starts) g 0) (getD (r .flags) g 0)) (rest : List Bool) where
+-- the g-th group, of these starts and this flag: p paddings, n entries
+module _ (padded : Bool) (r : Record) (x : Laid r) (g : ℕ) (h : g < 8) (k w start end flag : ℕ)
+    (a : start ≡ getD (r .starts) g 0) (z : end ≡ getD (r .starts) (g + 1) 0) (e : flag ≡ getD (r .flags) g 0)
+    (n p : ℕ) (en : n ≡ keptIn padded (end - start) p) (ep : p ≡ padsIn (end - start) flag) (rest : List Bool) where
   one : ahead padded w k (marksAt r g ++ rest) ≡ replicate (w + n) k ++ tableFrom padded (k + p) (marksAt r (g + 1) ++ rest)
   one =
-      ap (λ (ms : List Bool). ahead padded w k (ms ++ rest)) (marks-turn r s f g h)
+      ap (λ (ms : List Bool). ahead padded w k (ms ++ rest)) (marks-turn r x g h)
       ∙ ap (ahead padded w k) (append-assoc (marksIn (getD (r .starts) (g + 1) 0 - getD (r .starts) g 0) (getD (r .flags) g 0)) (marksAt r (g + 1)) rest)
-      ∙ ap (λ (l : List ℕ). replicate w k ++ l) (group padded (getD (r .starts) (g + 1) 0 - getD (r .starts) g 0) (getD (r .flags) g 0) k (marksAt r (g + 1) ++ rest) ∙ rw (en, ep))
+      ∙ ap (λ (l : List ℕ). replicate w k ++ l) (rw (sym a, sym z, sym e, en, ep) (group padded (end - start) flag k (marksAt r (g + 1) ++ rest)))
       ∙ copies w n k (tableFrom padded (k + p) (marksAt r (g + 1) ++ rest))
 
   -- no padding
-  pub wait-turn : p ≡ 0 → ahead padded (w + n) k (marksAt r (g + 1) ++ rest) ≡ ahead padded w k (marksAt r g ++ rest)
+  wait-turn : p ≡ 0 → ahead padded (w + n) k (marksAt r (g + 1) ++ rest) ≡ ahead padded w k (marksAt r g ++ rest)
   wait-turn z = sym (one ∙ ap (λ (m : ℕ). replicate (w + n) k ++ tableFrom padded m (marksAt r (g + 1) ++ rest)) (omega arith))
 
   -- a padding
-  pub run-turn : p ≡ 1 → (out out′ : List ℕ) (at : ℕ) → out′ ≡ sets out at (replicate (w + n) k)
+  run-turn : p ≡ 1 → (out out′ : List ℕ) (at : ℕ) → out′ ≡ sets out at (replicate (w + n) k)
       → sets out′ (at + (w + n)) (ahead padded 0 (k + 1) (marksAt r (g + 1) ++ rest)) ≡ sets out at (ahead padded w k (marksAt r g ++ rest))
   run-turn z out out′ at e =
       let more = tableFrom padded (k + 1) (marksAt r (g + 1) ++ rest) in
       ap₂ (λ (l : List ℕ) (m : ℕ). sets l (at + m) more) e (sym (length-replicate {A = ℕ} (w + n) k))
       ∙ sym (ap (sets out at) (one ∙ ap (λ (m : ℕ). replicate (w + n) k ++ tableFrom padded (k + m) (marksAt r (g + 1) ++ rest)) z) ∙ sets-append out at (replicate (w + n) k) more)
 
-  pub entries-turn : p ≡ 1 → (at : ℕ) → at + (w + n) + length (ahead padded 0 (k + 1) (marksAt r (g + 1) ++ rest)) ≡ at + length (ahead padded w k (marksAt r g ++ rest))
+  entries-turn : p ≡ 1 → (at : ℕ) → at + (w + n) + length (ahead padded 0 (k + 1) (marksAt r (g + 1) ++ rest)) ≡ at + length (ahead padded w k (marksAt r g ++ rest))
   entries-turn z at =
       let more = tableFrom padded (k + 1) (marksAt r (g + 1) ++ rest) in
       omega (
@@ -114,7 +116,7 @@ module _ (padded : Bool) (r : Record) (s : length (r .starts) ≡ 9) (f : length
       )
 
 -- no flag is set from the g-th group on
-module _ (padded : Bool) (width : ℕ) (r : Record) (x : Sound width r) (s : length (r .starts) ≡ 9) (f : length (r .flags) ≡ 8) (k : ℕ) (rest : List Bool) where
+module _ (padded : Bool) (r : Record) (x : Laid r) (k : ℕ) (rest : List Bool) where
   unpadded : (n : ℕ) → keptIn padded n 0 ≡ n
   unpadded n = go padded
     where
@@ -131,21 +133,67 @@ module _ (padded : Bool) (width : ℕ) (r : Record) (x : Sound width r) (s : len
   still zero g w h e =
       let z : g ≡ 8 = omega arith in
       let d : w + (ninth r - getD (r .starts) g 0) ≡ w = rw z (omega arith) in
-      ap (λ (m : ℕ). ahead padded m k rest) d ∙ sym (ap (λ (ms : List Bool). ahead padded w k (ms ++ rest)) (marks-end r s f g z))
+      ap (λ (m : ℕ). ahead padded m k rest) d ∙ sym (ap (λ (ms : List Bool). ahead padded w k (ms ++ rest)) (marks-end r x g z))
   still (suc j) g w h e =
       let l : g < 8 = omega arith in
-      let a = flags-ahead width r x f g l in
-      let up = rise width r x s g l in
-      let top = below-ninth width r x s (g + 1) (omega arith) in
+      let a = flags-ahead (x .width) r (x .sound) (x .flags) g l in
+      let up = rise (x .width) r (x .sound) (x .starts) g l in
+      let top = below-ninth (x .width) r (x .sound) (x .starts) (g + 1) (omega arith) in
       let n = getD (r .starts) (g + 1) 0 - getD (r .starts) g 0 in
       let d : w + (ninth r - getD (r .starts) g 0) ≡ w + n + (ninth r - getD (r .starts) (g + 1) 0) = omega (arith, up, top) in
       ap (λ (m : ℕ). ahead padded m k rest) d
       ∙ still j (g + 1) (w + n) (omega arith) (omega (arith, a))
-      ∙ wait-turn padded r s f g l k w n 0 (sym (unpadded n)) (plain-pads n (getD (r .flags) g 0) (omega (arith, a))) rest refl
+      ∙ wait-turn padded r x g l k w (getD (r .starts) g 0) (getD (r .starts) (g + 1) 0) (getD (r .flags) g 0) refl refl refl n 0 (sym (unpadded n)) (plain-pads n (getD (r .flags) g 0) (omega (arith, a))) rest refl
 
-  pub rest-waits : (g w left : ℕ) → g ≤ 8 → left ≡ number 256 (drop g (r .flags)) → left ≡ 0
+  rest-waits : (g w left : ℕ) → g ≤ 8 → left ≡ number 256 (drop g (r .flags)) → left ≡ 0
       → ahead padded (w + (ninth r - getD (r .starts) g 0)) k rest ≡ ahead padded w k (marksAt r g ++ rest)
   rest-waits g w left h e z = still (8 - g) g w (omega arith) (sym e ∙ z)
+
+-- the walk came to the g-th group: what it goes on to write is what it had to write from the first group on
+pub record On (padded : Bool) (r : Record) (out : List ℕ) (at w k g : ℕ) (out′ : List ℕ) (at′ w′ k′ : ℕ) : Type 0 where
+  run : (rest : List Bool) → sets out′ at′ (ahead padded w′ k′ (marksAt r g ++ rest)) ≡ sets out at (ahead padded w k (marksAt r 0 ++ rest))
+  entries : (rest : List Bool) → at′ + length (ahead padded w′ k′ (marksAt r g ++ rest)) ≡ at + length (ahead padded w k (marksAt r 0 ++ rest))
+
+pub first-on : (padded : Bool) (r : Record) (out : List ℕ) (at w k : ℕ) → On padded r out at w k 0 out at w k
+first-on padded r out at w k = record { run = λ rest. refl; entries = λ rest. refl }
+
+module _ (padded : Bool) (r : Record) (x : Laid r) (out : List ℕ) (at w k g : ℕ) (out′ : List ℕ) (at′ w′ k′ : ℕ) (o : On padded r out at w k g out′ at′ w′ k′) where
+  module _ (h : g < 8) (start end flag : ℕ) (a : start ≡ getD (r .starts) g 0) (z : end ≡ getD (r .starts) (g + 1) 0) (e : flag ≡ getD (r .flags) g 0)
+      (n p : ℕ) (en : n ≡ keptIn padded (end - start) p) (ep : p ≡ padsIn (end - start) flag) where
+    -- no padding
+    pub wait-on : p ≡ 0 → On padded r out at w k (g + 1) out′ at′ (w′ + n) k′
+    wait-on q =
+        record {
+          run = λ rest. ap (sets out′ at′) (wait-turn padded r x g h k′ w′ start end flag a z e n p en ep rest q) ∙ o .run rest;
+          entries = λ rest. ap (λ (es : List ℕ). at′ + length es) (wait-turn padded r x g h k′ w′ start end flag a z e n p en ep rest q) ∙ o .entries rest;
+        }
+
+    -- a padding: what waited is written
+    pub run-on : p ≡ 1 → (out″ : List ℕ) → out″ ≡ sets out′ at′ (replicate (w′ + n) k′) → On padded r out at w k (g + 1) out″ (at′ + (w′ + n)) 0 (k′ + 1)
+    run-on q out″ d =
+        record {
+          run = λ rest. run-turn padded r x g h k′ w′ start end flag a z e n p en ep rest q out′ out″ at′ d ∙ o .run rest;
+          entries = λ rest. entries-turn padded r x g h k′ w′ start end flag a z e n p en ep rest q at′ ∙ o .entries rest;
+        }
+
+  -- no flag is ahead: the rest of the batch waits
+  pub last-on : (left : ℕ) → g ≤ 8 → left ≡ number 256 (drop g (r .flags)) → left ≡ 0 → (start end : ℕ) → start ≡ getD (r .starts) g 0 → end ≡ ninth r
+      → Goes padded (marksAt r 0) (record { entries = at; waiting = w; paddings = k }) (record { entries = at′; waiting = w′ + (end - start); paddings = k′ }) out out′
+  last-on left h d z start end a e =
+      rw (a, e)
+      (record {
+        run = λ rest. ap (sets out′ at′) (rest-waits padded r x k′ rest g w′ left h d z) ∙ o .run rest;
+        entries = λ rest. ap (λ (es : List ℕ). at′ + length es) (rest-waits padded r x k′ rest g w′ left h d z) ∙ o .entries rest;
+      })
+
+-- where a flag is ahead there is a group, and where its starts lie
+pub in-batch : (r : Record) → Laid r → (g left : ℕ) → left ≡ number 256 (drop g (r .flags)) → 0 < left
+    → (g < 8) × (getD (r .starts) g 0 ≤ getD (r .starts) (g + 1) 0) × (getD (r .starts) (g + 1) 0 ≤ 72)
+in-batch r x g left e l =
+    let w = x .width in
+    let h = flagged w r (x .sound) (x .flags) g left e l in
+    let up = rise w r (x .sound) (x .starts) g h in
+    (h, up .0, omega (arith, below-ninth w r (x .sound) (x .starts) (g + 1) (omega arith), ninth-small w r (x .sound) (x .starts)))
 
 -- ---- batch by batch
 

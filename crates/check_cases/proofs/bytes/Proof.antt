@@ -6,19 +6,16 @@ use Rattle.check_cases.proofs.bytes.Statement.{statement}
 use Rattle.check_cases.proofs.bytes.Tie as tie
 
 abbrev Inv-loop : tie.InvT-loop
-Inv-loop s from base n out₀ at₀ i₀ out at i = (i ≤ n) × (at ≤ length s) × (length out ≡ length out₀)
+Inv-loop s from n out₀ at₀ i₀ out at i = (i ≤ n) × (at ≤ length s) × (length out ≡ length out₀)
 
 abbrev μ-loop : tie.MeasureT-loop
-μ-loop s from base n out₀ at₀ i₀ out at i = n - i
+μ-loop s from n out₀ at₀ i₀ out at i = n - i
 
 loop-holds : tie.Need-loop-holds Inv-loop μ-loop
 loop-holds c = search needs
 
 number-requires : tie.Need-number-requires Inv-loop μ-loop
 number-requires c κs = search needs
-
-add-store8 : tie.Need-add-store8 Inv-loop μ-loop
-add-store8 c = search needs
 
 cast-store8 : tie.Need-cast-store8 Inv-loop μ-loop
 cast-store8 c = search needs
@@ -49,7 +46,6 @@ bytes-spec =
     μ-loop
     loop-holds
     number-requires
-    add-store8
     cast-store8
     store8-requires
     add-i

@@ -6,10 +6,10 @@ use Rattle.check_cases.proofs.numbers.Statement.{statement}
 use Rattle.check_cases.proofs.numbers.Tie as tie
 
 abbrev Inv-loop : tie.InvT-loop
-Inv-loop s from base out₀ at₀ i₀ out at i = (i ≤ 8) × (at ≤ length s) × (length out ≡ length out₀)
+Inv-loop s from b out₀ at₀ g₀ out at g = (g ≤ 8) × (at ≤ length s) × (length out ≡ length out₀)
 
 abbrev μ-loop : tie.MeasureT-loop
-μ-loop s from base out₀ at₀ i₀ out at i = 8 - i
+μ-loop s from b out₀ at₀ g₀ out at g = 8 - g
 
 loop-holds : tie.Need-loop-holds Inv-loop μ-loop
 loop-holds c = search needs
@@ -17,17 +17,11 @@ loop-holds c = search needs
 number-requires : tie.Need-number-requires Inv-loop μ-loop
 number-requires c κs = search needs
 
-mul-store-le8 : tie.Need-mul-store-le8 Inv-loop μ-loop
-mul-store-le8 c = search needs
+set-number-requires : tie.Need-set-number-requires Inv-loop μ-loop
+set-number-requires c κs = search needs
 
-add-store-le8 : tie.Need-add-store-le8 Inv-loop μ-loop
-add-store-le8 c = search needs
-
-store-le8-requires : tie.Need-store-le8-requires Inv-loop μ-loop
-store-le8-requires c κs = search needs
-
-add-i : tie.Need-add-i Inv-loop μ-loop
-add-i c = search needs
+add-g : tie.Need-add-g Inv-loop μ-loop
+add-g c = search needs
 
 loop-less : tie.Need-loop-less Inv-loop μ-loop
 loop-less c = search needs
@@ -49,10 +43,8 @@ numbers-spec =
     μ-loop
     loop-holds
     number-requires
-    mul-store-le8
-    add-store-le8
-    store-le8-requires
-    add-i
+    set-number-requires
+    add-g
     loop-less
     loop-again
     same-length

@@ -14,29 +14,23 @@ abbrev μ-loop : tie.MeasureT-loop
 loop-holds : tie.Need-loop-holds Inv-loop μ-loop
 loop-holds c = search needs
 
-mul-bytes : tie.Need-mul-bytes Inv-loop μ-loop
-mul-bytes c = search needs
+starts-requires : tie.Need-starts-requires Inv-loop μ-loop
+starts-requires c κs = search needs
 
-bytes-requires : tie.Need-bytes-requires Inv-loop μ-loop
-bytes-requires c κs = search needs
-
-mul-numbers : tie.Need-mul-numbers Inv-loop μ-loop
-mul-numbers c = search needs
-
-add-numbers : tie.Need-add-numbers Inv-loop μ-loop
-add-numbers c = search needs
+flags-requires : tie.Need-flags-requires Inv-loop μ-loop
+flags-requires c κs = search needs
 
 numbers-requires : tie.Need-numbers-requires Inv-loop μ-loop
 numbers-requires c κs = search needs
 
-mul-bytes-2 : tie.Need-mul-bytes-2 Inv-loop μ-loop
-mul-bytes-2 c = search needs
+number-requires : tie.Need-number-requires Inv-loop μ-loop
+number-requires c κs = search needs
 
-add-bytes : tie.Need-add-bytes Inv-loop μ-loop
-add-bytes c = search needs
+cast-set-count : tie.Need-cast-set-count Inv-loop μ-loop
+cast-set-count c = search needs
 
-bytes-requires-2 : tie.Need-bytes-requires-2 Inv-loop μ-loop
-bytes-requires-2 c κs = search needs
+set-count-requires : tie.Need-set-count-requires Inv-loop μ-loop
+set-count-requires c κs = search needs
 
 add-b : tie.Need-add-b Inv-loop μ-loop
 add-b c = search needs
@@ -60,14 +54,12 @@ records-spec =
     Inv-loop
     μ-loop
     loop-holds
-    mul-bytes
-    bytes-requires
-    mul-numbers
-    add-numbers
+    starts-requires
+    flags-requires
     numbers-requires
-    mul-bytes-2
-    add-bytes
-    bytes-requires-2
+    number-requires
+    cast-set-count
+    set-count-requires
     add-b
     loop-less
     loop-again

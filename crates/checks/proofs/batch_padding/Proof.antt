@@ -1,22 +1,25 @@
-use Rattle.checks.proofs.Flags.{padLeft, plain, over, empty, other, noop, no-flags, begin}
-use Rattle.op_batch.proofs.Right.{flagged, flags-turn}
-use Rattle.checks.proofs.Groups.{lying, in-order, within-codes}
-use Rattle.rules.specs.Functions.{arena}
-use Rattle.rules.specs.Record.{recordAt}
-use Rattle.rules.specs.Operations.{operations}
-use Rattle.rules.specs.Digits.{number}
-use lib.ListN.{drop}
-use borrow.Author.Needs.{needs}
+use mathlib.Core.Path.{_≡_, refl, sym, _∙_}
+use Prim.Native.Nat.{_^_, _≤_, _<_}
 use native.Mathlib.Omega.{arith}
-use Prim.Native.Nat.{_+_, _≤_}
-use mathlib.Core.Bool.{Bool, cond}
-use mathlib.Core.Path.{_≡_, refl, sym, ap, _∙_}
+use borrow.Author.Needs.{needs}
+use lib.ListN.{length, drop}
+use Rattle.rules.specs.Digits.{number}
+use Rattle.rules.specs.Operations.{operations}
+use Rattle.rules.specs.Record.{recordAt}
+use Rattle.op_batch.proofs.Right.{flagged, flags-turn}
+use Rattle.checks.proofs.Groups.{Lying, lying, bounds}
+use Rattle.checks.proofs.Flags.{padLeft, plain, over, empty, other, noop, no-flags, faulty, faultless}
 use Rattle.checks.proofs.batch_padding.Statement.{statement}
 use Rattle.checks.proofs.batch_padding.Tie as tie
 
 abbrev Inv-loop : tie.InvT-loop
 Inv-loop codes values records b from count left₀ g₀ left g =
-    (g ≤ 8) × (padLeft (recordAt records b) (operations codes values) from g ≡ padLeft (recordAt records b) (operations codes values) from 0) × (left ≡ number 256 (drop g (recordAt records b .flags)))
+    Lying (recordAt records b) codes values from
+    × (count ≡ recordAt records b .count)
+    × (g ≤ 8)
+    × (padLeft (recordAt records b) (operations codes values) from g ≡ padLeft (recordAt records b) (operations codes values) from 0)
+    × (left ≡ number 256 (drop g (recordAt records b .flags)))
+    × (length codes < 2 ^ 64)
 
 abbrev μ-loop : tie.MeasureT-loop
 μ-loop codes values records b from count left₀ g₀ left g = left
@@ -28,15 +31,16 @@ flags-requires : tie.Need-flags-requires Inv-loop μ-loop
 flags-requires c κs = search needs
 
 loop-holds : tie.Need-loop-holds Inv-loop μ-loop
-loop-holds c = (omega arith, refl, c .flags .ensures)
+loop-holds c =
+    let n = c .before in
+    (lying _ _ _ (n .before .before .before .before .pre), n .count .ensures .0, omega arith, refl, c .flags .ensures, omega arith)
 
 flag-requires : tie.Need-flag-requires Inv-loop μ-loop
 flag-requires c κs =
-    let a = c .before .before .before .before .before .before .before .args in
-    let n = arena (a .codes .now) (a .values .now) (a .records .now) in
-    let x = lying n (a .b) (a .from) (c .before .before .before .before .before .before .before .pre) in
     let l = c .before .loop in
-    let h = flagged _ _ (x .sound) (x .flags) (l .g) (l .left) (l .inv .2) (c .loop-test .taken) in
+    let v = l .inv in
+    let x = v .0 in
+    let h = flagged _ _ (x .laid .sound) (x .laid .flags) (l .g) (l .left) (v .4) (c .loop-test .taken) in
     omega arith
 
 add-g : tie.Need-add-g Inv-loop μ-loop
@@ -47,91 +51,84 @@ loop-less c = omega arith
 
 loop-again : tie.Need-loop-again Inv-loop μ-loop
 loop-again c =
-    let a = c .before .before .before .before .before .before .before .before .before .args in
-    let n = arena (a .codes .now) (a .values .now) (a .records .now) in
-    let x = lying n (a .b) (a .from) (c .before .before .before .before .before .before .before .before .before .pre) in
-    let l = c .before .before .before .loop in
-    let h = flagged _ _ (x .sound) (x .flags) (l .g) (l .left) (l .inv .2) (c .before .before .loop-test .taken) in
-    (omega arith, plain _ _ _ _ x (l .g) h (sym (c .before .flag .ensures) ∙ c .if1 .taken) ∙ l .inv .1, flags-turn _ _ (x .sound) (x .flags) (l .g) (l .left) (l .inv .2) h)
+    let f = c .before in
+    let t = f .before in
+    let l = t .before .loop in
+    let v = l .inv in
+    let x = v .0 in
+    let h = flagged _ _ (x .laid .sound) (x .laid .flags) (l .g) (l .left) (v .4) (t .loop-test .taken) in
+    (x, v .1, omega arith, plain _ _ _ _ x (l .g) h (sym (f .flag .ensures) ∙ c .if1 .taken) ∙ v .3, flags-turn _ _ (x .laid .sound) (x .laid .flags) (l .g) (l .left) (v .4) h, v .5)
 
 returns : tie.Need-returns Inv-loop μ-loop
 returns c =
-    let a = c .before .before .before .before .before .before .before .before .before .before .args in
-    let n = arena (a .codes .now) (a .values .now) (a .records .now) in
-    let x = lying n (a .b) (a .from) (c .before .before .before .before .before .before .before .before .before .before .pre) in
-    let l = c .before .before .before .before .loop in
-    let h = flagged _ _ (x .sound) (x .flags) (l .g) (l .left) (l .inv .2) (c .before .before .before .loop-test .taken) in
-    let e = over _ _ _ _ x (l .g) h (λ z. c .before .if1 .left (c .before .before .flag .ensures ∙ z)) (omega (arith, c .before .before .before .before .before .before .count .ensures .0, c .if2 .taken)) in
-    ap (λ (t : Bool). cond t 0 10) (sym e ∙ l .inv .1) ∙ begin n (a .b) (a .from) (c .before .before .before .before .before .before .before .before .before .before .pre)
+    let i = c .before in
+    let f = i .before in
+    let t = f .before in
+    let l = t .before .loop in
+    let v = l .inv in
+    let x = v .0 in
+    let h = flagged _ _ (x .laid .sound) (x .laid .flags) (l .g) (l .left) (v .4) (t .loop-test .taken) in
+    faulty _ _ _ _ x (l .g) (v .3) (over _ _ _ _ x (l .g) h (λ z. i .if1 .left (f .flag .ensures ∙ z)) (omega arith))
 
 add-start : tie.Need-add-start Inv-loop μ-loop
 add-start c = search needs
 
 start-requires : tie.Need-start-requires Inv-loop μ-loop
-start-requires c κs =
-    let a = c .before .before .before .before .before .before .before .before .before .before .args in
-    let n = arena (a .codes .now) (a .values .now) (a .records .now) in
-    let x = lying n (a .b) (a .from) (c .before .before .before .before .before .before .before .before .before .before .pre) in
-    let l = c .before .before .before .before .loop in
-    let h = flagged _ _ (x .sound) (x .flags) (l .g) (l .left) (l .inv .2) (c .before .before .before .loop-test .taken) in
-    omega arith
+start-requires c κs = search needs
 
 start-requires-2 : tie.Need-start-requires-2 Inv-loop μ-loop
-start-requires-2 c κs =
-    let a = c .before .before .before .before .before .before .before .before .before .before .before .args in
-    let n = arena (a .codes .now) (a .values .now) (a .records .now) in
-    let x = lying n (a .b) (a .from) (c .before .before .before .before .before .before .before .before .before .before .before .pre) in
-    let l = c .before .before .before .before .before .loop in
-    let h = flagged _ _ (x .sound) (x .flags) (l .g) (l .left) (l .inv .2) (c .before .before .before .before .loop-test .taken) in
-    omega arith
+start-requires-2 c κs = search needs
 
 returns-2 : tie.Need-returns-2 Inv-loop μ-loop
 returns-2 c =
-    let a = c .before .before .before .before .before .before .before .before .before .before .before .before .before .args in
-    let n = arena (a .codes .now) (a .values .now) (a .records .now) in
-    let x = lying n (a .b) (a .from) (c .before .before .before .before .before .before .before .before .before .before .before .before .before .pre) in
-    let l = c .before .before .before .before .before .before .before .loop in
-    let h = flagged _ _ (x .sound) (x .flags) (l .g) (l .left) (l .inv .2) (c .before .before .before .before .before .before .loop-test .taken) in
-    let e = empty _ _ _ _ x (l .g) h (λ z. c .before .before .before .before .if1 .left (c .before .before .before .before .before .flag .ensures ∙ z)) (omega (arith, c .before .before .before .before .before .before .before .before .before .count .ensures .0, c .before .before .before .if2 .left)) (sym (c .before .start2 .ensures .0) ∙ c .if3 .taken ∙ c .before .before .start .ensures .0) in
-    ap (λ (t : Bool). cond t 0 10) (sym e ∙ l .inv .1) ∙ begin n (a .b) (a .from) (c .before .before .before .before .before .before .before .before .before .before .before .before .before .pre)
+    let s = c .before in
+    let e = s .before in
+    let i = e .before .before in
+    let f = i .before in
+    let t = f .before in
+    let l = t .before .loop in
+    let v = l .inv in
+    let x = v .0 in
+    let h = flagged _ _ (x .laid .sound) (x .laid .flags) (l .g) (l .left) (v .4) (t .loop-test .taken) in
+    faulty _ _ _ _ x (l .g) (v .3) (empty _ _ _ _ x (l .g) h (λ z. i .if1 .left (f .flag .ensures ∙ z)) (omega arith) _ _ (s .start2 .ensures .0) (e .start .ensures .0) (c .if3 .taken))
 
 add-if4 : tie.Need-add-if4 Inv-loop μ-loop
 add-if4 c =
-    let a = c .before .before .before .before .before .before .before .before .before .before .before .before .before .args in
-    let n = arena (a .codes .now) (a .values .now) (a .records .now) in
-    let x = lying n (a .b) (a .from) (c .before .before .before .before .before .before .before .before .before .before .before .before .before .pre) in
-    let l = c .before .before .before .before .before .before .before .loop in
-    let h = flagged _ _ (x .sound) (x .flags) (l .g) (l .left) (l .inv .2) (c .before .before .before .before .before .before .loop-test .taken) in
-    omega (arith, within-codes _ _ _ _ x (l .g + 1) (omega arith), c .before .before .start .ensures .0)
+    let s = c .before in
+    let e = s .before in
+    let l = e .before .before .before .before .before .loop in
+    let x = l .inv .0 in
+    omega (arith, bounds _ _ _ _ x (l .g) (omega arith) _ _ (s .start2 .ensures .0) (e .start .ensures .0))
 
 sub-if4 : tie.Need-sub-if4 Inv-loop μ-loop
 sub-if4 c =
-    let a = c .before .before .before .before .before .before .before .before .before .before .before .before .before .args in
-    let n = arena (a .codes .now) (a .values .now) (a .records .now) in
-    let x = lying n (a .b) (a .from) (c .before .before .before .before .before .before .before .before .before .before .before .before .before .pre) in
-    let l = c .before .before .before .before .before .before .before .loop in
-    let h = flagged _ _ (x .sound) (x .flags) (l .g) (l .left) (l .inv .2) (c .before .before .before .before .before .before .loop-test .taken) in
-    omega (arith, in-order _ _ _ _ x (l .g) h, c .before .before .start .ensures .0, c .before .start2 .ensures .0)
+    let s = c .before in
+    let e = s .before in
+    let l = e .before .before .before .before .before .loop in
+    let x = l .inv .0 in
+    omega (arith, bounds _ _ _ _ x (l .g) (omega arith) _ _ (s .start2 .ensures .0) (e .start .ensures .0))
 
 shared-slice-read-if4 : tie.Need-shared-slice-read-if4 Inv-loop μ-loop
 shared-slice-read-if4 c =
-    let a = c .before .before .before .before .before .before .before .before .before .before .before .before .before .before .args in
-    let n = arena (a .codes .now) (a .values .now) (a .records .now) in
-    let x = lying n (a .b) (a .from) (c .before .before .before .before .before .before .before .before .before .before .before .before .before .before .pre) in
-    let l = c .before .before .before .before .before .before .before .before .loop in
-    let h = flagged _ _ (x .sound) (x .flags) (l .g) (l .left) (l .inv .2) (c .before .before .before .before .before .before .before .loop-test .taken) in
-    omega (arith, in-order _ _ _ _ x (l .g) h, within-codes _ _ _ _ x (l .g + 1) (omega arith), c .before .before .before .start .ensures .0, c .before .before .start2 .ensures .0)
+    let s = c .before .before in
+    let e = s .before in
+    let l = e .before .before .before .before .before .loop in
+    let x = l .inv .0 in
+    omega (arith, bounds _ _ _ _ x (l .g) (omega arith) _ _ (s .start2 .ensures .0) (e .start .ensures .0))
 
 returns-3 : tie.Need-returns-3 Inv-loop μ-loop
 returns-3 c =
-    let a = c .before .before .before .before .before .before .before .before .before .before .before .before .before .before .before .args in
-    let n = arena (a .codes .now) (a .values .now) (a .records .now) in
-    let x = lying n (a .b) (a .from) (c .before .before .before .before .before .before .before .before .before .before .before .before .before .before .before .pre) in
-    let l = c .before .before .before .before .before .before .before .before .before .loop in
-    let h = flagged _ _ (x .sound) (x .flags) (l .g) (l .left) (l .inv .2) (c .before .before .before .before .before .before .before .before .loop-test .taken) in
-    let s = c .before .before .before .before .start .ensures .0 in
-    let e = other _ _ _ _ x (l .g) h (λ z. c .before .before .before .before .before .before .if1 .left (c .before .before .before .before .before .before .before .flag .ensures ∙ z)) (omega (arith, c .before .before .before .before .before .before .before .before .before .before .before .count .ensures .0, c .before .before .before .before .before .if2 .left)) (λ z. c .before .before .if3 .left (c .before .before .before .start2 .ensures .0 ∙ z ∙ sym s)) (rw s at (c .if4 .taken)) in
-    ap (λ (t : Bool). cond t 0 10) (sym e ∙ l .inv .1) ∙ begin n (a .b) (a .from) (c .before .before .before .before .before .before .before .before .before .before .before .before .before .before .before .pre)
+    let k = c .before .before in
+    let s = k .before in
+    let e = s .before in
+    let i = e .before .before in
+    let f = i .before in
+    let t = f .before in
+    let l = t .before .loop in
+    let v = l .inv in
+    let x = v .0 in
+    let h = flagged _ _ (x .laid .sound) (x .laid .flags) (l .g) (l .left) (v .4) (t .loop-test .taken) in
+    faulty _ _ _ _ x (l .g) (v .3) (other _ _ _ _ x (l .g) h (λ z. i .if1 .left (f .flag .ensures ∙ z)) (omega arith) _ _ (s .start2 .ensures .0) (e .start .ensures .0) (k .if3 .left) (c .if4 .taken))
 
 add-g-2 : tie.Need-add-g-2 Inv-loop μ-loop
 add-g-2 c = search needs
@@ -141,22 +138,23 @@ loop-less-2 c = omega arith
 
 loop-again-2 : tie.Need-loop-again-2 Inv-loop μ-loop
 loop-again-2 c =
-    let a = c .before .before .before .before .before .before .before .before .before .before .before .before .before .before .before .args in
-    let n = arena (a .codes .now) (a .values .now) (a .records .now) in
-    let x = lying n (a .b) (a .from) (c .before .before .before .before .before .before .before .before .before .before .before .before .before .before .before .pre) in
-    let l = c .before .before .before .before .before .before .before .before .before .loop in
-    let h = flagged _ _ (x .sound) (x .flags) (l .g) (l .left) (l .inv .2) (c .before .before .before .before .before .before .before .before .loop-test .taken) in
-    let s = c .before .before .before .before .start .ensures .0 in
-    let e = noop _ _ _ _ x (l .g) h (λ z. c .before .before .before .before .before .before .if1 .left (c .before .before .before .before .before .before .before .flag .ensures ∙ z)) (omega (arith, c .before .before .before .before .before .before .before .before .before .before .before .count .ensures .0, c .before .before .before .before .before .if2 .left)) (λ z. c .before .before .if3 .left (c .before .before .before .start2 .ensures .0 ∙ z ∙ sym s)) (rw s at (c .if4 .left)) in
-    (omega arith, e ∙ l .inv .1, flags-turn _ _ (x .sound) (x .flags) (l .g) (l .left) (l .inv .2) h)
+    let k = c .before .before in
+    let s = k .before in
+    let e = s .before in
+    let i = e .before .before in
+    let f = i .before in
+    let t = f .before in
+    let l = t .before .loop in
+    let v = l .inv in
+    let x = v .0 in
+    let h = flagged _ _ (x .laid .sound) (x .laid .flags) (l .g) (l .left) (v .4) (t .loop-test .taken) in
+    (x, v .1, omega arith, noop _ _ _ _ x (l .g) h (λ z. i .if1 .left (f .flag .ensures ∙ z)) (omega arith) _ _ (s .start2 .ensures .0) (e .start .ensures .0) (k .if3 .left) (c .if4 .left) ∙ v .3, flags-turn _ _ (x .laid .sound) (x .laid .flags) (l .g) (l .left) (v .4) h, v .5)
 
 returns-4 : tie.Need-returns-4 Inv-loop μ-loop
 returns-4 c =
-    let a = c .before .before .before .before .before .before .before .args in
-    let n = arena (a .codes .now) (a .values .now) (a .records .now) in
-    let x = lying n (a .b) (a .from) (c .before .before .before .before .before .before .before .pre) in
     let l = c .before .loop in
-    ap (λ (t : Bool). cond t 0 10) (sym (no-flags _ _ _ _ x (l .g) (l .left) (l .inv .0) (l .inv .2) (omega arith)) ∙ l .inv .1) ∙ begin n (a .b) (a .from) (c .before .before .before .before .before .before .before .pre)
+    let v = l .inv in
+    faultless _ _ _ _ (v .0) (l .g) (v .3) (no-flags _ _ _ _ (v .0) (l .g) (l .left) (v .2) (v .4) (omega arith))
 
 pub batch-padding-spec : {M : Type 1} → statement M
 batch-padding-spec =

@@ -1,17 +1,23 @@
-use Rattle.commitment.proofs.Owed.{Gone, gone-first, gone-held, gone-free, gone-full, gone-all}
-use Rattle.checks.proofs.Groups.{lying, in-order, at-most-9, within-codes}
-use Rattle.rules.specs.Functions.{arena}
-use Rattle.rules.specs.Record.{recordAt}
-use borrow.Author.Needs.{needs}
+use mathlib.Core.Path.{_≡_, sym, _∙_}
+use Prim.Native.Nat.{ℕ, _+_, _-_, _*_, _≤_}
 use native.Mathlib.Omega.{arith}
-use Prim.Native.Nat.{ℕ, _+_, _-_, _≤_, _<_}
-use mathlib.Core.Path.{_≡_, sym, ap, _∙_}
+use borrow.Author.Needs.{needs}
+use lib.ListN.{length}
+use Rattle.rules.specs.Record.{recordSize, recordAt}
+use Rattle.checks.proofs.Groups.{Lying, lying, within-codes, bounds}
+use Rattle.commitment.proofs.Owed.{Gone, gone-first, gone-held, gone-free, gone-full, gone-all}
 use Rattle.commitment.proofs.batch_right.Statement.{statement}
 use Rattle.commitment.proofs.batch_right.Tie as tie
 
 abbrev Inv-loop : tie.InvT-loop
 Inv-loop table codes values records b from count held₀ g₀ held g =
-    (g ≤ recordAt records b .count) × (held ≤ recordAt records b .count) × Gone table (recordAt records b) codes values from held g
+    Lying (recordAt records b) codes values from
+    × (length table ≡ 128)
+    × (recordSize * b + recordSize ≤ length records)
+    × (count ≡ recordAt records b .count)
+    × (g ≤ count)
+    × (held ≤ count)
+    × Gone table (recordAt records b) codes values from held g
 
 abbrev μ-loop : tie.MeasureT-loop
 μ-loop table codes values records b from count held₀ g₀ held g = count - g
@@ -21,41 +27,27 @@ count-requires c κs = search needs
 
 loop-holds : tie.Need-loop-holds Inv-loop μ-loop
 loop-holds c =
-    let a = c .before .before .before .before .before .args in
-    (omega arith, omega arith, gone-first (a .table .now) _ _ _ _ (lying (arena (a .codes .now) (a .values .now) (a .records .now)) (a .b) (a .from) (c .before .before .before .before .before .pre .0)))
+    let e = c .before .before .before .before .before in
+    let x = lying _ _ _ (e .pre .0) in
+    (x, e .pre .1, e .pre .0 .whole, c .count .ensures .0, omega arith, omega arith, gone-first _ _ _ _ _ x)
 
 start-requires : tie.Need-start-requires Inv-loop μ-loop
-start-requires c κs =
-    let a = c .before .before .before .before .before .before .before .args in
-    let x = lying (arena (a .codes .now) (a .values .now) (a .records .now)) (a .b) (a .from) (c .before .before .before .before .before .before .before .pre .0) in
-    omega (arith, x .count, c .before .before .count .ensures .0)
+start-requires c κs = search needs
 
 add-start : tie.Need-add-start Inv-loop μ-loop
-add-start c =
-    let a = c .before .before .before .before .before .before .before .before .args in
-    let x = lying (arena (a .codes .now) (a .values .now) (a .records .now)) (a .b) (a .from) (c .before .before .before .before .before .before .before .before .pre .0) in
-    omega (arith, x .count, c .before .before .before .count .ensures .0, within-codes _ _ _ _ x (c .before .before .loop .g) (omega (arith, x .count, c .before .before .before .count .ensures .0)), c .start .ensures .0)
+add-start c = let l = c .before .before .loop in omega (arith, within-codes _ _ _ _ (l .inv .0) (l .g) (omega arith))
 
 add-start-2 : tie.Need-add-start-2 Inv-loop μ-loop
 add-start-2 c = search needs
 
 start-requires-2 : tie.Need-start-requires-2 Inv-loop μ-loop
-start-requires-2 c κs =
-    let a = c .before .before .before .before .before .before .before .before .args in
-    let x = lying (arena (a .codes .now) (a .values .now) (a .records .now)) (a .b) (a .from) (c .before .before .before .before .before .before .before .before .pre .0) in
-    omega (arith, x .count, c .before .before .before .count .ensures .0)
+start-requires-2 c κs = search needs
 
 add-end : tie.Need-add-end Inv-loop μ-loop
-add-end c =
-    let a = c .before .before .before .before .before .before .before .before .before .args in
-    let x = lying (arena (a .codes .now) (a .values .now) (a .records .now)) (a .b) (a .from) (c .before .before .before .before .before .before .before .before .before .pre .0) in
-    omega (arith, within-codes _ _ _ _ x (c .before .before .before .loop .g + 1) (omega (arith, x .count, c .before .before .before .before .count .ensures .0)), c .start2 .ensures .0)
+add-end c = let l = c .before .before .before .loop in omega (arith, within-codes _ _ _ _ (l .inv .0) (l .g + 1) (omega arith))
 
 number-requires : tie.Need-number-requires Inv-loop μ-loop
-number-requires c κs =
-    let a = c .before .before .before .before .before .before .before .before .before .args in
-    let x = lying (arena (a .codes .now) (a .values .now) (a .records .now)) (a .b) (a .from) (c .before .before .before .before .before .before .before .before .before .pre .0) in
-    omega (arith, x .count, c .before .before .before .before .count .ensures .0)
+number-requires c κs = search needs
 
 add-g : tie.Need-add-g Inv-loop μ-loop
 add-g c = search needs
@@ -65,13 +57,12 @@ loop-less c = search needs
 
 loop-again : tie.Need-loop-again Inv-loop μ-loop
 loop-again c =
-    let a = c .before .before .before .before .before .before .before .before .before .before .before .before .args in
-    let x = lying (arena (a .codes .now) (a .values .now) (a .records .now)) (a .b) (a .from) (c .before .before .before .before .before .before .before .before .before .before .before .before .pre .0) in
-    let l = c .before .before .before .before .before .before .loop in
-    let h : l .g < recordAt (a .records .now) (a .b) .count = omega (arith, c .before .before .before .before .before .before .before .count .ensures .0, c .before .before .before .before .before .loop-test .taken) in
-    let i = ap (λ (k : ℕ). a .from + k) (c .before .before .before .before .start .ensures .0) in
-    let z = ap (λ (k : ℕ). a .from + k) (c .before .before .before .start2 .ensures .0) in
-    (omega arith, l .inv .1, gone-held _ _ _ _ _ x (l .held) (l .g) (l .inv .2) h _ _ i z (c .before .if1 .taken) (c .if2 .taken))
+    let f = c .before in
+    let e = f .before .before in
+    let s = e .before in
+    let l = s .before .before .loop in
+    let v = l .inv in
+    (v .0, v .1, v .2, v .3, omega arith, v .5, gone-held _ _ _ _ _ (v .0) (l .held) (l .g) (v .6) (omega arith) _ _ (s .start .ensures .0) (e .start2 .ensures .0) (f .if1 .taken) (c .if2 .taken))
 
 returns : tie.Need-returns Inv-loop μ-loop
 returns c = λ e. let y : _≡_ {A = ℕ} 0 1 = cc in absurd (omega arith)
@@ -84,13 +75,14 @@ loop-less-2 c = search needs
 
 loop-again-2 : tie.Need-loop-again-2 Inv-loop μ-loop
 loop-again-2 c =
-    let a = c .before .before .before .before .before .before .before .before .before .before .before .before .before .args in
-    let x = lying (arena (a .codes .now) (a .values .now) (a .records .now)) (a .b) (a .from) (c .before .before .before .before .before .before .before .before .before .before .before .before .before .pre .0) in
-    let l = c .before .before .before .before .before .before .before .loop in
-    let h : l .g < recordAt (a .records .now) (a .b) .count = omega (arith, c .before .before .before .before .before .before .before .before .count .ensures .0, c .before .before .before .before .before .before .loop-test .taken) in
-    let i = ap (λ (k : ℕ). a .from + k) (c .before .before .before .before .before .start .ensures .0) in
-    let z = ap (λ (k : ℕ). a .from + k) (c .before .before .before .before .start2 .ensures .0) in
-    (omega arith, l .inv .1, gone-free _ _ _ _ _ x (l .held) (l .g) (l .inv .2) h _ _ i z (c .before .before .if1 .taken) (c .before .if2 .left) (sym (c .before .before .before .number .ensures) ∙ c .if3 .left))
+    let h = c .before in
+    let f = h .before in
+    let m = f .before in
+    let e = m .before in
+    let s = e .before in
+    let l = s .before .before .loop in
+    let v = l .inv in
+    (v .0, v .1, v .2, v .3, omega arith, v .5, gone-free _ _ _ _ _ (v .0) (l .held) (l .g) (v .6) (omega arith) _ _ (s .start .ensures .0) (e .start2 .ensures .0) (f .if1 .taken) (h .if2 .left) (sym (m .number .ensures) ∙ c .if3 .left))
 
 returns-2 : tie.Need-returns-2 Inv-loop μ-loop
 returns-2 c = λ e. let y : _≡_ {A = ℕ} 0 1 = cc in absurd (omega arith)
@@ -100,11 +92,12 @@ add-walk-group c = search needs
 
 walk-group-requires : tie.Need-walk-group-requires Inv-loop μ-loop
 walk-group-requires c κs =
-    let a = c .before .before .before .before .before .before .before .before .before .before .before .before .args in
-    let x = lying (arena (a .codes .now) (a .values .now) (a .records .now)) (a .b) (a .from) (c .before .before .before .before .before .before .before .before .before .before .before .before .pre .0) in
-    let l = c .before .before .before .before .before .before .loop in
-    let h : l .g < 8 = omega (arith, x .count, c .before .before .before .before .before .before .before .count .ensures .0) in
-    (omega (arith, x .equal, c .before .before .before .before .before .before .before .before .before .before .before .before .pre .1, in-order _ _ _ _ x (l .g) h, at-most-9 _ _ _ _ x (l .g) h, within-codes _ _ _ _ x (l .g + 1) (omega arith), c .before .before .before .start2 .ensures .0, c .before .before .before .before .start .ensures .0), omega arith)
+    let e = c .before .before .before in
+    let s = e .before in
+    let l = s .before .before .loop in
+    let v = l .inv in
+    let b = bounds _ _ _ _ (v .0) (l .g) (omega arith) _ _ (s .start .ensures .0) (e .start2 .ensures .0) in
+    ((v .0 .equal, b .2, omega arith, omega arith, v .1), omega arith)
 
 returns-3 : tie.Need-returns-3 Inv-loop μ-loop
 returns-3 c = λ e. let y : _≡_ {A = ℕ} 0 1 = cc in absurd (omega arith)
@@ -120,22 +113,23 @@ loop-less-3 c = search needs
 
 loop-again-3 : tie.Need-loop-again-3 Inv-loop μ-loop
 loop-again-3 c =
-    let a = c .before .before .before .before .before .before .before .before .before .before .before .before .before .before .before .before .args in
-    let x = lying (arena (a .codes .now) (a .values .now) (a .records .now)) (a .b) (a .from) (c .before .before .before .before .before .before .before .before .before .before .before .before .before .before .before .before .pre .0) in
-    let l = c .before .before .before .before .before .before .before .before .before .before .loop in
-    let n = c .before .before .before .before .before .before .before .before .before .before .before .count .ensures .0 in
-    let h : l .g < recordAt (a .records .now) (a .b) .count = omega (arith, n, c .before .before .before .before .before .before .before .before .before .loop-test .taken) in
-    let i = ap (λ (k : ℕ). a .from + k) (c .before .before .before .before .before .before .before .before .start .ensures .0) in
-    let z = ap (λ (k : ℕ). a .from + k) (c .before .before .before .before .before .before .before .start2 .ensures .0) in
-    let w = c .before .before .before .walk-group in
-    let low : w .result .next ≤ 8 = omega (arith, n, x .count, c .before .before .if5 .left) in
-    (omega arith, omega (arith, n), gone-full _ _ _ _ _ x (l .held) (l .g) (l .inv .2) h _ _ i z (c .before .before .before .before .before .if1 .left) (c .before .before .before .before .if4 .left) (w .result .next) (w .ensures .0) low (sym (c .before .before .before .before .before .before .number .ensures) ∙ sym (c .if6 .left) ∙ w .ensures .1 low))
+    let q = c .before .before in
+    let w = q .before in
+    let h = w .before in
+    let f = h .before in
+    let m = f .before in
+    let e = m .before in
+    let s = e .before in
+    let l = s .before .before .loop in
+    let v = l .inv in
+    let low : w .walk-group .result .next ≤ 8 = omega (arith, v .0 .laid .count, v .3, q .if5 .left) in
+    (v .0, v .1, v .2, v .3, omega arith, omega (arith, q .if5 .left), gone-full _ _ _ _ _ (v .0) (l .held) (l .g) (v .6) (omega arith) _ _ (s .start .ensures .0) (e .start2 .ensures .0) (f .if1 .left) (h .if4 .left) _ (w .walk-group .ensures .0) low (sym (m .number .ensures) ∙ sym (c .if6 .left) ∙ w .walk-group .ensures .1 low))
 
 returns-5 : tie.Need-returns-5 Inv-loop μ-loop
 returns-5 c =
-    let a = c .before .before .before .before .before .before .before .args in
     let l = c .before .loop in
-    λ e. gone-all (a .table .now) (arena (a .codes .now) (a .values .now) (a .records .now)) (a .b) (a .from) (l .held) (l .g) (c .before .before .before .before .before .before .before .pre .0) (omega (arith, c .before .before .count .ensures .0)) (omega (arith, c .before .before .count .ensures .0)) (l .inv .2)
+    let v = l .inv in
+    λ e. gone-all _ _ _ _ (l .held) (l .g) (v .0) (omega arith) (omega arith) (v .6)
 
 pub batch-right-spec : {M : Type 1} → statement M
 batch-right-spec =

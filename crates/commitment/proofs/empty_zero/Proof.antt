@@ -1,18 +1,22 @@
-use mathlib.Core.Path.{_≡_, refl, sym, ap, _∙_}
-use Prim.Native.Nat.{ℕ, _+_, _-_, _≤_, _<_}
+use mathlib.Core.Path.{_≡_, refl, sym, _∙_}
+use Prim.Native.Nat.{_+_, _-_, _≤_}
 use native.Mathlib.Omega.{arith}
 use borrow.Author.Needs.{needs}
 use Rattle.rules.specs.Operations.{operations}
 use Rattle.rules.specs.Record.{recordAt}
-use Rattle.rules.specs.Functions.{arena}
-use Rattle.checks.proofs.Groups.{lying, within-codes}
+use Rattle.checks.specs.Batch.{Apt}
+use Rattle.checks.proofs.Groups.{Lying, lying, within-codes, bounds}
 use Rattle.commitment.proofs.Numbers.{emptyLeft, empty-begin, empty-done, empty-skip, empty-held, empty-right, empty-wrong}
 use Rattle.commitment.proofs.empty_zero.Statement.{statement}
 use Rattle.commitment.proofs.empty_zero.Tie as tie
 
 abbrev Inv-loop : tie.InvT-loop
 Inv-loop table codes values records b from count held₀ g₀ held g =
-    (g ≤ 8) × (emptyLeft table (recordAt records b) (operations codes values) from held g ≡ emptyLeft table (recordAt records b) (operations codes values) from 0 0)
+    Lying (recordAt records b) codes values from
+    × Apt table codes
+    × (count ≡ recordAt records b .count)
+    × (g ≤ 8)
+    × (emptyLeft table (recordAt records b) (operations codes values) from held g ≡ emptyLeft table (recordAt records b) (operations codes values) from 0 0)
 
 abbrev μ-loop : tie.MeasureT-loop
 μ-loop table codes values records b from count held₀ g₀ held g = count - g
@@ -21,44 +25,32 @@ count-requires : tie.Need-count-requires Inv-loop μ-loop
 count-requires c κs = search needs
 
 loop-holds : tie.Need-loop-holds Inv-loop μ-loop
-loop-holds c = (omega arith, refl)
+loop-holds c =
+    let e = c .before .before .before .before .before in
+    (lying _ _ _ (e .pre .0), e .pre .1, c .count .ensures .0, omega arith, refl)
 
 start-requires : tie.Need-start-requires Inv-loop μ-loop
-start-requires c κs =
-    let a = c .before .before .before .before .before .before .before .args in
-    let x = lying (arena (a .codes .now) (a .values .now) (a .records .now)) (a .b) (a .from) (c .before .before .before .before .before .before .before .pre .0) in
-    omega (arith, x .count, c .before .before .count .ensures .0)
+start-requires c κs = search needs
 
 add-start : tie.Need-add-start Inv-loop μ-loop
-add-start c =
-    let a = c .before .before .before .before .before .before .before .before .args in
-    let x = lying (arena (a .codes .now) (a .values .now) (a .records .now)) (a .b) (a .from) (c .before .before .before .before .before .before .before .before .pre .0) in
-    let l = c .before .before .loop in
-    omega (arith, x .count, c .before .before .before .count .ensures .0, within-codes _ _ _ _ x (l .g) (omega (arith, x .count, c .before .before .before .count .ensures .0)), c .start .ensures .0)
+add-start c = let l = c .before .before .loop in omega (arith, within-codes _ _ _ _ (l .inv .0) (l .g) (omega arith))
 
 add-start-2 : tie.Need-add-start-2 Inv-loop μ-loop
 add-start-2 c = search needs
 
 start-requires-2 : tie.Need-start-requires-2 Inv-loop μ-loop
-start-requires-2 c κs =
-    let a = c .before .before .before .before .before .before .before .before .args in
-    let x = lying (arena (a .codes .now) (a .values .now) (a .records .now)) (a .b) (a .from) (c .before .before .before .before .before .before .before .before .pre .0) in
-    omega (arith, x .count, c .before .before .before .count .ensures .0)
+start-requires-2 c κs = search needs
 
 add-end : tie.Need-add-end Inv-loop μ-loop
-add-end c =
-    let a = c .before .before .before .before .before .before .before .before .before .args in
-    let x = lying (arena (a .codes .now) (a .values .now) (a .records .now)) (a .b) (a .from) (c .before .before .before .before .before .before .before .before .before .pre .0) in
-    let l = c .before .before .before .loop in
-    omega (arith, within-codes _ _ _ _ x (l .g + 1) (omega (arith, x .count, c .before .before .before .before .count .ensures .0)), c .start2 .ensures .0)
+add-end c = let l = c .before .before .before .loop in omega (arith, within-codes _ _ _ _ (l .inv .0) (l .g + 1) (omega arith))
 
 count-immediates-requires : tie.Need-count-immediates-requires Inv-loop μ-loop
 count-immediates-requires c κs =
-    let a = c .before .before .before .before .before .before .before .before .before .before .args in
-    let x = lying (arena (a .codes .now) (a .values .now) (a .records .now)) (a .b) (a .from) (c .before .before .before .before .before .before .before .before .before .before .pre .0) in
-    let l = c .before .before .before .before .loop in
-    let h : l .g < 8 = omega (arith, x .count, c .before .before .before .before .before .count .ensures .0) in
-    (x .equal, omega (arith, within-codes _ _ _ _ x (l .g + 1) (omega arith), c .before .start2 .ensures .0), c .before .before .before .before .before .before .before .before .before .before .pre .1)
+    let e = c .before in
+    let s = e .before in
+    let l = s .before .before .loop in
+    let v = l .inv in
+    (v .0 .equal, bounds _ _ _ _ (v .0) (l .g) (omega arith) _ _ (s .start .ensures .0) (e .start2 .ensures .0) .2, v .1)
 
 add-g : tie.Need-add-g Inv-loop μ-loop
 add-g c = search needs
@@ -68,13 +60,12 @@ loop-less c = search needs
 
 loop-again : tie.Need-loop-again Inv-loop μ-loop
 loop-again c =
-    let a = c .before .before .before .before .before .before .before .before .before .before .before .args in
-    let x = lying (arena (a .codes .now) (a .values .now) (a .records .now)) (a .b) (a .from) (c .before .before .before .before .before .before .before .before .before .before .before .pre .0) in
-    let l = c .before .before .before .before .before .loop in
-    let h : l .g < recordAt (a .records .now) (a .b) .count = omega (arith, c .before .before .before .before .before .before .count .ensures .0, c .before .before .before .before .loop-test .taken) in
-    let i = ap (λ (k : ℕ). a .from + k) (c .before .before .before .start .ensures .0) in
-    let z = ap (λ (k : ℕ). a .from + k) (c .before .before .start2 .ensures .0) in
-    (omega (arith, x .count), empty-skip _ _ _ _ _ x (l .g) h _ _ i z (c .before .if1 .taken) (l .held) _ (c .count-immediates .ensures) ∙ l .inv .1)
+    let f = c .before in
+    let e = f .before in
+    let s = e .before in
+    let l = s .before .before .loop in
+    let v = l .inv in
+    (v .0, v .1, v .2, omega arith, empty-skip _ _ _ _ _ (v .0) (l .g) (omega arith) _ _ (s .start .ensures .0) (e .start2 .ensures .0) (f .if1 .taken) (l .held) _ (c .count-immediates .ensures) ∙ v .4)
 
 sub-held : tie.Need-sub-held Inv-loop μ-loop
 sub-held c = search needs
@@ -87,29 +78,25 @@ loop-less-2 c = search needs
 
 loop-again-2 : tie.Need-loop-again-2 Inv-loop μ-loop
 loop-again-2 c =
-    let a = c .before .before .before .before .before .before .before .before .before .before .before .args in
-    let x = lying (arena (a .codes .now) (a .values .now) (a .records .now)) (a .b) (a .from) (c .before .before .before .before .before .before .before .before .before .before .before .pre .0) in
-    let l = c .before .before .before .before .before .loop in
-    let h : l .g < recordAt (a .records .now) (a .b) .count = omega (arith, c .before .before .before .before .before .before .count .ensures .0, c .before .before .before .before .loop-test .taken) in
-    let i = ap (λ (k : ℕ). a .from + k) (c .before .before .before .start .ensures .0) in
-    let z = ap (λ (k : ℕ). a .from + k) (c .before .before .start2 .ensures .0) in
-    (omega (arith, x .count), empty-held _ _ _ _ _ x (l .g) h _ _ i z (c .before .if1 .left) (l .held) (c .if2 .taken) ∙ l .inv .1)
+    let f = c .before in
+    let e = f .before in
+    let s = e .before in
+    let l = s .before .before .loop in
+    let v = l .inv in
+    (v .0, v .1, v .2, omega arith, empty-held _ _ _ _ _ (v .0) (l .g) (omega arith) _ _ (s .start .ensures .0) (e .start2 .ensures .0) (f .if1 .left) (l .held) (c .if2 .taken) ∙ v .4)
 
 number-requires : tie.Need-number-requires Inv-loop μ-loop
-number-requires c κs =
-    let a = c .before .before .before .before .before .before .before .before .before .before .before .args in
-    let x = lying (arena (a .codes .now) (a .values .now) (a .records .now)) (a .b) (a .from) (c .before .before .before .before .before .before .before .before .before .before .before .pre .0) in
-    omega (arith, x .count, c .before .before .before .before .before .before .count .ensures .0)
+number-requires c κs = search needs
 
 returns : tie.Need-returns Inv-loop μ-loop
 returns c =
-    let a = c .before .before .before .before .before .before .before .before .before .before .before .before .before .args in
-    let x = lying (arena (a .codes .now) (a .values .now) (a .records .now)) (a .b) (a .from) (c .before .before .before .before .before .before .before .before .before .before .before .before .before .pre .0) in
-    let l = c .before .before .before .before .before .before .before .loop in
-    let h : l .g < recordAt (a .records .now) (a .b) .count = omega (arith, c .before .before .before .before .before .before .before .before .count .ensures .0, c .before .before .before .before .before .before .loop-test .taken) in
-    let i = ap (λ (k : ℕ). a .from + k) (c .before .before .before .before .before .start .ensures .0) in
-    let z = ap (λ (k : ℕ). a .from + k) (c .before .before .before .before .start2 .ensures .0) in
-    sym (empty-wrong _ _ _ _ _ x (l .g) h _ _ i z (c .before .before .before .if1 .left) (l .held) (omega arith) (λ e. c .if3 .taken (c .before .number .ensures ∙ e))) ∙ l .inv .1 ∙ empty-begin (a .table .now) _ _ _ _ x
+    let m = c .before in
+    let f = m .before .before in
+    let e = f .before in
+    let s = e .before in
+    let l = s .before .before .loop in
+    let v = l .inv in
+    sym (empty-wrong _ _ _ _ _ (v .0) (l .g) (omega arith) _ _ (s .start .ensures .0) (e .start2 .ensures .0) (f .if1 .left) (l .held) (omega arith) (λ w. c .if3 .taken (m .number .ensures ∙ w))) ∙ v .4 ∙ empty-begin _ _ _ _ _ (v .0)
 
 add-g-3 : tie.Need-add-g-3 Inv-loop μ-loop
 add-g-3 c = search needs
@@ -119,20 +106,19 @@ loop-less-3 c = search needs
 
 loop-again-3 : tie.Need-loop-again-3 Inv-loop μ-loop
 loop-again-3 c =
-    let a = c .before .before .before .before .before .before .before .before .before .before .before .before .before .args in
-    let x = lying (arena (a .codes .now) (a .values .now) (a .records .now)) (a .b) (a .from) (c .before .before .before .before .before .before .before .before .before .before .before .before .before .pre .0) in
-    let l = c .before .before .before .before .before .before .before .loop in
-    let h : l .g < recordAt (a .records .now) (a .b) .count = omega (arith, c .before .before .before .before .before .before .before .before .count .ensures .0, c .before .before .before .before .before .before .loop-test .taken) in
-    let i = ap (λ (k : ℕ). a .from + k) (c .before .before .before .before .before .start .ensures .0) in
-    let z = ap (λ (k : ℕ). a .from + k) (c .before .before .before .before .start2 .ensures .0) in
-    (omega (arith, x .count), empty-right _ _ _ _ _ x (l .g) h _ _ i z (c .before .before .before .if1 .left) (l .held) (omega arith) (sym (c .before .number .ensures) ∙ c .if3 .left) ∙ l .inv .1)
+    let m = c .before in
+    let f = m .before .before in
+    let e = f .before in
+    let s = e .before in
+    let l = s .before .before .loop in
+    let v = l .inv in
+    (v .0, v .1, v .2, omega arith, empty-right _ _ _ _ _ (v .0) (l .g) (omega arith) _ _ (s .start .ensures .0) (e .start2 .ensures .0) (f .if1 .left) (l .held) (omega arith) (sym (m .number .ensures) ∙ c .if3 .left) ∙ v .4)
 
 returns-2 : tie.Need-returns-2 Inv-loop μ-loop
 returns-2 c =
-    let a = c .before .before .before .before .before .before .before .args in
-    let x = lying (arena (a .codes .now) (a .values .now) (a .records .now)) (a .b) (a .from) (c .before .before .before .before .before .before .before .pre .0) in
     let l = c .before .loop in
-    sym (empty-done _ _ _ _ _ x (l .g) (l .held) (omega (arith, c .before .before .count .ensures .0))) ∙ l .inv .1 ∙ empty-begin (a .table .now) _ _ _ _ x
+    let v = l .inv in
+    sym (empty-done _ _ _ _ _ (v .0) (l .g) (l .held) (omega arith)) ∙ v .4 ∙ empty-begin _ _ _ _ _ (v .0)
 
 pub empty-zero-spec : {M : Type 1} → statement M
 empty-zero-spec =
