@@ -393,7 +393,7 @@ fn lend(
     if 16384 < batches {
         return refuse(13, 0);
     }
-    let end = 82 * batches;
+    let end = op_batch::RECORD * batches;
     if records.len() < end {
         return refuse(13, 0);
     }

@@ -5,7 +5,6 @@
 //   argument: a table's room, an operation number, a group or an index
 //   table: its length, the kind of opcode 4 (opcodes 0 and 2 have kind 0, 1 has 1, 3 has 2, the rest 3)
 //   codes, values and records each: how many are lent (of records the bytes), how many are listed, those; the rest are 0
-ghost use mathlib.Core.Path.{_≡_};
 ghost use Prim.Native.Nat.{_+_, _≤_, _<_};
 ghost use lib.ListN.{length};
 use op_batch::Lookup;
@@ -255,7 +254,7 @@ fn run(what: u64, argument: usize, table: &[u8], codes: &[u8], values: &[u64], r
         return;
     }
     if what == 2 {
-        show_verdict(checks::commitment(table, codes, values, records));
+        show_verdict(commitment::commitment(table, codes, values, records));
         return;
     }
     if what <= 4 {

@@ -8,14 +8,14 @@ use lib.ListN.{length}
 use Rattle.rules.specs.Lists.{total}
 use Rattle.rules.specs.Answer.{Answer, good, refused, refuseFirst}
 use Rattle.rules.specs.Operations.{operations}
-use Rattle.rules.specs.Record.{recordAt, recordsFrom, recordsIn}
+use Rattle.rules.specs.Record.{recordSize, recordAt, recordsFrom, recordsIn}
 use Rattle.rules.specs.Checks.{Held, ninth, heldFrom, held}
-use Rattle.rules.specs.Functions.{Arena, arena, blockIn, structureChecked}
+use Rattle.rules.specs.Functions.{Arena, arena, blockIn}
 use Rattle.rules.proofs.Answer.{first-turn, first-stop, first-done}
 use Rattle.rules.proofs.Operations.{length-operations}
-use Rattle.checks.specs.Batch.{heldAt, Lies}
+use Rattle.checks.specs.Batch.{heldAt, Structured, Lies}
 use Rattle.checks.proofs.Walk.{records-turn, records-end, equal-lengths}
-use Rattle.checks.proofs.Passed.{checked}
+use Rattle.checks.proofs.Passed.{checked, all-fit}
 
 -- the operations of the batches from the b-th of n on
 unfoldable pub rest : ℕ → List ℕ → ℕ → ℕ
@@ -29,19 +29,19 @@ pub rest-none : (n : ℕ) (s : List ℕ) (b : ℕ) → n ≤ b → rest n s b �
 unfolding rest total
 rest-none n s b h = rw (records-end n s b h)
 
-module _ (cs vs rs : List ℕ) (c : structureChecked 8 (arena cs vs rs) ≡ good tt) where
-  pub rest-all : rest (length rs / 82) rs 0 ≡ length cs
+module _ (cs vs rs : List ℕ) (c : Structured (arena cs vs rs)) where
+  pub rest-all : rest (length rs / recordSize) rs 0 ≡ length cs
   unfolding rest recordsIn
-  rest-all = let k = checked cs vs rs c in rw sub-zero (k .1 .sum ∙ length-operations cs vs (equal-lengths cs vs rs (k .0)))
+  rest-all = let k = checked (c .width) cs vs rs (c .passed) in rw sub-zero (k .1 .sum ∙ length-operations cs vs (equal-lengths cs vs rs (k .0)))
 
-  pub lies : (b from : ℕ) → b < length rs / 82 → from + rest (length rs / 82) rs b ≡ length cs → Lies (arena cs vs rs) b from
+  pub lies : (b from : ℕ) → b < length rs / recordSize → from + rest (length rs / recordSize) rs b ≡ length cs → Lies (arena cs vs rs) b from
   lies b from h e =
-      let k = checked cs vs rs c in
+      let k = checked (c .width) cs vs rs (c .passed) in
       record {
         equal = equal-lengths cs vs rs (k .0);
         whole = omega arith;
-        right = k .1 .right b h;
-        inside = omega (arith, rest-turn (length rs / 82) rs b h);
+        fits = all-fit (c .width) cs vs rs (c .room) (k .1) b h;
+        inside = omega (arith, rest-turn (length rs / recordSize) rs b h);
       }
 
 -- what the walk finds from the b-th of n batches on, whose operations begin at a place
@@ -67,6 +67,6 @@ module _ (fault : Held → ℕ) (n : ℕ) (a : Arena) (b from : ℕ) where
   unfolding faultFrom heldFrom
   done h = rw (records-end n (a .records) b h) (first-done b (good tt))
 
-pub begin : (fault : Held → ℕ) (a : Arena) → faultFrom fault (length (a .records) / 82) a 0 0 ≡ refuseFirst 0 (map fault (held (blockIn a))) (good tt)
+pub begin : (fault : Held → ℕ) (a : Arena) → faultFrom fault (length (a .records) / recordSize) a 0 0 ≡ refuseFirst 0 (map fault (held (blockIn a))) (good tt)
 unfolding faultFrom held blockIn recordsIn
 begin fault a = rw sub-zero

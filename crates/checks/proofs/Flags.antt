@@ -95,7 +95,7 @@ padded r cs vs from x g h = rw (drop-of-length-le (r .flags) {i = g} (omega (ari
 module _ (r : Record) (cs vs : List ℕ) (from : ℕ) (x : Lying r cs vs from) where
   unflagged : (k g : ℕ) → g + k ≡ 8 → number 256 (drop g (r .flags)) ≡ 0 → padLeft r (operations cs vs) from g ≡ true
   unflagged zero g h e = padded r cs vs from x g (omega arith)
-  unflagged (suc k) g h e = let a = flags-ahead 8 r (x .sound) (x .flags) g (omega arith) in sym (plain r cs vs from x g (omega arith) (omega arith)) ∙ unflagged k (g + 1) (omega arith) (omega arith)
+  unflagged (suc k) g h e = let a = flags-ahead (x .width) r (x .sound) (x .flags) g (omega arith) in sym (plain r cs vs from x g (omega arith) (omega arith)) ∙ unflagged k (g + 1) (omega arith) (omega arith)
 
   pub no-flags : (g left : ℕ) → g ≤ 8 → left ≡ number 256 (drop g (r .flags)) → left ≡ 0 → padLeft r (operations cs vs) from g ≡ true
   no-flags g left h e z = unflagged (8 - g) g (omega arith) (sym e ∙ z)

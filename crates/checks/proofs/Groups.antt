@@ -21,17 +21,23 @@ pub record Lying (r : Record) (cs vs : List ℕ) (from : ℕ) : Type 0 where
   pub starts : length (r .starts) ≡ 9
   pub flags : length (r .flags) ≡ 8
   pub numbers : length (r .numbers) ≡ 8
-  pub sound : Sound 8 r
+  pub width : ℕ
+  pub sound : Sound width r
+  pub count : r .count ≤ 8
   pub inside : from + ninth r ≤ length cs
 
 pub lying : (a : Arena) (b from : ℕ) → Lies a b from → Lying (recordAt (a .records) b) (a .codes) (a .values) from
 lying a b from x =
+    let f = x .fits in
+    let s = sound (f .width) (recordAt (a .records) b) (f .right) in
     record {
       equal = x .equal;
       starts = starts-length (a .records) b;
       flags = flags-length (a .records) b;
       numbers = numbers-length (a .records) b;
-      sound = sound 8 (recordAt (a .records) b) (x .right);
+      width = f .width;
+      sound = s;
+      count = omega (arith, s .count, f .room);
       inside = x .inside;
     }
 
@@ -81,17 +87,17 @@ module _ (r : Record) (cs vs : List ℕ) (from : ℕ) (x : Lying r cs vs from) w
   pub under-turn : (g : ℕ) → g < r .count → under r (operations cs vs) from g ≡ group r (operations cs vs) from g ∷ under r (operations cs vs) from (g + 1)
   under-turn g h =
       let e : r .count - g ≡ suc (r .count - (g + 1)) = omega arith in
-      rw (e, groups-turn g (omega (arith, x .sound .count)))
+      rw (e, groups-turn g (omega (arith, x .count)))
 
   -- where the g-th group lies
   pub in-order : (g : ℕ) → g < 8 → getD (r .starts) g 0 ≤ getD (r .starts) (g + 1) 0
-  in-order g h = rise 8 r (x .sound) (x .starts) g h .0
+  in-order g h = rise (x .width) r (x .sound) (x .starts) g h .0
 
   pub at-most-9 : (g : ℕ) → g < 8 → getD (r .starts) (g + 1) 0 ≤ getD (r .starts) g 0 + 9
-  at-most-9 g h = rise 8 r (x .sound) (x .starts) g h .1
+  at-most-9 g h = rise (x .width) r (x .sound) (x .starts) g h .1
 
   pub within-codes : (g : ℕ) → g < 9 → from + getD (r .starts) g 0 ≤ length cs
-  within-codes g h = omega (arith, below-ninth 8 r (x .sound) (x .starts) g h, x .inside)
+  within-codes g h = omega (arith, below-ninth (x .width) r (x .sound) (x .starts) g h, x .inside)
 
 pub under-none : (r : Record) (xs : List Op) (from g : ℕ) → r .count ≤ g → under r xs from g ≡ []
 under-none r xs from g h = let e : r .count - g ≡ 0 = omega arith in rw e

@@ -2,7 +2,7 @@
 use mathlib.Core.Path.{_≡_, refl, sym, ap, _∙_}
 use mathlib.Core.Bool.{Bool, true, false, cond, not}
 use mathlib.Core.List.{List, [], _∷_, _++_, map}
-use Prim.Native.Nat.{ℕ, zero, suc, _+_, _/_, _<_}
+use Prim.Native.Nat.{ℕ, zero, suc, _+_, _/_, _≤_, _<_}
 use native.Mathlib.Nat.{add-zero, zero-add}
 use native.Mathlib.Omega.{arith}
 use borrow.Author.Tests.{eqb-true, not-false}
@@ -11,12 +11,12 @@ use lib.Dec.{eqb}
 use Rattle.rules.specs.Lists.{total}
 use Rattle.rules.specs.Answer.{Answer, good, refused, refuse, refuseFirst}
 use Rattle.rules.specs.Operations.{operations, goodTable, opFault}
-use Rattle.rules.specs.Record.{Record, recordAt, recordsFrom, recordsIn}
-use Rattle.rules.specs.Checks.{ninth, recordRight, structureFaults, paddingFaults, commitmentFaults}
-use Rattle.rules.specs.Functions.{Arena, arena, blockIn, within, structureChecked, paddingChecked, commitmentChecked}
+use Rattle.rules.specs.Record.{Record, recordSize, recordAt, recordsFrom, recordsIn}
+use Rattle.rules.specs.Checks.{ninth, recordRight, structureFaults, paddingFaults}
+use Rattle.rules.specs.Functions.{Arena, arena, blockIn, within, structureChecked, paddingChecked}
 use Rattle.rules.proofs.Answer.{clash, passed, no-fault}
 use Rattle.rules.proofs.Operations.{op, admitted, table-128}
-use Rattle.checks.specs.Batch.{Apt}
+use Rattle.checks.specs.Batch.{AllFit, Apt}
 use Rattle.operation.specs.declared.Verdict.the-variants.{Passed, Refused}
 use Rattle.operation.specs.Verdict.{verdictOf}
 
@@ -69,55 +69,61 @@ handed-on (refused m q) r n p h = refl
 -- ---- structure
 
 -- every record passes the structure test, and their operations are those lent
-pub record Structured (cs vs rs : List ℕ) : Type 0 where
-  pub right : (b : ℕ) → b < length rs / 82 → recordRight 8 (recordAt rs b) ≡ true
+pub record Records (w : ℕ) (cs vs rs : List ℕ) : Type 0 where
+  pub right : (b : ℕ) → b < length rs / recordSize → recordRight w (recordAt rs b) ≡ true
   pub sum : total (map ninth (recordsIn rs)) ≡ length (operations cs vs)
 
--- the k records from the b-th on pass
-abbrev Rights : List ℕ → ℕ → ℕ → Type 0
-Rights s b k = (j : ℕ) → j < k → recordRight 8 (recordAt s (b + j)) ≡ true
+module _ (w : ℕ) where
+  -- the k records from the b-th on pass
+  abbrev Rights : List ℕ → ℕ → ℕ → Type 0
+  Rights s b k = (j : ℕ) → j < k → recordRight w (recordAt s (b + j)) ≡ true
 
-more : (s : List ℕ) (b k : ℕ) → recordRight 8 (recordAt s b) ≡ true → Rights s (b + 1) k → Rights s b (suc k)
-more s b k e f zero l = rw (add-zero b) e
-more s b k e f (suc j) l = let g : b + suc j ≡ b + 1 + j = omega arith in rw g (f j (omega arith))
+  more : (s : List ℕ) (b k : ℕ) → recordRight w (recordAt s b) ≡ true → Rights s (b + 1) k → Rights s b (suc k)
+  more s b k e f zero l = rw (add-zero b) e
+  more s b k e f (suc j) l = let g : b + suc j ≡ b + 1 + j = omega arith in rw g (f j (omega arith))
 
-abbrev faults : ℕ → List ℕ → ℕ → Bool → List ℕ
-faults k s b q = map (λ (x : Record). cond (recordRight 8 x) 0 15) (recordsFrom k s b) ++ (cond q 0 15 ∷ [])
+  abbrev faults : ℕ → List ℕ → ℕ → Bool → List ℕ
+  faults k s b q = map (λ (x : Record). cond (recordRight w x) 0 15) (recordsFrom k s b) ++ (cond q 0 15 ∷ [])
 
-module _ {A : Type 0} where
-  each : (i k : ℕ) (s : List ℕ) (b : ℕ) (q : Bool) (r : Answer A) (a : A) → refuseFirst i (faults k s b q) r ≡ good a → Rights s b k × (q ≡ true) × (r ≡ good a)
-  unfolding refuseFirst recordsFrom
-  each i zero s b true r a h = (λ j l. absurd (omega arith), refl, h)
-  each i zero s b false r a h = absurd (clash 15 i a h)
-  each i (suc k) s b q r a h = go (recordRight 8 (recordAt s b)) refl (λ g. each (i + 1) k s (b + 1) q r a g) h
-    where
-      go : (t : Bool) → recordRight 8 (recordAt s b) ≡ t
-          → (refuseFirst (i + 1) (faults k s (b + 1) q) r ≡ good a → Rights s (b + 1) k × (q ≡ true) × (r ≡ good a))
-          → refuseFirst i (cond t 0 15 ∷ faults k s (b + 1) q) r ≡ good a → Rights s b (suc k) × (q ≡ true) × (r ≡ good a)
-      go true e ih g = let p = ih g in (more s b k e (p .0), p .1, p .2)
-      go false e ih g = absurd (clash 15 i a g)
+  module _ {A : Type 0} where
+    each : (i k : ℕ) (s : List ℕ) (b : ℕ) (q : Bool) (r : Answer A) (a : A) → refuseFirst i (faults k s b q) r ≡ good a → Rights s b k × (q ≡ true) × (r ≡ good a)
+    unfolding refuseFirst recordsFrom
+    each i zero s b true r a h = (λ j l. absurd (omega arith), refl, h)
+    each i zero s b false r a h = absurd (clash 15 i a h)
+    each i (suc k) s b q r a h = go (recordRight w (recordAt s b)) refl (λ g. each (i + 1) k s (b + 1) q r a g) h
+      where
+        go : (t : Bool) → recordRight w (recordAt s b) ≡ t
+            → (refuseFirst (i + 1) (faults k s (b + 1) q) r ≡ good a → Rights s (b + 1) k × (q ≡ true) × (r ≡ good a))
+            → refuseFirst i (cond t 0 15 ∷ faults k s (b + 1) q) r ≡ good a → Rights s b (suc k) × (q ≡ true) × (r ≡ good a)
+        go true e ih g = let p = ih g in (more s b k e (p .0), p .1, p .2)
+        go false e ih g = absurd (clash 15 i a g)
 
-  -- a good answer past the structure check
-  pub structured : (cs vs rs : List ℕ) (r : Answer A) (a : A) → refuseFirst 0 (structureFaults 8 (blockIn (arena cs vs rs))) r ≡ good a → Structured cs vs rs × (r ≡ good a)
-  unfolding structureFaults blockIn recordsIn
-  structured cs vs rs r a h =
-      let e = each 0 (length rs / 82) rs 0 (eqb (total (map ninth (recordsFrom (length rs / 82) rs 0))) (length (operations cs vs))) r a h in
-      (record { right = λ b l. rw (sym (zero-add b)) (e .0 b l); sum = eqb-true (total (map ninth (recordsFrom (length rs / 82) rs 0))) (length (operations cs vs)) (e .1) }, e .2)
+    -- a good answer past the structure check
+    pub structured : (cs vs rs : List ℕ) (r : Answer A) (a : A) → refuseFirst 0 (structureFaults w (blockIn (arena cs vs rs))) r ≡ good a → Records w cs vs rs × (r ≡ good a)
+    unfolding structureFaults blockIn recordsIn
+    structured cs vs rs r a h =
+        let n = length rs / recordSize in
+        let sum = total (map ninth (recordsFrom n rs 0)) in
+        let e = each 0 n rs 0 (eqb sum (length (operations cs vs))) r a h in
+        (record { right = λ b l. rw (sym (zero-add b)) (e .0 b l); sum = eqb-true sum (length (operations cs vs)) (e .1) }, e .2)
 
--- the public check's good answer
-pub checked : (cs vs rs : List ℕ) → structureChecked 8 (arena cs vs rs) ≡ good tt → (within (arena cs vs rs) ≡ true) × Structured cs vs rs
-unfolding structureChecked
-checked cs vs rs h =
-    let a = arena cs vs rs in
-    let p = passed (not (within a)) 3 0 (refuseFirst 0 (structureFaults 8 (blockIn a)) (good tt)) tt h in
-    (not-false (within a) (p .0), structured cs vs rs (good tt) tt (p .1) .0)
+  -- the public check's good answer
+  pub checked : (cs vs rs : List ℕ) → structureChecked w (arena cs vs rs) ≡ good tt → (within (arena cs vs rs) ≡ true) × Records w cs vs rs
+  unfolding structureChecked
+  checked cs vs rs h =
+      let a = arena cs vs rs in
+      let p = passed (not (within a)) 3 0 (refuseFirst 0 (structureFaults w (blockIn a)) (good tt)) tt h in
+      (not-false (within a) (p .0), structured cs vs rs (good tt) tt (p .1) .0)
 
--- an arena that passed the padding check passed the structure check
-pub padding-good : (a : Arena) → paddingChecked 8 a ≡ good tt → structureChecked 8 a ≡ good tt
-unfolding paddingChecked
-padding-good a h =
-    let r = refuseFirst 0 (paddingFaults (blockIn a)) (good tt) in
-    first-good (structureChecked 8 a) r tt (sym (structure-then 8 a r) ∙ h)
+  -- an arena that passed the padding check passed the structure check
+  pub padding-good : (a : Arena) → paddingChecked w a ≡ good tt → structureChecked w a ≡ good tt
+  unfolding paddingChecked
+  padding-good a h =
+      let r = refuseFirst 0 (paddingFaults (blockIn a)) (good tt) in
+      first-good (structureChecked w a) r tt (sym (structure-then w a r) ∙ h)
+
+pub all-fit : (w : ℕ) (cs vs rs : List ℕ) → w ≤ 8 → Records w cs vs rs → AllFit rs
+all-fit w cs vs rs h x b l = record { width = w; room = h; right = x .right b l }
 
 -- ---- admissible operations have opcodes that a good table knows
 
@@ -132,21 +138,10 @@ small t (c ∷ cs) (v ∷ vs) e f (suc k) h = small t cs vs (omega arith) (λ j 
 pub apt : (t cs vs : List ℕ) → goodTable t ≡ true → length cs ≡ length vs → _≡_ {A = Answer Unit} (refuseFirst 0 (map (opFault t) (operations cs vs)) (good tt)) (good tt) → Apt t cs
 apt t cs vs g e h = record { table = table-128 t g; codes = small t cs vs e (no-fault 0 (map (opFault t) (operations cs vs)) (good tt) tt h .0) }
 
--- ---- the stages of the commitment check, past its two guards
+-- ---- the structure check and the admissible operations as stages
 
-abbrev pub structureStage : Arena → Answer Unit
-structureStage a = refuseFirst 0 (structureFaults 8 (blockIn a)) (good tt)
+abbrev pub structureStage : ℕ → Arena → Answer Unit
+structureStage w a = refuseFirst 0 (structureFaults w (blockIn a)) (good tt)
 
 abbrev pub admissibleStage : List ℕ → Arena → Answer Unit
 admissibleStage t a = refuseFirst 0 (map (opFault t) (operations (a .codes) (a .values))) (good tt)
-
-abbrev pub commitmentStage : List ℕ → Arena → Answer Unit
-commitmentStage t a = refuseFirst 0 (commitmentFaults t (blockIn a)) (good tt)
-
-pub stages : (t : List ℕ) (a : Arena) → within a ≡ true → goodTable t ≡ true
-    → commitmentChecked 8 t a ≡ andThen (structureStage a) (andThen (admissibleStage t a) (commitmentStage t a))
-unfolding commitmentChecked blockIn
-stages t a h g =
-    rw (h, g)
-    (ap (refuseFirst 0 (structureFaults 8 (blockIn a))) (first-then 0 (map (opFault t) (operations (a .codes) (a .values))) (good tt) (commitmentStage t a))
-    ∙ first-then 0 (structureFaults 8 (blockIn a)) (good tt) (andThen (admissibleStage t a) (commitmentStage t a)))

@@ -10,8 +10,7 @@ use lib.ListN.{length}
 use lib.Dec.{leb, eqb}
 use Rattle.rules.specs.Lists.{total}
 use Rattle.rules.specs.Answer.{Answer, good, refused, refuseFirst}
-use Rattle.rules.specs.Operations.{operations}
-use Rattle.rules.specs.Record.{Record, recordAt, recordsFrom, recordsIn}
+use Rattle.rules.specs.Record.{Record, recordSize, recordAt, recordsFrom, recordsIn}
 use Rattle.rules.specs.Checks.{ninth, recordRight, structureFaults}
 use Rattle.rules.specs.Functions.{arena, blockIn, within}
 use Rattle.rules.proofs.Operations.{length-operations, true-left, true-right}
@@ -29,32 +28,32 @@ records-end n s b h = let e : n - b ≡ 0 = omega arith in rw e
 -- ---- the walk
 
 -- the faults of records where others with this sum came before, and the operations are m
-unfoldable faultsOf : List Record → ℕ → ℕ → List ℕ
-faultsOf rs sum m = map (λ (r : Record). cond (recordRight 8 r) 0 15) rs ++ (cond (eqb (sum + total (map ninth rs)) m) 0 15 ∷ [])
+unfoldable faultsOf : ℕ → List Record → ℕ → ℕ → List ℕ
+faultsOf w rs sum m = map (λ (r : Record). cond (recordRight w r) 0 15) rs ++ (cond (eqb (sum + total (map ninth rs)) m) 0 15 ∷ [])
 
 -- what the walk finds from the b-th of n records on
-pub left : ℕ → List ℕ → ℕ → ℕ → ℕ → Answer Unit
-left n s m b sum = refuseFirst b (faultsOf (recordsFrom (n - b) s b) sum m) (good tt)
+pub left : ℕ → ℕ → List ℕ → ℕ → ℕ → ℕ → Answer Unit
+left w n s m b sum = refuseFirst b (faultsOf w (recordsFrom (n - b) s b) sum m) (good tt)
 
-pub start : (cs vs rs : List ℕ) → length cs ≡ length vs
-    → left (length rs / 82) rs (length cs) 0 0 ≡ refuseFirst 0 (structureFaults 8 (blockIn (arena cs vs rs))) (good tt)
+pub start : (w : ℕ) (cs vs rs : List ℕ) → length cs ≡ length vs
+    → left w (length rs / recordSize) rs (length cs) 0 0 ≡ refuseFirst 0 (structureFaults w (blockIn (arena cs vs rs))) (good tt)
 unfolding left faultsOf structureFaults blockIn recordsIn
-start cs vs rs h = rw (sub-zero, zero-add, length-operations cs vs h)
+start w cs vs rs h = rw (sub-zero, zero-add, length-operations cs vs h)
 
-module _ (n : ℕ) (s : List ℕ) (m b sum : ℕ) where
-  pub turn : b < n → recordRight 8 (recordAt s b) ≡ true → left n s m (b + 1) (sum + ninth (recordAt s b)) ≡ left n s m b sum
+module _ (w n : ℕ) (s : List ℕ) (m b sum : ℕ) where
+  pub turn : b < n → recordRight w (recordAt s b) ≡ true → left w n s m (b + 1) (sum + ninth (recordAt s b)) ≡ left w n s m b sum
   unfolding left faultsOf refuseFirst total
   turn h e = rw (records-turn n s b h, e, add-assoc sum (ninth (recordAt s b)) (total (map ninth (recordsFrom (n - (b + 1)) s (b + 1)))))
 
-  pub stop : b < n → recordRight 8 (recordAt s b) ≡ false → left n s m b sum ≡ refused 15 b
+  pub stop : b < n → recordRight w (recordAt s b) ≡ false → left w n s m b sum ≡ refused 15 b
   unfolding left faultsOf refuseFirst
   stop h e = rw (records-turn n s b h, e)
 
-  pub short : b ≡ n → (sum ≡ m → ⊥) → left n s m b sum ≡ refused 15 n
+  pub short : b ≡ n → (sum ≡ m → ⊥) → left w n s m b sum ≡ refused 15 n
   unfolding left faultsOf refuseFirst total
   short h f = rw (records-end n s b (omega arith), add-zero sum, ne-eqb sum m f, h)
 
-  pub done : n ≤ b → sum ≡ m → left n s m b sum ≡ good tt
+  pub done : n ≤ b → sum ≡ m → left w n s m b sum ≡ good tt
   unfolding left faultsOf refuseFirst total
   done h e = rw (records-end n s b h, add-zero sum, eq-eqb sum m e)
 
@@ -68,11 +67,11 @@ pub few-codes : (cs vs rs : List ℕ) → within (arena cs vs rs) ≡ true → l
 unfolding within
 few-codes cs vs rs h = leb-true (length cs) 65535 (true-left (leb (length cs) 65535) _ (true-right (eqb (length cs) (length vs)) _ h))
 
-pub few-records : (cs vs rs : List ℕ) → within (arena cs vs rs) ≡ true → length rs / 82 ≤ 16384
+pub few-records : (cs vs rs : List ℕ) → within (arena cs vs rs) ≡ true → length rs / recordSize ≤ 16384
 unfolding within
 few-records cs vs rs h =
     let a = eqb (length cs) (length vs) in
     let b = leb (length cs) 65535 in
-    let c = eqb (length rs % 82) 0 in
-    let d = leb (length rs / 82) 16384 in
-    leb-true (length rs / 82) 16384 (true-right c d (true-right b (c && d) (true-right a (b && (c && d)) h)))
+    let c = eqb (length rs % recordSize) 0 in
+    let d = leb (length rs / recordSize) 16384 in
+    leb-true (length rs / recordSize) 16384 (true-right c d (true-right b (c && d) (true-right a (b && (c && d)) h)))

@@ -1,13 +1,15 @@
--- One batch of an arena, as the checks walk them: cited by the contracts of private functions only.
+-- What the checks' walks are asked of an arena and of one batch of it: cited by the contracts of inner functions only. No walk asks which width the
+-- structure test had, only that a record has room for it.
 use mathlib.Core.Path.{_≡_}
 use mathlib.Core.Bool.{true}
-use Prim.Native.Nat.{ℕ, _+_, _-_, _*_, _≤_, _<_}
+use Prim.Native.Nat.{ℕ, _+_, _-_, _*_, _/_, _≤_, _<_}
 use mathlib.Core.List.{List}
 use lib.ListN.{length, getD, take, drop}
+use Rattle.rules.specs.Answer.{good}
 use Rattle.rules.specs.Operations.{Op, operations}
-use Rattle.rules.specs.Record.{Record, recordAt, differences, cut, part}
+use Rattle.rules.specs.Record.{Record, recordSize, recordAt, differences, cut, part}
 use Rattle.rules.specs.Checks.{Held, ninth, recordRight}
-use Rattle.rules.specs.Functions.{Arena}
+use Rattle.rules.specs.Functions.{Arena, structureChecked}
 
 -- the b-th batch with its groups, where its operations begin at a place
 abbrev pub heldAt : Arena → ℕ → ℕ → Held
@@ -17,11 +19,27 @@ heldAt a b from =
       groups = cut (differences (recordAt (a .records) b .starts)) (operations (a .codes) (a .values)) from;
     }
 
+-- a record that passes the structure test at some width
+pub record Fits (r : Record) : Type 0 where
+  pub width : ℕ
+  pub room : width ≤ 8
+  pub right : recordRight width r ≡ true
+
+-- every record of a run does
+abbrev pub AllFit : List ℕ → Type 0
+AllFit s = (b : ℕ) → b < length s / recordSize → Fits (recordAt s b)
+
+-- the arena passed the structure check at some width
+pub record Structured (a : Arena) : Type 0 where
+  pub width : ℕ
+  pub room : width ≤ 8
+  pub passed : structureChecked width a ≡ good tt
+
 -- the arena has that record, it passes the structure test, and its operations are there
 pub record Lies (a : Arena) (b from : ℕ) : Type 0 where
   pub equal : length (a .codes) ≡ length (a .values)
-  pub whole : 82 * b + 82 ≤ length (a .records)
-  pub right : recordRight 8 (recordAt (a .records) b) ≡ true
+  pub whole : recordSize * b + recordSize ≤ length (a .records)
+  pub fits : Fits (recordAt (a .records) b)
   pub inside : from + ninth (recordAt (a .records) b) ≤ length (a .codes)
 
 -- a table of 128 kinds, and opcodes that have one

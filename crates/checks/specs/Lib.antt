@@ -1,2 +1,1 @@
 pub mod Batch
-pub mod Walk

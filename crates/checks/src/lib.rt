@@ -1,18 +1,14 @@
-// The three checks of a block in a lent arena: structure, padding, commitment (document 01, "Checks").
+// Two checks of a block in a lent arena: structure and padding (document 01, "Checks").
 ghost use mathlib.Core.Path.{_≡_};
-ghost use mathlib.Core.Bool.{true};
-ghost use Prim.Native.Nat.{ℕ, _+_, _*_, _≤_, _<_};
-ghost use lib.ListN.{length, getD, drop};
-ghost use lib.Dec.{eqb};
+ghost use Prim.Native.Nat.{_≤_};
+ghost use lib.ListN.{length};
 ghost use Rattle.rules.specs.Answer.{good, refuseFirst};
-ghost use Rattle.rules.specs.Operations.{operations, kindOf};
-ghost use Rattle.rules.specs.Record.{recordAt, codesNumber, immediates};
-ghost use Rattle.rules.specs.Checks.{structureFaults, paddingFault, paddingFaults, underCount, placingFault, begins, groupsFault, emptyZero, commitmentFault, commitmentFaults};
-ghost use Rattle.rules.specs.Functions.{arena, blockIn, within, structureChecked, paddingChecked, commitmentChecked};
+ghost use Rattle.rules.specs.Checks.{structureFaults, paddingFault, paddingFaults};
+ghost use Rattle.rules.specs.Functions.{arena, blockIn, within, structureChecked, paddingChecked};
 ghost use Rattle.operation.specs.Verdict.{verdictOf};
-ghost use Rattle.checks.specs.Batch.{heldAt, Lies, Apt, under, span};
-ghost use Rattle.checks.specs.Walk.{slotAfter, slotsAfter, AllRight, BatchRight};
+ghost use Rattle.checks.specs.Batch.{heldAt, Structured, Lies};
 use op_batch::RECORD;
+use op_batch::WIDTH;
 use operation::Verdict;
 
 // "3": lists of equal length, at most 65,535 operations, whole records and at most 16,384 of them.
@@ -34,15 +30,15 @@ pub fn within(codes: &[u8], values: &[u64], records: &[u8]) -> bool
 // ---- structure
 
 // The first record that fails the structure test, or their sum: for callers that made sure of equal lengths themselves.
-pub fn structure_fault(codes: &[u8], values: &[u64], records: &[u8]) -> Verdict
-    requires { ⌜ length (now codes) ≡ length (now values) ⌝ }
-    ensures { λ r. ⌜ r ≡ verdictOf (refuseFirst 0 (structureFaults 8 (blockIn (arena (now (codes .entry)) (now (values .entry)) (now (records .entry))))) (good tt)) ⌝ }
+pub fn structure_fault(width: usize, codes: &[u8], values: &[u64], records: &[u8]) -> Verdict
+    requires { ⌜ (width ≤ 8) × (length (now codes) ≡ length (now values)) ⌝ }
+    ensures { λ r. ⌜ r ≡ verdictOf (refuseFirst 0 (structureFaults width (blockIn (arena (now (codes .entry)) (now (values .entry)) (now (records .entry))))) (good tt)) ⌝ }
 {
     let n = records.len() / RECORD;
     let mut sum: usize = 0;
     let mut b: usize = 0;
     while b < n {
-        if !op_batch::record_right(op_batch::WIDTH, records, b) {
+        if !op_batch::record_right(width, records, b) {
             return Verdict::Refused {
                 number: 15,
                 place: b,
@@ -70,7 +66,7 @@ pub fn structure(codes: &[u8], values: &[u64], records: &[u8]) -> Verdict
             place: 0,
         };
     }
-    structure_fault(codes, values, records)
+    structure_fault(WIDTH, codes, values, records)
 }
 
 // ---- padding
@@ -106,7 +102,7 @@ fn batch_padding(codes: &[u8], values: &[u64], records: &[u8], b: usize, from: u
 
 // The first batch with a padding fault, where the arena passed the structure check.
 fn padding_fault(codes: &[u8], values: &[u64], records: &[u8]) -> Verdict
-    requires { ⌜ structureChecked 8 (arena (now codes) (now values) (now records)) ≡ good tt ⌝ }
+    requires { ⌜ Structured (arena (now codes) (now values) (now records)) ⌝ }
     ensures { λ r. ⌜ r ≡ verdictOf (refuseFirst 0 (paddingFaults (blockIn (arena (now (codes .entry)) (now (values .entry)) (now (records .entry))))) (good tt)) ⌝ }
 {
     let n = records.len() / RECORD;
@@ -132,392 +128,4 @@ pub fn padding(codes: &[u8], values: &[u64], records: &[u8]) -> Verdict
         return Verdict::Refused { number, place };
     }
     padding_fault(codes, values, records)
-}
-
-// ---- commitment
-
-// Whether an opcode's value is placed in a group: kind 1.
-fn placed(table: &[u8], code: u8) -> bool
-    requires { ⌜ (length (now table) ≡ 128) × (code < 128) ⌝ }
-    ensures { λ r. ⌜ r ≡ eqb (kindOf (now (table .entry)) code) 1 ⌝ }
-{
-    table[code as usize] == 1
-}
-
-// The group number of the operations from one index up to another, at most nine; the last opcode counts most.
-fn codes_number(codes: &[u8], values: &[u64], from: usize, to: usize) -> u64
-    requires { ⌜ (length (now codes) ≡ length (now values)) × (to ≤ length (now codes)) × (from ≤ to) × (to ≤ from + 9) ⌝ }
-    requires { ⌜ ((i : ℕ) → i < length (now codes) → getD (now codes) i 0 < 128) ⌝ }
-    ensures { λ r. ⌜ r ≡ codesNumber (span (operations (now (codes .entry)) (now (values .entry))) from to) ⌝ }
-{
-    let mut sum: u64 = 0;
-    let mut i = to;
-    while from < i {
-        i -= 1;
-        sum = word::wide(codes[i]) + 128 * sum;
-    }
-    sum
-}
-
-// How many of the operations from one index up to another have an immediate.
-fn count_immediates(table: &[u8], codes: &[u8], values: &[u64], from: usize, to: usize) -> usize
-    requires { ⌜ (length (now codes) ≡ length (now values)) × (to ≤ length (now codes)) × Apt (now table) (now codes) ⌝ }
-    ensures { λ r. ⌜ r ≡ length (immediates (now (table .entry)) (span (operations (now (codes .entry)) (now (values .entry))) from to)) ⌝ }
-{
-    let mut n: usize = 0;
-    let mut i = from;
-    while i < to {
-        if !placed(table, codes[i]) {
-            i += 1;
-            continue;
-        }
-        n += 1;
-        i += 1;
-    }
-    n
-}
-
-// 8 or 9 where n immediates find no empty groups under the count from the g-th on; else 0.
-fn placing_fault(
-    codes: &[u8],
-    values: &[u64],
-    records: &[u8],
-    b: usize,
-    from: usize,
-    g: usize,
-    n: usize,
-) -> u8
-    requires { ⌜ Lies (arena (now codes) (now values) (now records)) b from × (g ≤ 8) ⌝ }
-    ensures { λ r. ⌜ r ≡ placingFault n (under (recordAt (now (records .entry)) b) (operations (now (codes .entry)) (now (values .entry))) from g) ⌝ }
-{
-    let count = op_batch::count(records, b);
-    let mut left = n;
-    let mut j = g;
-    while 0 < left {
-        if count <= j {
-            return 8;
-        }
-        if op_batch::start(records, b, j) != op_batch::start(records, b, j + 1) {
-            return 9;
-        }
-        left -= 1;
-        j += 1;
-    }
-    0
-}
-
-// Whether the numbers of the groups from the g-th on begin with the immediates of the operations from one index up to another.
-fn values_right(
-    table: &[u8],
-    codes: &[u8],
-    values: &[u64],
-    records: &[u8],
-    b: usize,
-    g: usize,
-    from: usize,
-    to: usize,
-) -> bool
-    requires { ⌜ (length (now codes) ≡ length (now values)) × (to ≤ length (now codes)) × Apt (now table) (now codes) ⌝ }
-    requires { ⌜ (82 * b + 82 ≤ length (now records)) × (g ≤ 8) ⌝ }
-    ensures { λ r. ⌜ r ≡ begins (drop g (recordAt (now (records .entry)) b .numbers)) (immediates (now (table .entry)) (span (operations (now (codes .entry)) (now (values .entry))) from to)) ⌝ }
-{
-    let mut j = g;
-    let mut i = from;
-    while i < to {
-        if !placed(table, codes[i]) {
-            i += 1;
-            continue;
-        }
-        if 8 <= j {
-            return false;
-        }
-        if op_batch::number(records, b, j) != values[i] {
-            return false;
-        }
-        j += 1;
-        i += 1;
-    }
-    true
-}
-
-// One batch, group by group: number right, immediates placed, their values right.
-fn groups_fault(
-    table: &[u8],
-    codes: &[u8],
-    values: &[u64],
-    records: &[u8],
-    b: usize,
-    from: usize,
-) -> u8
-    requires { ⌜ Lies (arena (now codes) (now values) (now records)) b from × Apt (now table) (now codes) ⌝ }
-    ensures { λ r. ⌜ r ≡ groupsFault (now (table .entry)) (underCount (heldAt (arena (now (codes .entry)) (now (values .entry)) (now (records .entry))) b from)) (recordAt (now (records .entry)) b .numbers) ⌝ }
-{
-    let count = op_batch::count(records, b);
-    let mut g: usize = 0;
-    while g < count {
-        let start = from + op_batch::start(records, b, g);
-        let end = from + op_batch::start(records, b, g + 1);
-        if start == end {
-            g += 1;
-            continue;
-        }
-        if op_batch::number(records, b, g) != codes_number(codes, values, start, end) {
-            return 16;
-        }
-        let n = count_immediates(table, codes, values, start, end);
-        let number = placing_fault(codes, values, records, b, from, g + 1, n);
-        if number != 0 {
-            return number;
-        }
-        if !values_right(table, codes, values, records, b, g + 1, start, end) {
-            return 16;
-        }
-        g += 1;
-    }
-    0
-}
-
-// One batch: every empty group under the count that holds no immediate is 0.
-fn empty_zero(
-    table: &[u8],
-    codes: &[u8],
-    values: &[u64],
-    records: &[u8],
-    b: usize,
-    from: usize,
-) -> bool
-    requires { ⌜ Lies (arena (now codes) (now values) (now records)) b from × Apt (now table) (now codes) ⌝ }
-    ensures { λ r. ⌜ r ≡ emptyZero (now (table .entry)) 0 (underCount (heldAt (arena (now (codes .entry)) (now (values .entry)) (now (records .entry))) b from)) (recordAt (now (records .entry)) b .numbers) ⌝ }
-{
-    let count = op_batch::count(records, b);
-    let mut held: usize = 0;
-    let mut g: usize = 0;
-    while g < count {
-        let start = from + op_batch::start(records, b, g);
-        let end = from + op_batch::start(records, b, g + 1);
-        if start != end {
-            held = count_immediates(table, codes, values, start, end);
-            g += 1;
-            continue;
-        }
-        if 0 < held {
-            held -= 1;
-            g += 1;
-            continue;
-        }
-        if op_batch::number(records, b, g) != 0 {
-            return false;
-        }
-        g += 1;
-    }
-    true
-}
-
-fn batch_commitment(
-    table: &[u8],
-    codes: &[u8],
-    values: &[u64],
-    records: &[u8],
-    b: usize,
-    from: usize,
-) -> u8
-    requires { ⌜ Lies (arena (now codes) (now values) (now records)) b from × Apt (now table) (now codes) ⌝ }
-    ensures { λ r. ⌜ r ≡ commitmentFault (now (table .entry)) (heldAt (arena (now (codes .entry)) (now (values .entry)) (now (records .entry))) b from) ⌝ }
-{
-    let number = groups_fault(table, codes, values, records, b, from);
-    if number != 0 {
-        return number;
-    }
-    if empty_zero(table, codes, values, records, b, from) {
-        return 0;
-    }
-    16
-}
-
-// The first batch with a fault, where the arena passed the structure check and the table has a kind for each opcode.
-fn commitment_fault(table: &[u8], codes: &[u8], values: &[u64], records: &[u8]) -> Verdict
-    requires { ⌜ (structureChecked 8 (arena (now codes) (now values) (now records)) ≡ good tt) × Apt (now table) (now codes) ⌝ }
-    ensures { λ r. ⌜ r ≡ verdictOf (refuseFirst 0 (commitmentFaults (now (table .entry)) (blockIn (arena (now (codes .entry)) (now (values .entry)) (now (records .entry))))) (good tt)) ⌝ }
-{
-    let n = records.len() / RECORD;
-    let mut from: usize = 0;
-    let mut b: usize = 0;
-    while b < n {
-        let number = batch_commitment(table, codes, values, records, b, from);
-        if number != 0 {
-            return Verdict::Refused { number, place: b };
-        }
-        from += op_batch::start(records, b, 8);
-        b += 1;
-    }
-    Verdict::Passed
-}
-
-// ---- commitment, where all is right: one walk that says only whether it is
-
-// What the walk over a group's operations found: their number, and the group after those that hold their immediates, 9 where something is not right.
-struct Walked {
-    number: u64,
-    next: usize,
-}
-
-// The group after an operation's immediate, which belongs in the j-th: j where the operation has none, 9 where it is not admissible or the group's
-// number is another.
-fn slot_after(kind: u8, v: u64, records: &[u8], b: usize, j: usize) -> usize
-    requires { ⌜ (82 * b + 82 ≤ length (now records)) × (j ≤ 8) ⌝ }
-    ensures { λ r. ⌜ r ≡ slotAfter kind v (recordAt (now (records .entry)) b .numbers) j ⌝ }
-{
-    if kind == 0 {
-        if v != 0 {
-            return 9;
-        }
-        return j;
-    }
-    if 3 <= kind {
-        return 9;
-    }
-    if operation::FIELD <= v {
-        return 9;
-    }
-    if kind == 2 {
-        return j;
-    }
-    if 8 <= j {
-        return 9;
-    }
-    if op_batch::number(records, b, j) != v {
-        return 9;
-    }
-    j + 1
-}
-
-// The operations from one index up to another, at most nine, their immediates in the groups from the g-th on.
-fn walk_group(
-    table: &[u8],
-    codes: &[u8],
-    values: &[u64],
-    records: &[u8],
-    b: usize,
-    g: usize,
-    from: usize,
-    to: usize,
-) -> Walked
-    requires { ⌜ (length (now codes) ≡ length (now values)) × (to ≤ length (now codes)) × (from ≤ to) × (to ≤ from + 9) × (length (now table) ≡ 128) ⌝ }
-    requires { ⌜ (82 * b + 82 ≤ length (now records)) × (g ≤ 8) ⌝ }
-    ensures { λ r. ⌜ r .next ≡ slotsAfter (now (table .entry)) (span (operations (now (codes .entry)) (now (values .entry))) from to) (recordAt (now (records .entry)) b .numbers) g ⌝ }
-    ensures { λ r. ⌜ (r .next ≤ 8 → r .number ≡ codesNumber (span (operations (now (codes .entry)) (now (values .entry))) from to)) ⌝ }
-{
-    let mut number: u64 = 0;
-    let mut place: u64 = 1;
-    let mut next = g;
-    let mut i = from;
-    while i < to {
-        let code = codes[i];
-        if 128 <= code {
-            return Walked { number, next: 9 };
-        }
-        next = slot_after(table[code as usize], values[i], records, b, next);
-        if 8 < next {
-            return Walked { number, next: 9 };
-        }
-        number += word::wide(code) * place;
-        place *= 128;
-        i += 1;
-    }
-    Walked { number, next }
-}
-
-// One batch, group by group; the groups under `held` hold the immediates of those before.
-fn batch_right(
-    table: &[u8],
-    codes: &[u8],
-    values: &[u64],
-    records: &[u8],
-    b: usize,
-    from: usize,
-) -> bool
-    requires { ⌜ Lies (arena (now codes) (now values) (now records)) b from × (length (now table) ≡ 128) ⌝ }
-    ensures { λ r. ⌜ (r ≡ true → BatchRight (now (table .entry)) (arena (now (codes .entry)) (now (values .entry)) (now (records .entry))) b from) ⌝ }
-{
-    let count = op_batch::count(records, b);
-    let mut held: usize = 0;
-    let mut g: usize = 0;
-    while g < count {
-        let start = from + op_batch::start(records, b, g);
-        let end = from + op_batch::start(records, b, g + 1);
-        let number = op_batch::number(records, b, g);
-        if start == end {
-            if g < held {
-                g += 1;
-                continue;
-            }
-            if number != 0 {
-                return false;
-            }
-            g += 1;
-            continue;
-        }
-        if g < held {
-            return false;
-        }
-        let w = walk_group(table, codes, values, records, b, g + 1, start, end);
-        let next = w.next;
-        if count < next {
-            return false;
-        }
-        if w.number != number {
-            return false;
-        }
-        held = next;
-        g += 1;
-    }
-    true
-}
-
-// Whether every operation is admissible and no batch has a fault, where the arena passed the structure check.
-fn all_right(table: &[u8], codes: &[u8], values: &[u64], records: &[u8]) -> bool
-    requires { ⌜ (structureChecked 8 (arena (now codes) (now values) (now records)) ≡ good tt) × (length (now table) ≡ 128) ⌝ }
-    ensures { λ r. ⌜ (r ≡ true → AllRight (now (table .entry)) (arena (now (codes .entry)) (now (values .entry)) (now (records .entry)))) ⌝ }
-{
-    let n = records.len() / RECORD;
-    let mut from: usize = 0;
-    let mut b: usize = 0;
-    while b < n {
-        if !batch_right(table, codes, values, records, b, from) {
-            return false;
-        }
-        from += op_batch::start(records, b, 8);
-        b += 1;
-    }
-    true
-}
-
-// Commitment: refusals 3, 14, 15, 4, then batch by batch 16, 8 or 9. Where not all is right, the walks above say what goes first.
-pub fn commitment(table: &[u8], codes: &[u8], values: &[u64], records: &[u8]) -> Verdict
-    ensures { λ r. ⌜ r ≡ verdictOf (commitmentChecked 8 (now (table .entry)) (arena (now (codes .entry)) (now (values .entry)) (now (records .entry)))) ⌝ }
-{
-    if !within(codes, values, records) {
-        return Verdict::Refused {
-            number: 3,
-            place: 0,
-        };
-    }
-    if !operation::good_table(table) {
-        return Verdict::Refused {
-            number: 14,
-            place: 0,
-        };
-    }
-    let structure = structure_fault(codes, values, records);
-    let Verdict::Passed = structure else {
-        return structure;
-    };
-    if all_right(table, codes, values, records) {
-        return Verdict::Passed;
-    }
-    let admissible = operation::first_fault(table, codes, values);
-    let Verdict::Passed = admissible else {
-        return admissible;
-    };
-    commitment_fault(table, codes, values, records)
 }

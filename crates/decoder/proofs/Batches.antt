@@ -1,98 +1,49 @@
--- The ways that a batch ends, and a walk over all batches. Assumes nothing.
+-- A walk over all batches. Assumes nothing.
 use mathlib.Core.Path.{_≡_, refl, sym, ap, _∙_}
-use mathlib.Core.Bool.{false, true}
 use mathlib.Core.List.{List, [], _∷_, _++_, append-assoc, append-nil}
 use Prim.Native.Nat.{ℕ, suc, _+_, _-_, _*_, _≤_, _<_}
 use native.Mathlib.Nat.{add-zero, sub-zero}
 use native.Mathlib.Omega.{arith}
-use borrow.Author.Tests.{lt-ltb, le-ltb}
-use lib.ListN.{length, getD, take, drop, length-append, drop-of-length-le}
-use lib.Seq.{sets, sets-eq, take-all, take-at, length-take-le}
-use Rattle.rules.specs.Lists.{fitted, total}
-use Rattle.rules.specs.Digits.{digits, leAt}
+use lib.ListN.{length, getD, take, drop, length-append}
+use lib.Seq.{sets-eq, take-at, length-take-le}
+use Rattle.rules.specs.Digits.{leAt}
 use Rattle.rules.specs.Answer.{refused, Read, found, _then_}
 use Rattle.rules.specs.Operations.{Op}
-use Rattle.rules.specs.Record.{Record, startsFrom, recordBy, wordBytes, recordBytes, recordsBytes, cut}
-use Rattle.rules.specs.Block.{batchAt, batchesAt}
-use Rattle.rules.proofs.Slots.{slots, batchBy, batch-is}
-use Rattle.rules.specs.Checks.{paddingRight}
-use Rattle.rules.proofs.Runs.{fitted-length}
+use Rattle.rules.specs.Record.{Record, recordSize, recordBytes, recordsBytes}
+use Rattle.rules.specs.Block.{batchesAt}
+use Rattle.op_batch.specs.Stores.{recordSet}
+use Rattle.unpacker.proofs.Batch.{batch}
 use Rattle.decoder.specs.Stages.{sizesFrom, flagsFrom}
-use Rattle.decoder.proofs.Stages.{onto, onto-nil, onto-then, onto-found}
-use Rattle.decoder.proofs.Stores.{record-size}
-use Rattle.rules.proofs.Digits.{length-digits}
-
--- ---- a batch
-
-module _ (t : List ℕ) (xs : List Op) (at b v f : ℕ) where
-  abbrev pub batch : Read Record
-  batch = batchAt 8 t xs at b (digits 16 8 v) (digits 2 8 f)
-
-  pub way-7 : length xs < at + total (digits 16 8 v) → batch ≡ refused 7 b
-  unfolding batchAt
-  way-7 h = rw (lt-ltb (length xs) (at + total (digits 16 8 v)) h)
-
-  module _ (h : at + total (digits 16 8 v) ≤ length xs) where
-    all : take 8 (digits 16 8 v) ≡ digits 16 8 v
-    all = take-all 8 (digits 16 8 v) (omega (arith, length-digits 16 8 v))
-
-    none : total (drop 8 (digits 16 8 v)) ≡ 0
-    unfolding total
-    none = rw (drop-of-length-le (digits 16 8 v) {i = 8} (omega (arith, length-digits 16 8 v)))
-
-    pub way-slots : (n p : ℕ) → slots t b (digits 16 8 v) [] xs at ≡ refused n p → batch ≡ refused n p
-    unfolding batchBy
-    way-slots n p e = batch-is 8 t xs at b (digits 16 8 v) (digits 2 8 f) none ∙ rw (le-ltb (length xs) (at + total (digits 16 8 v)) h, all, e)
-
-    module _ (vs : List ℕ) (end : ℕ) (e : slots t b (digits 16 8 v) [] xs at ≡ found vs end) where
-      pub way-10 : paddingRight (take (length vs) (cut (digits 16 8 v) xs at)) (digits 2 8 f) ≡ false → batch ≡ refused 10 b
-      unfolding batchBy
-      way-10 g = batch-is 8 t xs at b (digits 16 8 v) (digits 2 8 f) none ∙ rw (le-ltb (length xs) (at + total (digits 16 8 v)) h, all, e, g)
-
-      pub way-good : paddingRight (take (length vs) (cut (digits 16 8 v) xs at)) (digits 2 8 f) ≡ true → batch ≡ found (recordBy (digits 16 8 v) (digits 2 8 f) vs) end
-      unfolding batchBy
-      way-good g = batch-is 8 t xs at b (digits 16 8 v) (digits 2 8 f) none ∙ rw (le-ltb (length xs) (at + total (digits 16 8 v)) h, all, e, g)
-
--- its record
-module _ (v f : ℕ) (vs : List ℕ) where
-  abbrev pub made : Record
-  made = recordBy (digits 16 8 v) (digits 2 8 f) vs
-
-  pub made-size : length (recordBytes made) ≡ 82
-  unfolding recordBytes recordBy
-  made-size = record-size v f (fitted 8 vs) (length vs) (fitted-length 8 vs)
-
-  pub made-stored : (gs : List ℕ) (n at : ℕ) (l out : List ℕ) → gs ≡ fitted 8 vs → length vs ≡ n
-      → out ≡ sets l at (startsFrom 0 (digits 16 8 v) ++ (digits 2 8 f ++ (wordBytes gs ++ (n ∷ [])))) → out ≡ sets l at (recordBytes made)
-  unfolding recordBytes recordBy
-  made-stored gs n at l out e d h = rw (e, ← d) at h
-
--- ---- all batches
+use Rattle.wire.proofs.Stages.{onto, onto-nil, onto-then, onto-found}
 
 bytes-snoc : (rs : List Record) (r : Record) → recordsBytes (rs ++ (r ∷ [])) ≡ recordsBytes rs ++ recordBytes r
 unfolding recordsBytes
 bytes-snoc [] r = append-nil (recordBytes r)
 bytes-snoc (q ∷ rs) r = ap (λ (l : List ℕ). recordBytes q ++ l) (bytes-snoc rs r) ∙ sym (append-assoc (recordBytes q) (recordsBytes rs) (recordBytes r))
 
-stored : (run : List ℕ) (i n : ℕ) (vs : List ℕ) → length vs ≡ n → i + n ≤ length run → take (i + n) (sets run i vs) ≡ take i run ++ vs
-stored run i n vs e h =
-    ap (take (i + n)) (sets-eq vs run i (omega arith))
-    ∙ take-at (take i run ++ vs) (drop (i + length vs) run) (i + n) (length-append (take i run) vs ∙ omega (arith, length-take-le i run (omega arith)))
+-- a record more, behind those of which a run has the bytes
+stored : (run : List ℕ) (b : ℕ) (r : Record) → length (recordBytes r) ≡ recordSize → recordSize * b + recordSize ≤ length run
+    → take (recordSize * (b + 1)) (recordSet b r run) ≡ take (recordSize * b) run ++ recordBytes r
+unfolding recordSet
+stored run b r e h =
+    let i = recordSize * b in
+    ap (take (recordSize * (b + 1))) (sets-eq (recordBytes r) run i (omega arith))
+    ∙ take-at (take i run ++ recordBytes r) (drop (i + length (recordBytes r)) run) (recordSize * (b + 1)) (length-append (take i run) (recordBytes r) ∙ omega (arith, length-take-le i run (omega arith)))
 
-module _ (t : List ℕ) (xs : List Op) (s : List ℕ) (sizes flags k : ℕ) where
+module _ (w : ℕ) (t : List ℕ) (xs : List Op) (s : List ℕ) (sizes flags k : ℕ) where
   abbrev pub whole : Read (List Record)
-  whole = batchesAt 8 t xs 0 0 (sizesFrom k s sizes) (flagsFrom k s flags)
+  whole = batchesAt w t xs 0 0 (sizesFrom k s sizes) (flagsFrom k s flags)
 
   -- the batches from the b-th on
   abbrev pub rest : ℕ → ℕ → Read (List Record)
-  rest b from = batchesAt 8 t xs from b (sizesFrom (k - b) s (sizes + 4 * b)) (flagsFrom (k - b) s (flags + b))
+  rest b from = batchesAt w t xs from b (sizesFrom (k - b) s (sizes + 4 * b)) (flagsFrom (k - b) s (flags + b))
 
   -- the records of the first b batches are found and stand in the run
   pub record Going (run : List ℕ) (b from : ℕ) : Type 0 where
     pub records : List Record
     pub many : length records ≡ b
-    pub bytes : take (82 * b) run ≡ recordsBytes records
-    pub size : length (recordsBytes records) ≡ 82 * b
+    pub bytes : take (recordSize * b) run ≡ recordsBytes records
+    pub size : length (recordsBytes records) ≡ recordSize * b
     pub walk : whole ≡ onto records (rest b from)
 
   pub start : (run : List ℕ) → Going run 0 0
@@ -101,7 +52,7 @@ module _ (t : List ℕ) (xs : List Op) (s : List ℕ) (sizes flags k : ℕ) wher
 
   module _ (run : List ℕ) (b from : ℕ) (g : Going run b from) (h : b < k) (v : ℕ) (e : v ≡ leAt 4 s (sizes + 4 * b)) where
     abbrev pub one : Read Record
-    one = batch t xs from b v (getD s (flags + b) 0)
+    one = batch w t xs from b v (getD s (flags + b) 0)
 
     next : rest b from ≡ (one then λ r end. rest (b + 1) end then λ rs end. found (r ∷ rs) end)
     unfolding batchesAt sizesFrom flagsFrom
@@ -114,13 +65,12 @@ module _ (t : List ℕ) (xs : List Op) (s : List ℕ) (sizes flags k : ℕ) wher
     pub stop : (n p : ℕ) → one ≡ refused n p → whole ≡ refused n p
     stop n p r = g .walk ∙ rw (next, r)
 
-    pub turn : (r : Record) (end : ℕ) → one ≡ found r end → length (recordBytes r) ≡ 82 → 82 * b + 82 ≤ length run → Going (sets run (82 * b) (recordBytes r)) (b + 1) end
+    pub turn : (r : Record) (end : ℕ) → one ≡ found r end → length (recordBytes r) ≡ recordSize → recordSize * b + recordSize ≤ length run → Going (recordSet b r run) (b + 1) end
     turn r end f n l =
-        let p : 82 * (b + 1) ≡ 82 * b + 82 = omega arith in
         record {
           records = g .records ++ (r ∷ []);
           many = length-append (g .records) (r ∷ []) ∙ omega (arith, g .many);
-          bytes = rw (p, bytes-snoc (g .records) r) (stored run (82 * b) 82 (recordBytes r) n l ∙ ap (λ (l : List ℕ). l ++ recordBytes r) (g .bytes));
+          bytes = rw (bytes-snoc (g .records) r) (stored run b r n l ∙ ap (λ (l : List ℕ). l ++ recordBytes r) (g .bytes));
           size = rw (bytes-snoc (g .records) r) (length-append (recordsBytes (g .records)) (recordBytes r) ∙ omega (arith, g .size));
           walk = g .walk ∙ rw (next, f) (onto-then (g .records) r (rest (b + 1) end));
         }

@@ -5,7 +5,7 @@ use native.Mathlib.Omega.{arith}
 use lib.ListN.{length, length-take}
 use Rattle.rules.specs.Answer.{good, refused, Read}
 use Rattle.rules.specs.Operations.{codes, values}
-use Rattle.rules.specs.Record.{Block, noBlock, recordsBytes}
+use Rattle.rules.specs.Record.{Block, noBlock, recordSize, recordsBytes}
 use Rattle.rules.specs.Functions.{Arena, filled, readLeft}
 use Rattle.rules.proofs.Runs.{zeroed}
 use Rattle.decoder.specs.Replies.{decodedOf}
@@ -31,13 +31,13 @@ module _ (at : ℕ) (before after : Arena) (e : Even after before) where
 
   -- a block of n operations and k records
   kept : (b : Block) (k n : ℕ) → length (b .records) ≡ k → length (b .ops) ≡ n → OpsIn (after .codes) (after .values) (b .ops) → RecordsIn (after .records) (b .records)
-      → tailless n (82 * k) after ≡ filled before b
+      → tailless n (recordSize * k) after ≡ filled before b
   unfolding filled
   kept b k n f g o r =
       rw (
         zeroed (before .codes) (after .codes) (codes (b .ops)) n (e .codes) (rw length-codes (o .0)) (sym g ∙ sym (length-codes (b .ops))),
         zeroed (before .values) (after .values) (values (b .ops)) n (e .values) (rw length-values (o .1)) (sym g ∙ sym (length-values (b .ops))),
-        zeroed (before .records) (after .records) (recordsBytes (b .records)) (82 * k) (e .records) (r .0) (sym (r .1 ∙ ap (λ (m : ℕ). 82 * m) f)),
+        zeroed (before .records) (after .records) (recordsBytes (b .records)) (recordSize * k) (e .records) (r .0) (sym (r .1 ∙ ap (λ (m : ℕ). recordSize * m) f)),
       )
 
   -- what was made
@@ -53,10 +53,10 @@ module _ (at : ℕ) (before after : Arena) (e : Even after before) where
   made (good i) w h = record { block = i .item; is = refl; batches = cc (w .reply); ops = cc (w .reply); begins = w .left .0; records = w .left .1 }
   made (refused m q) w h = let z : _≡_ {A = ℕ} 0 1 = cc (w .reply) in absurd (omega arith)
 
-  pub made-kept : {d : Read Block} {r : Decoded} {k n u : ℕ} → Reading at d after r → r ≡ whole.Made k n u → tailless n (82 * k) after ≡ filled before (readLeft d)
+  pub made-kept : {d : Read Block} {r : Decoded} {k n u : ℕ} → Reading at d after r → r ≡ whole.Made k n u → tailless n (recordSize * k) after ≡ filled before (readLeft d)
   made-kept {d} {r} {k} {n} w h = let m = made d w h in rw (m .is) (kept (m .block) k n (m .batches) (m .ops) (m .begins) (m .records))
 
-  pub made-fits : {d : Read Block} {r : Decoded} {k n u : ℕ} → Reading at d after r → r ≡ whole.Made k n u → 82 * k ≤ length (before .records)
+  pub made-fits : {d : Read Block} {r : Decoded} {k n u : ℕ} → Reading at d after r → r ≡ whole.Made k n u → recordSize * k ≤ length (before .records)
   made-fits {d} w h =
       let m = made d w h in
       omega (arith, e .records, m .batches, m .records .1, ap length (m .records .0), length-take (length (recordsBytes (m .block .records))) (after .records))

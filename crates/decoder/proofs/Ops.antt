@@ -7,7 +7,7 @@ use native.Mathlib.Nat.{le-of-suc-le-suc}
 use native.Mathlib.Numerals.{add-one}
 use native.Mathlib.Omega.{arith}
 use borrow.Author.Tests.{ltb-true, ltb-false, lt-ltb, le-ltb, not-false}
-use lib.ListN.{length, getD, take, drop, set}
+use lib.ListN.{length, getD, take, set}
 use lib.Seq.{take-suc-set, length-take-le}
 use lib.Dec.{ltb, leb}
 use lib.Count.{trailingZeros}
@@ -16,12 +16,13 @@ use Rattle.rules.specs.Answer.{refused, Read, found}
 use Rattle.rules.specs.Operations.{Op, operations, codes, values, kindOf, assigned, valued, field}
 use Rattle.rules.specs.Bytes.{least, countBy, countAt, opAt, valueAt, opsAt, batchCountAt}
 use Rattle.rules.specs.Block.{Head}
-use Rattle.rules.specs.Record.{part}
 use Rattle.rules.proofs.Operations.{op, true-left, codes-back}
 use Rattle.wire.specs.declared.CountRead.{CountRead}
 use Rattle.wire.specs.declared.CountRead.the-variants as count
-use Rattle.decoder.specs.Stages.{IfFound, Staged, OpsIn, Coded, itemsAt}
-use Rattle.decoder.proofs.Stages.{onto, onto-then, onto-found, if-then, if-refuse, held, found-by}
+use Rattle.wire.specs.Stages.{IfFound, Staged}
+use Rattle.unpacker.specs.Groups.{Coded}
+use Rattle.decoder.specs.Stages.{OpsIn, itemsAt}
+use Rattle.wire.proofs.Stages.{onto, onto-then, onto-found, if-then, if-refuse, held, found-by}
 use Rattle.rules.proofs.Sizes.{length-codes, length-values}
 
 -- ---- the operations of two runs
@@ -32,42 +33,6 @@ operations-snoc [] [] c v h = refl
 operations-snoc [] (w ∷ vs) c v h = absurd (omega arith)
 operations-snoc (d ∷ cs) [] c v h = absurd (omega arith)
 operations-snoc (d ∷ cs) (w ∷ vs) c v h = ap (λ (l : List Op). op d w ∷ l) (operations-snoc cs vs c v (omega arith))
-
-pub codes-operations : (cs vs : List ℕ) → length cs ≡ length vs → codes (operations cs vs) ≡ cs
-unfolding operations codes
-codes-operations [] vs h = refl
-codes-operations (c ∷ cs) [] h = absurd (omega arith)
-codes-operations (c ∷ cs) (v ∷ vs) h = ap (λ (l : List ℕ). c ∷ l) (codes-operations cs vs (omega arith))
-
-pub values-operations : (cs vs : List ℕ) → length cs ≡ length vs → values (operations cs vs) ≡ vs
-unfolding operations values
-values-operations [] [] h = refl
-values-operations [] (v ∷ vs) h = absurd (omega arith)
-values-operations (c ∷ cs) [] h = absurd (omega arith)
-values-operations (c ∷ cs) (v ∷ vs) h = ap (λ (l : List ℕ). v ∷ l) (values-operations cs vs (omega arith))
-
-nothing : (cs : List ℕ) → operations cs [] ≡ []
-unfolding operations
-nothing [] = refl
-nothing (c ∷ cs) = refl
-
-drop-operations : (at : ℕ) (cs vs : List ℕ) → drop at (operations cs vs) ≡ operations (drop at cs) (drop at vs)
-unfolding operations
-drop-operations zero cs vs = refl
-drop-operations (suc at) [] vs = refl
-drop-operations (suc at) (c ∷ cs) [] = sym (nothing (drop at cs))
-drop-operations (suc at) (c ∷ cs) (v ∷ vs) = drop-operations at cs vs
-
-take-operations : (n : ℕ) (cs vs : List ℕ) → take n (operations cs vs) ≡ operations (take n cs) (take n vs)
-unfolding operations
-take-operations zero cs vs = refl
-take-operations (suc n) [] vs = refl
-take-operations (suc n) (c ∷ cs) [] = refl
-take-operations (suc n) (c ∷ cs) (v ∷ vs) = ap (λ (l : List Op). op c v ∷ l) (take-operations n cs vs)
-
--- the operations of parts of two runs
-pub part-operations : (n at : ℕ) (cs vs : List ℕ) → part n (operations cs vs) at ≡ operations (take n (drop at cs)) (take n (drop at vs))
-part-operations n at cs vs = rw (drop-operations at cs vs) (take-operations n (drop at cs) (drop at vs))
 
 -- ---- the walk
 

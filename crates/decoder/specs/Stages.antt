@@ -1,72 +1,43 @@
 -- What the decoder's stages answer and leave: cited by the contracts of private functions only.
 use mathlib.Core.Path.{_≡_}
-use mathlib.Core.Bool.{Bool}
-use mathlib.Core.List.{List, [], _∷_, _++_}
-use Prim.Native.Nat.{ℕ, zero, suc, _+_, _-_, _*_, _≤_, _<_}
+use mathlib.Core.List.{List, [], _∷_}
+use Prim.Native.Nat.{ℕ, zero, suc, _+_, _*_}
 use lib.ListN.{length, getD, take}
 use lib.Dec.{ltb}
-use Rattle.rules.specs.Lists.{fitted, total}
+use Rattle.rules.specs.Lists.{fitted}
 use Rattle.rules.specs.Digits.{digits, leAt}
-use Rattle.rules.specs.Answer.{good, refused, Read, found, refuse, _then_}
+use Rattle.rules.specs.Answer.{Read, found, refuse, _then_}
 use Rattle.rules.specs.Operations.{Op, codes, values}
-use Rattle.rules.specs.Record.{Record, Block, recordsBytes, cut}
-use Rattle.rules.specs.Bytes.{opsAt, batchCountAt, upTo}
+use Rattle.rules.specs.Record.{Record, Block, recordSize, recordsBytes}
+use Rattle.rules.specs.Bytes.{opsAt, batchCountAt}
 use Rattle.rules.specs.Block.{Head, layoutAt, batchesBy}
-use Rattle.rules.proofs.Slots.{slots}
-use Rattle.rules.specs.Checks.{paddingRight}
 use Rattle.rules.specs.Functions.{Arena, arena}
 use Rattle.wire.specs.declared.CountRead.{CountRead}
 use Rattle.wire.specs.declared.CountRead.the-variants as count
-use Rattle.wire.specs.declared.OpRead.{OpRead}
-use Rattle.wire.specs.declared.OpRead.the-variants as one
+use Rattle.wire.specs.Stages.{IfFound}
 use Rattle.decoder.specs.declared.Decoded.{Decoded}
 use Rattle.decoder.specs.declared.Decoded.the-variants as whole
 use Rattle.decoder.specs.Replies.{decodedOf}
-
--- ---- a stage
-
--- a number of what was found, and the place after it; or the refusal, handed on
-abbrev pub counted : {A : Type 0} → (A → ℕ) → Read A → CountRead
-counted f (good i) = count.Found (f (i .item)) (i .next)
-counted f (refused n p) = count.Refused n p
-
--- what holds of what was found and the place after it; of a refusal nothing is said
-abbrev pub IfFound : {A : Type 0} → (A → ℕ → Type 0) → Read A → Type 0
-IfFound P (good i) = P (i .item) (i .next)
-IfFound P (refused n p) = Unit {0}
-
--- what a stage answers, and what it leaves in lent runs
-pub record Staged {A : Type 0} (f : A → ℕ) (P : A → ℕ → Type 0) (d : Read A) (r : CountRead) : Type 0 where
-  pub reply : r ≡ counted f d
-  pub left : IfFound P d
 
 -- two runs that begin with the operations
 abbrev pub OpsIn : List ℕ → List ℕ → List Op → Type 0
 OpsIn cs vs xs = (take (length xs) cs ≡ codes xs) × (take (length xs) vs ≡ values xs)
 
--- a run that begins with the records, 82 bytes each
+-- a run that begins with the records
 abbrev pub RecordsIn : List ℕ → List Record → Type 0
-RecordsIn s rs = (take (length (recordsBytes rs)) s ≡ recordsBytes rs) × (length (recordsBytes rs) ≡ 82 * length rs)
+RecordsIn s rs = (take (length (recordsBytes rs)) s ≡ recordsBytes rs) × (length (recordsBytes rs) ≡ recordSize * length rs)
 
 -- the block's answer, and runs that begin with the block
 pub record Reading (at : ℕ) (d : Read Block) (after : Arena) (r : Decoded) : Type 0 where
   pub reply : r ≡ decodedOf at d
   pub left : IfFound (λ (b : Block) (end : ℕ). OpsIn (after .codes) (after .values) (b .ops) × RecordsIn (after .records) (b .records)) d
 
--- a refused operation, and a refused count
-abbrev pub handOp : OpRead → CountRead
-handOp (one.Found c v next) = count.Refused 0 0
-handOp (one.Refused n p) = count.Refused n p
-
+-- a refused count
 abbrev pub handCount : CountRead → Decoded
 handCount (count.Found v next) = whole.Refused 0 0
 handCount (count.Refused n p) = whole.Refused n p
 
 -- ---- the stages of a block
-
--- opcodes
-abbrev pub Coded : List ℕ → Type 0
-Coded cs = (i : ℕ) → i < length cs → getD cs i 0 < 128
 
 -- items 2 and 3 of a block of n operations, with room for so many records
 unfoldable pub itemsAt : List ℕ → List ℕ → ℕ → ℕ → ℕ → Read Head
@@ -77,10 +48,10 @@ itemsAt t s n at room =
     (found (record { ops = xs; batches = k }) a₃)
 
 -- items 4 and 5, and the records of k batches
-unfoldable pub recordsAt : List ℕ → List ℕ → List Op → ℕ → ℕ → Read (List Record)
-recordsAt t s xs k at =
-    layoutAt 8 s k at then λ l end.
-    batchesBy 8 t xs l then λ rs n.
+unfoldable pub recordsAt : ℕ → List ℕ → List ℕ → List Op → ℕ → ℕ → Read (List Record)
+recordsAt w t s xs k at =
+    layoutAt w s k at then λ l end.
+    batchesBy w t xs l then λ rs n.
     found rs end
 
 -- the sizes and the flags of k batches, by their bytes
@@ -91,40 +62,6 @@ sizesFrom (suc k) s at = digits 16 8 (leAt 4 s at) ∷ sizesFrom k s (at + 4)
 unfoldable pub flagsFrom : ℕ → List ℕ → ℕ → List (List ℕ)
 flagsFrom zero s at = []
 flagsFrom (suc k) s at = digits 2 8 (getD s at 0) ∷ flagsFrom k s (at + 1)
-
--- ---- a walk over the groups of a batch
-
--- numbers found so far (us, and ws with the empty groups since) in front of those found of the groups left: an empty group counts only where one that is not
--- stands after it
-abbrev pub glue : List ℕ → List ℕ → List ℕ → List ℕ
-glue us ws [] = us
-glue us ws (v ∷ vs) = ws ++ (v ∷ vs)
-
-abbrev pub behind : List ℕ → List ℕ → Read (List ℕ) → Read (List ℕ)
-behind us ws (good i) = found (glue us ws (i .item)) (i .next)
-behind us ws (refused n p) = refused n p
-
--- what the b-th batch comes to, where the numbers of the first g groups are found and stand in gs, and immediates are due
-abbrev pub onward : List ℕ → ℕ → List Op → ℕ → List ℕ → ℕ → ℕ → List ℕ → Read (List ℕ)
-onward t b xs end gs g deltas due = behind (take g gs) (take g gs) (slots t b (digits 16 (8 - g) deltas) due xs end)
-
--- of the immediates that were due from group g on, where the numbers stood in gs, those before `rest` are placed, and the walk goes on at group h
-pub record Placed (t : List ℕ) (b : ℕ) (due gs : List ℕ) (g deltas : ℕ) (rest hs : List ℕ) (h left : ℕ) : Type 0 where
-  pub walk : (xs : List Op) (end : ℕ) → onward t b xs end gs g deltas due ≡ onward t b xs end hs h left rest
-  pub up : g ≤ h
-  pub under : h ≤ 8
-  pub numbers : hs ≡ fitted 8 (take h hs)
-  pub sizes : total (digits 16 (8 - g) deltas) ≡ total (digits 16 (8 - h) left)
-  pub small : upTo 9 (digits 16 (8 - g) deltas) ≡ upTo 9 (digits 16 (8 - h) left)
-
--- all are placed, or one is refused
-abbrev pub Placing : List ℕ → ℕ → List ℕ → List ℕ → ℕ → ℕ → List ℕ → CountRead → Type 0
-Placing t b due gs g deltas hs (count.Found left h) = Placed t b due gs g deltas [] hs h left
-Placing t b due gs g deltas hs (count.Refused n p) = (xs : List Op) (end : ℕ) → onward t b xs end gs g deltas due ≡ refused n p
-
--- whether the flags of a batch are right, of operations with these opcodes
-abbrev pub PaddingRight : List ℕ → ℕ → ℕ → ℕ → ℕ → Bool → Type 0
-PaddingRight cs at deltas flags count r = (xs : List Op) → codes xs ≡ cs → r ≡ paddingRight (take count (cut (digits 16 8 deltas) xs at)) (digits 2 8 flags)
 
 -- an arena of which the first n operations and the first m bytes of records are kept
 abbrev pub tailless : ℕ → ℕ → Arena → Arena

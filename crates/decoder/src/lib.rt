@@ -1,21 +1,19 @@
-// The block decoder (document 01, "Block bytes" and "Decoding a batch").
+// The block decoder (document 01, "Block bytes").
 ghost use mathlib.Core.Path.{_≡_};
-ghost use mathlib.Core.Bool.{true};
-ghost use mathlib.Core.List.{List, [], _∷_, _++_};
+ghost use mathlib.Core.List.{List};
 ghost use Prim.Native.Nat.{ℕ, _+_, _*_, _≤_, _<_};
-ghost use lib.ListN.{length, take};
-ghost use lib.Seq.{sets};
-ghost use Rattle.rules.specs.Lists.{fitted, total};
-ghost use Rattle.rules.specs.Digits.{digits, number, leAt};
+ghost use lib.ListN.{length};
+ghost use Rattle.rules.specs.Digits.{leAt};
 ghost use Rattle.rules.specs.Operations.{Op, operations};
-ghost use Rattle.rules.specs.Record.{Record, startsFrom, wordBytes, recordBytes, immediates};
-ghost use Rattle.rules.specs.Bytes.{opsAt, nibblesAt, upTo};
-ghost use Rattle.rules.specs.Block.{Head, batchAt, batchesAt, blockAt};
-ghost use Rattle.rules.proofs.Slots.{slots};
+ghost use Rattle.rules.specs.Record.{Record, recordSize};
+ghost use Rattle.rules.specs.Bytes.{opsAt, nibblesAt};
+ghost use Rattle.rules.specs.Block.{Head, batchesAt, blockAt};
 ghost use Rattle.rules.specs.Functions.{arena, roomIn, decoded};
+ghost use Rattle.wire.specs.Stages.{counted, Staged};
+ghost use Rattle.unpacker.specs.Groups.{Coded, RightSizes};
 ghost use Rattle.decoder.specs.Replies.{Decodes};
-ghost use Rattle.decoder.specs.Stages.{counted, Staged, Reading, handOp, handCount, tailless};
-ghost use Rattle.decoder.specs.Stages.{OpsIn, RecordsIn, Coded, itemsAt, recordsAt, sizesFrom, flagsFrom, Placing, PaddingRight};
+ghost use Rattle.decoder.specs.Stages.{Reading, handCount, tailless};
+ghost use Rattle.decoder.specs.Stages.{OpsIn, RecordsIn, itemsAt, recordsAt, sizesFrom, flagsFrom};
 use wire::CountRead;
 use wire::OpRead;
 
@@ -32,23 +30,7 @@ pub enum Decoded {
     },
 }
 
-// A refused operation and a refused count, handed on.
-pub fn not_read(r: OpRead) -> CountRead
-    ensures { λ a. ⌜ a ≡ handOp r ⌝ }
-{
-    match r {
-        OpRead::Refused { number, place } => CountRead::Refused { number, place },
-        OpRead::Found {
-            code: _,
-            value: _,
-            next: _,
-        } => CountRead::Refused {
-            number: 0,
-            place: 0,
-        },
-    }
-}
-
+// A refused count, handed on.
 fn not_counted(r: CountRead) -> Decoded
     ensures { λ a. ⌜ a ≡ handCount r ⌝ }
 {
@@ -80,7 +62,7 @@ fn read_ops(
     while i < n {
         let r = wire::read_op(table, s, from, i);
         let OpRead::Found { code, value, next } = r else {
-            return not_read(r);
+            return wire::not_read(r);
         };
         out_codes[i] = code;
         out_values[i] = value;
@@ -123,7 +105,8 @@ fn read_items(
     c
 }
 
-// ---- item 4: all nibbles. At width 8 no flag byte is refused.
+// ---- item 4: all nibbles. At width 8 no nibble is refused for its place, and no flag byte at all: what looks at these bytes, here and in `decode_batches`, is
+// for that width.
 
 // Whether none of the sizes of k batches, four bytes each from `at` on, is over 9.
 fn nibbles_right(s: &[u8], at: usize, k: usize) -> CountRead
@@ -148,226 +131,11 @@ fn nibbles_right(s: &[u8], at: usize, k: usize) -> CountRead
     }
 }
 
-// ---- a batch: `deltas` has its eight sizes, four bits each, the first lowest
-
-// The number of a group: the sum of opcode times 128^position.
-fn group_number(codes: &[u8]) -> u64
-    requires { ⌜ (length (now codes) ≤ 9) × Coded (now codes) ⌝ }
-    ensures { λ r. ⌜ r ≡ number 128 (now (codes .entry)) ⌝ }
-{
-    let mut v: u64 = 0;
-    let mut i = codes.len();
-    while 0 < i {
-        i = i - 1;
-        v = v * 128 + word::wide(codes[i]);
-    }
-    v
-}
-
-// The immediates of a group's operations, each into the next slot, which must be an empty group under 8; `deltas` has the sizes from the slot on.
-// The answer's value has the sizes from the next slot on.
-fn place_immediates(
-    table: &[u8],
-    codes: &[u8],
-    values: &[u64],
-    b: usize,
-    deltas: u64,
-    slot: usize,
-    groups: &mut [u64; 8],
-) -> CountRead
-    requires { ⌜ (length (now table) ≡ 128) × (length (now codes) ≡ length (now values)) × Coded (now codes) × (slot ≤ 8) ⌝ }
-    requires { ⌜ now groups ≡ fitted 8 (take slot (now groups)) ⌝ }
-    ensures { λ r. ⌜ Placing (now (table .entry)) b (immediates (now (table .entry)) (operations (now (codes .entry)) (now (values .entry)))) (now (groups .entry)) slot deltas (now (groups .exit)) r ⌝ }
-{
-    let mut left = deltas;
-    let mut next = slot;
-    let mut i: usize = 0;
-    while i < codes.len() {
-        if table[codes[i] as usize] != 1 {
-            i += 1;
-            continue;
-        }
-        if 8 <= next {
-            return CountRead::Refused {
-                number: 8,
-                place: b,
-            };
-        }
-        if left % 16 != 0 {
-            return CountRead::Refused {
-                number: 9,
-                place: b,
-            };
-        }
-        groups[next] = values[i];
-        left = left / 16;
-        next += 1;
-        i += 1;
-    }
-    CountRead::Found { value: left, next }
-}
-
-// The group numbers of a batch whose operations start at `at`: each non-empty group's number, and its immediates in the slots right after it.
-// The answer's value is the group count.
-fn decode_groups(
-    table: &[u8],
-    codes: &[u8],
-    values: &[u64],
-    b: usize,
-    at: usize,
-    deltas: u64,
-    groups: &mut [u64; 8],
-) -> CountRead
-    requires { ⌜ (length (now table) ≡ 128) × (length (now codes) ≡ length (now values)) × Coded (now codes) × (now groups ≡ fitted 8 []) ⌝ }
-    requires { ⌜ (at + total (digits 16 8 deltas) ≤ length (now codes)) × (upTo 9 (digits 16 8 deltas) ≡ true) ⌝ }
-    ensures { λ r. ⌜ Staged length (λ (vs : List ℕ) (end : ℕ). (now (groups .exit) ≡ fitted 8 vs) × (length vs ≤ 8) × (end ≤ length (now (codes .entry)))) (slots (now (table .entry)) b (digits 16 8 deltas) [] (operations (now (codes .entry)) (now (values .entry))) at) r ⌝ }
-{
-    let mut left = deltas;
-    let mut from = at;
-    let mut count: usize = 0;
-    let mut g: usize = 0;
-    while g < 8 {
-        let n = (left % 16) as usize;
-        left = left / 16;
-        if n == 0 {
-            g += 1;
-            continue;
-        }
-        let end = from + n;
-        let slot = g + 1;
-        groups[g] = group_number(&codes[from..end]);
-        let r = place_immediates(
-            table,
-            &codes[from..end],
-            &values[from..end],
-            b,
-            left,
-            slot,
-            groups,
-        );
-        let CountRead::Found { value, next } = r else {
-            return r;
-        };
-        left = value;
-        from = end;
-        count = next;
-        g = next;
-    }
-    CountRead::Found {
-        value: count as u64,
-        next: from,
-    }
-}
-
-// Whether each flagged group is under the count, non-empty, and ends in opcode 0.
-fn padding_right(codes: &[u8], at: usize, deltas: u64, flags: u8, count: usize) -> bool
-    requires { ⌜ at + total (digits 16 8 deltas) ≤ length (now codes) ⌝ }
-    ensures { λ r. ⌜ PaddingRight (now (codes .entry)) at deltas flags count r ⌝ }
-{
-    let mut left = deltas;
-    let mut bits = flags;
-    let mut from = at;
-    let mut g: usize = 0;
-    while g < 8 {
-        let n = (left % 16) as usize;
-        from += n;
-        left = left / 16;
-        if bits % 2 == 0 {
-            bits = bits / 2;
-            g += 1;
-            continue;
-        }
-        if count <= g {
-            return false;
-        }
-        if n == 0 {
-            return false;
-        }
-        if codes[from - 1] != 0 {
-            return false;
-        }
-        bits = bits / 2;
-        g += 1;
-    }
-    true
-}
-
-// Eight numbers as 64 bytes, from `at` on.
-fn put_groups(groups: &[u64; 8], out: &mut [u8], at: usize)
-    requires { ⌜ (at + 64 ≤ length (now out)) × (length (now groups) ≡ 8) ⌝ }
-    ensures { λ _. ⌜ now (out .exit) ≡ sets (now (out .entry)) at (wordBytes (now (groups .entry))) ⌝ }
-{
-    let mut i: usize = 0;
-    while i < 8 {
-        word::put8(out, at + 8 * i, groups[i]);
-        i += 1;
-    }
-}
-
-// How many operations a batch has.
-fn operations_in(deltas: u64) -> usize
-    ensures { λ r. ⌜ r ≡ total (digits 16 8 deltas) ⌝ }
-{
-    let mut left = deltas;
-    let mut sum: usize = 0;
-    let mut i: usize = 0;
-    while i < 8 {
-        sum = sum + (left % 16) as usize;
-        left = left / 16;
-        i += 1;
-    }
-    sum
-}
-
-// A record's 82 bytes, from `at` on: nine starts, eight flags, eight numbers and the count.
-fn put_record(deltas: u64, flags: u8, groups: &[u64; 8], count: u64, out: &mut [u8], at: usize)
-    requires { ⌜ (at + 82 ≤ length (now out)) × (length (now groups) ≡ 8) × (count ≤ 8) ⌝ }
-    ensures { λ _. ⌜ now (out .exit) ≡ sets (now (out .entry)) at (startsFrom 0 (digits 16 8 deltas) ++ (digits 2 8 flags ++ (wordBytes (now (groups .entry)) ++ (count ∷ [])))) ⌝ }
-{
-    wire::unpack_indptr_deltas(deltas, out, at);
-    wire::unpack_padding(flags, out, at + 9);
-    put_groups(groups, out, at + 17);
-    out[at + 81] = count as u8;
-}
-
-// The b-th batch, of these sizes and flags, in the operations from `at` on; its record goes to the b-th place of the records.
-fn decode_batch(
-    table: &[u8],
-    codes: &[u8],
-    values: &[u64],
-    deltas: u64,
-    flags: u8,
-    b: usize,
-    at: usize,
-    records: &mut [u8],
-) -> CountRead
-    requires { ⌜ (length (now table) ≡ 128) × (length (now codes) ≡ length (now values)) × Coded (now codes) ⌝ }
-    requires { ⌜ (at ≤ length (now codes)) × (upTo 9 (digits 16 8 deltas) ≡ true) × (82 * b + 82 ≤ length (now records)) ⌝ }
-    ensures { λ r. ⌜ Staged (λ (r : Record). r .count) (λ (r : Record) (end : ℕ). (now (records .exit) ≡ sets (now (records .entry)) (82 * b) (recordBytes r)) × (length (recordBytes r) ≡ 82) × (end ≤ length (now (codes .entry)))) (batchAt 8 (now (table .entry)) (operations (now (codes .entry)) (now (values .entry))) at b (digits 16 8 deltas) (digits 2 8 flags)) r ⌝ }
-{
-    if codes.len() - at < operations_in(deltas) {
-        return CountRead::Refused {
-            number: 7,
-            place: b,
-        };
-    }
-    let mut groups: [u64; 8] = [0; 8];
-    let r = decode_groups(table, codes, values, b, at, deltas, &mut groups);
-    let CountRead::Found { value, next: _ } = r else {
-        return r;
-    };
-    if !padding_right(codes, at, deltas, flags, value as usize) {
-        return CountRead::Refused {
-            number: 10,
-            place: b,
-        };
-    }
-    put_record(deltas, flags, &groups, value, records, 82 * b);
-    r
-}
+// ---- the batches
 
 // The batches in these operations, one after the other: k batches, their sizes from `sizes` on and their flags from `flags` on.
 fn decode_each(
+    width: usize,
     table: &[u8],
     codes: &[u8],
     values: &[u64],
@@ -378,14 +146,15 @@ fn decode_each(
     records: &mut [u8],
 ) -> CountRead
     requires { ⌜ (length (now table) ≡ 128) × (length (now codes) ≡ length (now values)) × Coded (now codes) ⌝ }
-    requires { ⌜ (sizes + 4 * k ≤ length (now s)) × (flags + k ≤ length (now s)) × (82 * k ≤ length (now records)) ⌝ }
-    requires { ⌜ ((b : ℕ) → b < k → upTo 9 (digits 16 8 (leAt 4 (now s) (sizes + 4 * b))) ≡ true) ⌝ }
-    ensures { λ r. ⌜ Staged length (λ (rs : List Record) (end : ℕ). RecordsIn (now (records .exit)) rs) (batchesAt 8 (now (table .entry)) (operations (now (codes .entry)) (now (values .entry))) 0 0 (sizesFrom k (now (s .entry)) sizes) (flagsFrom k (now (s .entry)) flags)) r ⌝ }
+    requires { ⌜ (sizes + 4 * k ≤ length (now s)) × (flags + k ≤ length (now s)) × (recordSize * k ≤ length (now records)) ⌝ }
+    requires { ⌜ (width ≤ 8) × ((b : ℕ) → b < k → RightSizes width (leAt 4 (now s) (sizes + 4 * b))) ⌝ }
+    ensures { λ r. ⌜ Staged length (λ (rs : List Record) (end : ℕ). RecordsIn (now (records .exit)) rs) (batchesAt width (now (table .entry)) (operations (now (codes .entry)) (now (values .entry))) 0 0 (sizesFrom k (now (s .entry)) sizes) (flagsFrom k (now (s .entry)) flags)) r ⌝ }
 {
     let mut b: usize = 0;
     let mut from: usize = 0;
     while b < k {
-        let r = decode_batch(
+        let r = unpacker::decode_batch(
+            width,
             table,
             codes,
             values,
@@ -409,6 +178,7 @@ fn decode_each(
 
 // Items 4 and 5 from `at` on, all nibbles first, and the batches that they say, which take all operations.
 fn decode_batches(
+    width: usize,
     table: &[u8],
     codes: &[u8],
     values: &[u64],
@@ -418,14 +188,14 @@ fn decode_batches(
     records: &mut [u8],
 ) -> CountRead
     requires { ⌜ (length (now table) ≡ 128) × (length (now codes) ≡ length (now values)) × Coded (now codes) ⌝ }
-    requires { ⌜ (at + 5 * k ≤ length (now s)) × (82 * k ≤ length (now records)) ⌝ }
-    ensures { λ r. ⌜ Staged length (λ (rs : List Record) (end : ℕ). RecordsIn (now (records .exit)) rs × (at ≤ end)) (recordsAt (now (table .entry)) (now (s .entry)) (operations (now (codes .entry)) (now (values .entry))) k at) r ⌝ }
+    requires { ⌜ (width ≡ 8) × (at + 5 * k ≤ length (now s)) × (recordSize * k ≤ length (now records)) ⌝ }
+    ensures { λ r. ⌜ Staged length (λ (rs : List Record) (end : ℕ). RecordsIn (now (records .exit)) rs × (at ≤ end)) (recordsAt width (now (table .entry)) (now (s .entry)) (operations (now (codes .entry)) (now (values .entry))) k at) r ⌝ }
 {
     let n = nibbles_right(s, at, k);
     let CountRead::Found { value: _, next } = n else {
         return n;
     };
-    let r = decode_each(table, codes, values, s, at, next, k, records);
+    let r = decode_each(width, table, codes, values, s, at, next, k, records);
     let CountRead::Found { value, next: end } = r else {
         return r;
     };
@@ -444,6 +214,7 @@ fn decode_batches(
 // ---- the block
 
 fn decode_block(
+    width: usize,
     table: &[u8],
     s: &[u8],
     at: usize,
@@ -451,8 +222,8 @@ fn decode_block(
     out_values: &mut [u64],
     records: &mut [u8],
 ) -> Decoded
-    requires { ⌜ length (now table) ≡ 128 ⌝ }
-    ensures { λ r. ⌜ Reading at (blockAt 8 (now (table .entry)) (now (s .entry)) at (roomIn (arena (now («out_codes» .entry)) (now («out_values» .entry)) (now (records .entry))))) (arena (now («out_codes» .exit)) (now («out_values» .exit)) (now (records .exit))) r ⌝ }
+    requires { ⌜ (length (now table) ≡ 128) × (width ≡ 8) ⌝ }
+    ensures { λ r. ⌜ Reading at (blockAt width (now (table .entry)) (now (s .entry)) at (roomIn (arena (now («out_codes» .entry)) (now («out_values» .entry)) (now (records .entry))))) (arena (now («out_codes» .exit)) (now («out_values» .exit)) (now (records .exit))) r ⌝ }
 {
     let c = wire::read_count(s, at);
     let CountRead::Found { value, next } = c else {
@@ -471,7 +242,7 @@ fn decode_block(
             place: 0,
         };
     }
-    let room = records.len() / 82;
+    let room = records.len() / op_batch::RECORD;
     let i = read_items(table, s, next, n, room, out_codes, out_values);
     let CountRead::Found {
         value: batches,
@@ -482,6 +253,7 @@ fn decode_block(
     };
     let k = batches as usize;
     let r = decode_batches(
+        width,
         table,
         &out_codes[..n],
         &out_values[..n],
@@ -507,6 +279,7 @@ fn decode_block(
 
 // What is looked at first: 3, 14 and 1.
 fn decode_checked(
+    width: usize,
     table: &[u8],
     s: &[u8],
     at: usize,
@@ -514,7 +287,8 @@ fn decode_checked(
     out_values: &mut [u64],
     records: &mut [u8],
 ) -> Decoded
-    ensures { λ r. ⌜ Reading at (decoded 8 (now (table .entry)) (now (s .entry)) at (roomIn (arena (now («out_codes» .entry)) (now («out_values» .entry)) (now (records .entry))))) (arena (now («out_codes» .exit)) (now («out_values» .exit)) (now (records .exit))) r ⌝ }
+    requires { ⌜ width ≡ 8 ⌝ }
+    ensures { λ r. ⌜ Reading at (decoded width (now (table .entry)) (now (s .entry)) at (roomIn (arena (now («out_codes» .entry)) (now («out_values» .entry)) (now (records .entry))))) (arena (now («out_codes» .exit)) (now («out_values» .exit)) (now (records .exit))) r ⌝ }
 {
     if 1048576 < s.len() {
         return Decoded::Refused {
@@ -534,7 +308,7 @@ fn decode_checked(
             place: 0,
         };
     }
-    decode_block(table, s, at, out_codes, out_values, records)
+    decode_block(width, table, s, at, out_codes, out_values, records)
 }
 
 // Zeros after the first n operations and the first m bytes of records.
@@ -557,7 +331,15 @@ pub fn decode(
 ) -> Decoded
     ensures { λ r. ⌜ Decodes (now (table .entry)) (now (s .entry)) at (arena (now («out_codes» .entry)) (now («out_values» .entry)) (now (records .entry))) (arena (now («out_codes» .exit)) (now («out_values» .exit)) (now (records .exit))) r ⌝ }
 {
-    let r = decode_checked(table, s, at, out_codes, out_values, records);
+    let r = decode_checked(
+        op_batch::WIDTH,
+        table,
+        s,
+        at,
+        out_codes,
+        out_values,
+        records,
+    );
     let Decoded::Made {
         batches,
         operations,
@@ -567,6 +349,12 @@ pub fn decode(
         clear_after(out_codes, out_values, records, 0, 0);
         return r;
     };
-    clear_after(out_codes, out_values, records, operations, 82 * batches);
+    clear_after(
+        out_codes,
+        out_values,
+        records,
+        operations,
+        op_batch::RECORD * batches,
+    );
     r
 }

@@ -13,13 +13,14 @@ use lib.Dec.{leb, eqb}
 use Rattle.rules.specs.Lists.{every}
 use Rattle.rules.specs.Digits.{number, leBytes}
 use Rattle.rules.specs.Operations.{Op, operations, valued}
-use Rattle.rules.specs.Record.{Record, differences, bytesAt, recordAt, recordsFrom, recordsIn}
+use Rattle.rules.specs.Record.{Record, differences, recordSize, recordAt, recordsFrom, recordsIn}
 use Rattle.rules.specs.Bytes.{more, countBytes, opBytes, opsBytes, nibbleBytes, flagBytes}
 use Rattle.rules.specs.Block.{blockBytes}
 use Rattle.rules.specs.Checks.{ninth, startsRight, recordRight}
 use Rattle.rules.specs.Functions.{arena, blockIn}
 use Rattle.rules.proofs.Digits.{split, length-leBytes}
 use Rattle.rules.proofs.Operations.{op, kind-at, length-operations, operations-turn, operations-end, true-left, true-right}
+use Rattle.checks.specs.Batch.{Fits}
 use Rattle.checks.proofs.Walk.{records-turn, records-end}
 use Rattle.encoder.specs.Parts.{opsSize}
 use Rattle.rules.proofs.Sizes.{length-count, length-nibbles, length-flags, more-0, more-1, more-2}
@@ -72,16 +73,16 @@ module _ (t cs vs : List ℕ) (i : ℕ) where
 
 module _ (rs : List ℕ) (n b : ℕ) where
   pub deltas-turn : (l : List ℕ) (at : ℕ) → b < n
-      → sets (sets l (at + 4 * b) (leBytes 4 (number 16 (differences (bytesAt 9 rs (82 * b)))))) (at + 4 * (b + 1)) (nibbleBytes (recordsFrom (n - (b + 1)) rs (b + 1)))
+      → sets (sets l (at + 4 * b) (leBytes 4 (number 16 (differences (recordAt rs b .starts))))) (at + 4 * (b + 1)) (nibbleBytes (recordsFrom (n - (b + 1)) rs (b + 1)))
       ≡ sets l (at + 4 * b) (nibbleBytes (recordsFrom (n - b) rs b))
-  unfolding nibbleBytes recordAt
+  unfolding nibbleBytes
   deltas-turn l at h =
-      let v = number 16 (differences (bytesAt 9 rs (82 * b))) in
+      let v = number 16 (differences (recordAt rs b .starts)) in
       rw (records-turn n rs b h) (sets-next l (at + 4 * b) (leBytes 4 v) (at + 4 * (b + 1)) (nibbleBytes (recordsFrom (n - (b + 1)) rs (b + 1))) (omega (arith, length-leBytes 4 v)))
 
   pub flags-turn : (l : List ℕ) (at : ℕ) → b < n
-      → sets (set l (at + b) (number 2 (bytesAt 8 rs (82 * b + 9)))) (at + (b + 1)) (flagBytes (recordsFrom (n - (b + 1)) rs (b + 1))) ≡ sets l (at + b) (flagBytes (recordsFrom (n - b) rs b))
-  unfolding flagBytes recordAt
+      → sets (set l (at + b) (number 2 (recordAt rs b .flags))) (at + (b + 1)) (flagBytes (recordsFrom (n - (b + 1)) rs (b + 1))) ≡ sets l (at + b) (flagBytes (recordsFrom (n - b) rs b))
+  unfolding flagBytes
   flags-turn l at h = let e : at + (b + 1) ≡ suc (at + b) = omega arith in rw (records-turn n rs b h, e)
 
   pub deltas-end : (l : List ℕ) (at : ℕ) → n ≤ b → sets l at (nibbleBytes (recordsFrom (n - b) rs b)) ≡ l
@@ -92,15 +93,12 @@ module _ (rs : List ℕ) (n b : ℕ) where
   unfolding flagBytes
   flags-end l at h = rw (records-end n rs b h)
 
-pub all-records : (rs : List ℕ) → recordsFrom (length rs / 82 - 0) rs 0 ≡ recordsIn rs
+pub all-records : (rs : List ℕ) → recordsFrom (length rs / recordSize - 0) rs 0 ≡ recordsIn rs
 unfolding recordsIn
 all-records rs = rw sub-zero
 
 -- what the structure test says of them
-module _ (rs : List ℕ) (b : ℕ) (h : recordRight 8 (recordAt rs b) ≡ true) where
-  abbrev r : Record
-  r = recordAt rs b
-
+module _ (r : Record) (x : Fits r) where
   abbrev flags : Bool
   flags = every (λ (f : ℕ). leb f 1) (r .flags)
 
@@ -112,14 +110,12 @@ module _ (rs : List ℕ) (b : ℕ) (h : recordRight 8 (recordAt rs b) ≡ true) 
 
   rest : (flags && (first && (startsRight (r .starts) && last))) ≡ true
   unfolding recordRight
-  rest = true-right (leb (r .count) 8) (flags && (first && (startsRight (r .starts) && last))) h
+  rest = true-right (leb (r .count) (x .width)) (flags && (first && (startsRight (r .starts) && last))) (x .right)
 
-  pub right-flags : every (λ (f : ℕ). leb f 1) (bytesAt 8 rs (82 * b + 9)) ≡ true
-  unfolding recordAt
+  pub right-flags : flags ≡ true
   right-flags = true-left flags (first && (startsRight (r .starts) && last)) rest
 
-  pub right-starts : startsRight (bytesAt 9 rs (82 * b)) ≡ true
-  unfolding recordAt
+  pub right-starts : startsRight (r .starts) ≡ true
   right-starts = true-left (startsRight (r .starts)) last (true-right first (startsRight (r .starts) && last) (true-right flags (first && (startsRight (r .starts) && last)) rest))
 
 -- ---- lengths
@@ -132,9 +128,9 @@ unfolding recordsFrom
 length-from zero s b = refl
 length-from (suc k) s b = ap suc (length-from k s (b + 1))
 
-length-records : (rs : List ℕ) → length (recordsIn rs) ≡ length rs / 82
+length-records : (rs : List ℕ) → length (recordsIn rs) ≡ length rs / recordSize
 unfolding recordsIn
-length-records rs = length-from (length rs / 82) rs 0
+length-records rs = length-from (length rs / recordSize) rs 0
 
 -- ---- the block
 
@@ -143,7 +139,7 @@ module _ (t cs vs rs : List ℕ) (e : length cs ≡ length vs) where
   bytes = blockBytes t (blockIn (arena cs vs rs))
 
   abbrev items : List ℕ
-  items = countBytes (length cs) ++ (opsBytes t (operations cs vs) ++ (leBytes 4 (length rs / 82) ++ (nibbleBytes (recordsIn rs) ++ flagBytes (recordsIn rs))))
+  items = countBytes (length cs) ++ (opsBytes t (operations cs vs) ++ (leBytes 4 (length rs / recordSize) ++ (nibbleBytes (recordsIn rs) ++ flagBytes (recordsIn rs))))
 
   block-items : bytes ≡ items
   unfolding blockBytes blockIn
@@ -153,13 +149,13 @@ module _ (t cs vs rs : List ℕ) (e : length cs ≡ length vs) where
   pub record Long : Type 0 where
     pub count : length (countBytes (length cs)) ≡ more (length cs) + 1
     pub ops : length (opsBytes t (operations cs vs)) ≡ opsSize t cs
-    pub all : length bytes ≡ 5 * (length rs / 82) + 4 + (more (length cs) + 1) + opsSize t cs
+    pub all : length bytes ≡ 5 * (length rs / recordSize) + 4 + (more (length cs) + 1) + opsSize t cs
 
   pub long : Long
   long =
       let c = length-count (length cs) in
       let o = ops-size t cs vs e in
-      let k = length-leBytes 4 (length rs / 82) in
+      let k = length-leBytes 4 (length rs / recordSize) in
       let n = length-nibbles (recordsIn rs) in
       let f = length-flags (recordsIn rs) in
       let m = length-records rs in
@@ -171,16 +167,16 @@ module _ (t cs vs rs : List ℕ) (e : length cs ≡ length vs) where
 
   -- its items, stored one after the other
   pub block-stored : (l : List ℕ) (at p q : ℕ) → p ≡ at + more (length cs) + 1 → q ≡ p + length (opsBytes t (operations cs vs))
-      → sets (sets (sets (sets (sets l at (countBytes (length cs))) p (opsBytes t (operations cs vs))) q (leBytes 4 (length rs / 82))) (q + 4) (nibbleBytes (recordsIn rs))) (q + 4 + 4 * (length rs / 82)) (flagBytes (recordsIn rs))
+      → sets (sets (sets (sets (sets l at (countBytes (length cs))) p (opsBytes t (operations cs vs))) q (leBytes 4 (length rs / recordSize))) (q + 4) (nibbleBytes (recordsIn rs))) (q + 4 + 4 * (length rs / recordSize)) (flagBytes (recordsIn rs))
       ≡ sets l at bytes
   block-stored l at p q h k =
       let c = countBytes (length cs) in
       let o = opsBytes t (operations cs vs) in
-      let b = leBytes 4 (length rs / 82) in
+      let b = leBytes 4 (length rs / recordSize) in
       let n = nibbleBytes (recordsIn rs) in
       let f = flagBytes (recordsIn rs) in
-      sets-next (sets (sets (sets l at c) p o) q b) (q + 4) n (q + 4 + 4 * (length rs / 82)) f (omega (arith, length-nibbles (recordsIn rs), length-records rs))
-      ∙ sets-next (sets (sets l at c) p o) q b (q + 4) (n ++ f) (omega (arith, length-leBytes 4 (length rs / 82)))
+      sets-next (sets (sets (sets l at c) p o) q b) (q + 4) n (q + 4 + 4 * (length rs / recordSize)) f (omega (arith, length-nibbles (recordsIn rs), length-records rs))
+      ∙ sets-next (sets (sets l at c) p o) q b (q + 4) (n ++ f) (omega (arith, length-leBytes 4 (length rs / recordSize)))
       ∙ sets-next (sets l at c) p o q (b ++ (n ++ f)) k
       ∙ sets-next l at c p (o ++ (b ++ (n ++ f))) (omega (arith, length-count (length cs)))
       ∙ ap (sets l at) (sym block-items)

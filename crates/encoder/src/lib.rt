@@ -4,15 +4,16 @@ ghost use Prim.Native.Nat.{_+_, _*_, _/_, _≤_};
 ghost use lib.ListN.{length};
 ghost use lib.Seq.{sets};
 ghost use Rattle.rules.specs.Operations.{operations};
-ghost use Rattle.rules.specs.Record.{recordsIn};
+ghost use Rattle.rules.specs.Record.{recordSize, recordsIn};
 ghost use Rattle.rules.specs.Bytes.{more, opsBytes, nibbleBytes, flagBytes};
 ghost use Rattle.rules.specs.Block.{blockBytes};
 ghost use Rattle.rules.specs.Functions.{arena, blockIn};
 ghost use Rattle.operation.specs.Verdict.{verdictOf};
-ghost use Rattle.checks.specs.Batch.{Apt};
+ghost use Rattle.checks.specs.Batch.{AllFit, Apt};
 ghost use Rattle.encoder.specs.Replies.{Encodes};
-ghost use Rattle.encoder.specs.Parts.{handVerdict, inputsChecked, opsSize, Right};
+ghost use Rattle.encoder.specs.Parts.{handVerdict, inputsChecked, opsSize};
 use op_batch::RECORD;
+use op_batch::WIDTH;
 use operation::Verdict;
 
 // How many bytes were written; or a refusal's number and place.
@@ -38,6 +39,7 @@ fn not_passed(v: Verdict) -> Encoded
 
 // 3, 14, 1, 15 and 4, for a buffer of this size.
 fn check_inputs(
+    width: usize,
     table: &[u8],
     codes: &[u8],
     values: &[u64],
@@ -45,7 +47,8 @@ fn check_inputs(
     size: usize,
     at: usize,
 ) -> Verdict
-    ensures { λ r. ⌜ r ≡ verdictOf (inputsChecked (now (table .entry)) (arena (now (codes .entry)) (now (values .entry)) (now (records .entry))) size at) ⌝ }
+    requires { ⌜ width ≤ 8 ⌝ }
+    ensures { λ r. ⌜ r ≡ verdictOf (inputsChecked width (now (table .entry)) (arena (now (codes .entry)) (now (values .entry)) (now (records .entry))) size at) ⌝ }
 {
     if !checks::within(codes, values, records) {
         return Verdict::Refused {
@@ -71,7 +74,7 @@ fn check_inputs(
             place: 0,
         };
     }
-    let v = checks::structure_fault(codes, values, records);
+    let v = checks::structure_fault(width, codes, values, records);
     let Verdict::Passed = v else {
         return v;
     };
@@ -125,18 +128,14 @@ fn write_ops(table: &[u8], codes: &[u8], values: &[u64], out: &mut [u8], at: usi
 
 // The differences of each record's starts.
 fn write_deltas(records: &[u8], out: &mut [u8], at: usize) -> usize
-    requires { ⌜ Right (now records) × (at + 4 * (length (now records) / 82) ≤ length (now out)) ⌝ }
-    ensures place { λ r. ⌜ r ≡ at + 4 * (length (now (records .entry)) / 82) ⌝ }
+    requires { ⌜ AllFit (now records) × (at + 4 * (length (now records) / recordSize) ≤ length (now out)) ⌝ }
+    ensures place { λ r. ⌜ r ≡ at + 4 * (length (now (records .entry)) / recordSize) ⌝ }
     ensures bytes { λ _. ⌜ now (out .exit) ≡ sets (now (out .entry)) at (nibbleBytes (recordsIn (now (records .entry)))) ⌝ }
 {
     let n = records.len() / RECORD;
     let mut b: usize = 0;
     while b < n {
-        word::put4(
-            out,
-            at + 4 * b,
-            wire::pack_indptr_deltas(records, RECORD * b),
-        );
+        word::put4(out, at + 4 * b, op_batch::pack_indptr_deltas(records, b));
         b += 1;
     }
     at + 4 * n
@@ -144,13 +143,13 @@ fn write_deltas(records: &[u8], out: &mut [u8], at: usize) -> usize
 
 // Each record's flags.
 fn write_padding(records: &[u8], out: &mut [u8], at: usize)
-    requires { ⌜ Right (now records) × (at + length (now records) / 82 ≤ length (now out)) ⌝ }
+    requires { ⌜ AllFit (now records) × (at + length (now records) / recordSize ≤ length (now out)) ⌝ }
     ensures { λ _. ⌜ now (out .exit) ≡ sets (now (out .entry)) at (flagBytes (recordsIn (now (records .entry)))) ⌝ }
 {
     let n = records.len() / RECORD;
     let mut b: usize = 0;
     while b < n {
-        out[at + b] = wire::pack_padding(records, RECORD * b + 9);
+        out[at + b] = op_batch::pack_padding(records, b);
         b += 1;
     }
 }
@@ -164,7 +163,7 @@ fn encode_basic_block(
     out: &mut [u8],
     at: usize,
 )
-    requires { ⌜ Apt (now table) (now codes) × (length (now codes) ≡ length (now values)) × (length (now codes) ≤ 65535) × Right (now records) ⌝ }
+    requires { ⌜ Apt (now table) (now codes) × (length (now codes) ≡ length (now values)) × (length (now codes) ≤ 65535) × AllFit (now records) ⌝ }
     requires { ⌜ at + length (blockBytes (now table) (blockIn (arena (now codes) (now values) (now records)))) ≤ length (now out) ⌝ }
     ensures { λ _. ⌜ now (out .exit) ≡ sets (now (out .entry)) at (blockBytes (now (table .entry)) (blockIn (arena (now (codes .entry)) (now (values .entry)) (now (records .entry))))) ⌝ }
 {
@@ -186,7 +185,7 @@ pub fn encode(
 ) -> Encoded
     ensures { λ r. ⌜ Encodes (now (table .entry)) (arena (now (codes .entry)) (now (values .entry)) (now (records .entry))) at (now (out .entry)) (now (out .exit)) r ⌝ }
 {
-    let v = check_inputs(table, codes, values, records, out.len(), at);
+    let v = check_inputs(WIDTH, table, codes, values, records, out.len(), at);
     let Verdict::Passed = v else {
         return not_passed(v);
     };

@@ -19,8 +19,8 @@ use Rattle.rules.proofs.Operations.{true-right}
 use Rattle.rules.proofs.Runs.{fitted-zeros}
 use Rattle.claims.proofs.Back.{fitted-is}
 use Rattle.claims.proofs.Again.{count-limit, ops-allowed}
-use Rattle.decoder.specs.Stages.{IfFound}
-use Rattle.decoder.proofs.Stages.{if-then, if-refuse, held}
+use Rattle.wire.specs.Stages.{IfFound}
+use Rattle.wire.proofs.Stages.{if-then, if-refuse, held}
 use Rattle.rules.proofs.Sizes.{length-values}
 use Rattle.exports.specs.Replies.{decodeReply, Reads, roomBytes, filledBytes, ReadsBytes}
 use Rattle.exports.specs.declared.DecodeReply.{DecodeReply}

@@ -277,7 +277,7 @@ pub extern "C" fn oli_commitment(
 ) -> CheckReply
     ensures { λ r. ⌜ r ≡ checkReply (commitmentChecked 8 (now (table .entry)) (arena (now (codes .entry)) (now (values .entry)) (now (records .entry)))) ⌝ }
 {
-    let r = checks::commitment(table, codes, values, records);
+    let r = commitment::commitment(table, codes, values, records);
     flat_verdict(r)
 }
 

@@ -15,8 +15,8 @@ use Rattle.rules.specs.Bytes.{least, countBy, countAt, valueAt, opAt, opsAt, ba
 use Rattle.rules.specs.Block.{Room, Head, headAt, blockAt}
 use Rattle.rules.specs.Functions.{most, decoded, headed}
 use Rattle.rules.proofs.Answer.{passed, came, item}
-use Rattle.decoder.specs.Stages.{IfFound}
-use Rattle.decoder.proofs.Stages.{if-then, held}
+use Rattle.wire.specs.Stages.{IfFound}
+use Rattle.wire.proofs.Stages.{if-then, held}
 use Rattle.head.specs.Enough.{Enough}
 use Rattle.head.proofs.Heads.{few-operations, few-batches}
 

@@ -16,8 +16,8 @@ use Rattle.rules.specs.Bytes.{least, countBy, countAt, opAt, opsAt, batchCountA
 use Rattle.rules.specs.Block.{headAt}
 use Rattle.rules.specs.Functions.{most, headed}
 use Rattle.wire.specs.declared.CountRead.{CountRead}
-use Rattle.decoder.specs.Stages.{counted, IfFound, Staged}
-use Rattle.decoder.proofs.Stages.{more-then, if-refuse, held}
+use Rattle.wire.specs.Stages.{counted, IfFound, Staged}
+use Rattle.wire.proofs.Stages.{more-then, if-refuse, held}
 
 -- ---- the walk over the operations
 

@@ -5,7 +5,7 @@ ghost use lib.ListN.{length};
 ghost use Rattle.rules.specs.Bytes.{opsAt};
 ghost use Rattle.rules.specs.Block.{headAt};
 ghost use Rattle.rules.specs.Functions.{most, headed};
-ghost use Rattle.decoder.specs.Stages.{counted};
+ghost use Rattle.wire.specs.Stages.{counted};
 ghost use Rattle.head.specs.Replies.{headOf, handHead};
 use wire::CountRead;
 use wire::OpRead;
@@ -51,7 +51,7 @@ fn pass_ops(table: &[u8], s: &[u8], at: usize, n: usize) -> CountRead
             next,
         } = r
         else {
-            return decoder::not_read(r);
+            return wire::not_read(r);
         };
         from = next;
         i += 1;

@@ -1,13 +1,10 @@
 // A block's batches and a refusal, printed for a person. What would be read past a run's end is 0, so that no run can trip the printing up.
 ghost use Prim.Native.Nat.{_+_, _*_, _≤_, _<_};
 ghost use Rattle.io.specs.Counts.{Counts};
-use console::byte;
 use console::counted;
-use console::long;
 use console::number;
 use console::say;
-
-const RECORD_SIZE: usize = 82;
+use op_batch::OpBatch;
 
 const MOST_BATCHES: usize = 16384;
 
@@ -119,7 +116,20 @@ fn print_head(page: &mut [u8], codes: &[u8], group: u64, at: Place, from: usize)
     say(page, b":");
 }
 
-fn print_end(page: &mut [u8], flag: usize) {
+// The b-th record, or one of zeros where the run ends before it.
+fn record(records: &[u8], b: usize) -> OpBatch {
+    if b < records.len() / op_batch::RECORD {
+        return op_batch::load(records, b);
+    }
+    OpBatch {
+        starts: [0; 9],
+        flags: [0; 8],
+        groups: [0; 8],
+        count: 0,
+    }
+}
+
+fn print_end(page: &mut [u8], flag: u8) {
     if flag != 0 {
         say(page, b" [padding]\n");
         return;
@@ -127,52 +137,34 @@ fn print_end(page: &mut [u8], flag: usize) {
     say(page, b"\n");
 }
 
-// Group g of the batch whose record starts at `r`.
-fn print_group(
-    page: &mut [u8],
-    codes: &[u8],
-    values: &[u64],
-    records: &[u8],
-    r: usize,
-    at: Place,
-    g: usize,
-)
-    requires { ⌜ (r < 10000000) × (g < 8) ⌝ }
+// Group g of a batch.
+fn print_group(page: &mut [u8], codes: &[u8], values: &[u64], batch: OpBatch, at: Place, g: usize)
+    requires { ⌜ g < 8 ⌝ }
 {
-    let from = byte(records, r + g);
-    let to = byte(records, r + g + 1);
-    let group = long(records, r + 17 + 8 * g);
+    let from = batch.starts[g] as usize;
+    let to = batch.starts[g + 1] as usize;
     say(page, b"  group ");
     number(page, g as u64);
     if to <= from {
         say(page, b": value ");
-        number(page, group);
+        number(page, batch.groups[g]);
         say(page, b"\n");
         return;
     }
-    print_head(page, codes, group, at, from);
+    print_head(page, codes, batch.groups[g], at, from);
     print_ops(page, codes, values, plus(at.operation, from), to - from);
-    print_end(page, byte(records, r + 9 + g));
+    print_end(page, batch.flags[g]);
 }
 
-// The groups of the batch whose record starts at `r`.
-fn print_groups(
-    page: &mut [u8],
-    codes: &[u8],
-    values: &[u64],
-    records: &[u8],
-    r: usize,
-    at: Place,
-    count: usize,
-)
-    requires { ⌜ r < 10000000 ⌝ }
-{
+// The groups of a batch.
+fn print_groups(page: &mut [u8], codes: &[u8], values: &[u64], batch: OpBatch, at: Place) {
+    let count = batch.count as usize;
     let mut g: usize = 0;
     while g < 8 {
         if count <= g {
             return;
         }
-        print_group(page, codes, values, records, r, at, g);
+        print_group(page, codes, values, batch, at, g);
         g += 1;
     }
 }
@@ -200,22 +192,21 @@ fn print_batches(
     let mut at = first;
     let mut b: usize = 0;
     while b < batches {
-        let r = RECORD_SIZE * b;
-        let n = byte(records, r + 8);
-        let count = byte(records, r + 81);
-        print_batch(page, b, count, n);
+        let batch = record(records, b);
+        let n = batch.starts[8] as usize;
+        print_batch(page, b, batch.count as usize, n);
         let place = Place {
             operation,
             byte: at,
         };
-        print_groups(page, codes, values, records, r, place, count);
+        print_groups(page, codes, values, batch, place);
         at = plus(at, size(codes, operation, n));
         operation = plus(operation, n);
         b += 1;
     }
 }
 
-fn marked(flag: usize) -> usize
+fn marked(flag: u8) -> usize
     ensures { λ k. ⌜ k ≤ 1 ⌝ }
 {
     if flag == 0 {
@@ -224,15 +215,14 @@ fn marked(flag: usize) -> usize
     1
 }
 
-// How many groups of the record at `r` are flagged.
-fn flagged(records: &[u8], r: usize) -> usize
-    requires { ⌜ r < 10000000 ⌝ }
+// How many groups of a batch are flagged.
+fn flagged(batch: OpBatch) -> usize
     ensures { λ k. ⌜ k ≤ 8 ⌝ }
 {
     let mut n: usize = 0;
     let mut g: usize = 0;
     while g < 8 {
-        n += marked(byte(records, r + 9 + g));
+        n += marked(batch.flags[g]);
         g += 1;
     }
     n
@@ -245,7 +235,7 @@ fn paddings(records: &[u8], batches: usize) -> usize
     let mut n: usize = 0;
     let mut b: usize = 0;
     while b < batches {
-        n += flagged(records, RECORD_SIZE * b);
+        n += flagged(record(records, b));
         b += 1;
     }
     n

@@ -7,12 +7,12 @@ use Prim.Native.Nat.{ℕ, zero, suc, _+_, _-_, _/_, _≤_, _<_}
 use native.Mathlib.Nat.{add-zero, zero-add}
 use native.Mathlib.Omega.{arith}
 use borrow.Author.Tests.{lt-ltb, le-ltb, le-leb, ltb-false, not-false}
-use lib.ListN.{length, getD, take, replicate, length-append, length-replicate}
+use lib.ListN.{length, getD, take, length-append}
 use lib.Seq.{take-length}
-use lib.Dec.{ltb, eqb}
+use lib.Dec.{ltb}
 use Rattle.rules.specs.Lists.{fitted, total}
 use Rattle.rules.specs.Answer.{Answer, good, refused}
-use Rattle.rules.specs.Record.{Record, Block, recordAt, recordsFrom, recordsIn}
+use Rattle.rules.specs.Record.{Record, Block, recordSize, recordAt, recordsFrom, recordsIn}
 use Rattle.rules.specs.Checks.{ninth, recordRight, structureFaults, paddingFaults}
 use Rattle.rules.specs.Lookups.{marksIn, marks, rawEntries, paddedEntries, rawTable, paddedTable, rawAt, paddedAt, largest, paddedIndex, rawIndex}
 use Rattle.rules.specs.Functions.{Arena, blockIn, within, structureChecked, tableOf, tableLeft}
@@ -147,7 +147,7 @@ tables-lead b l =
 
 -- ---- each operation has a mark
 
-module _ (r : Record) (s : length (r .starts) ≡ 9) (f : length (r .flags) ≡ 8) (x : Sound 8 r) where
+module _ (w : ℕ) (r : Record) (s : length (r .starts) ≡ 9) (f : length (r .flags) ≡ 8) (x : Sound w r) where
   batch-marks : (k g : ℕ) → g + k ≡ 8 → length (marksAt r g) + getD (r .starts) g 0 ≡ ninth r
   batch-marks zero g h = let e : g ≡ 8 = omega arith in omega (arith, ap length (marks-end r s f g e), ap (λ (i : ℕ). getD (r .starts) i 0) e)
   batch-marks (suc k) g h =
@@ -158,27 +158,30 @@ module _ (r : Record) (s : length (r .starts) ≡ 9) (f : length (r .flags) ≡ 
         ap length (marks-turn r s f g (omega arith)),
         length-append (marksIn size flag) (marksAt r (g + 1)),
         marks-in size flag,
-        rise 8 r x s g (omega arith),
+        rise w r x s g (omega arith),
         batch-marks k (g + 1) (omega arith),
       )
 
-marks-all : (k : ℕ) (s : List ℕ) (b : ℕ) → ((j : ℕ) → j < k → recordRight 8 (recordAt s (b + j)) ≡ true) → length (marks (recordsFrom k s b)) ≡ total (map ninth (recordsFrom k s b))
+marks-all : (w k : ℕ) (s : List ℕ) (b : ℕ) → ((j : ℕ) → j < k → recordRight w (recordAt s (b + j)) ≡ true) → length (marks (recordsFrom k s b)) ≡ total (map ninth (recordsFrom k s b))
 unfolding marks recordsFrom total marksAt
-marks-all zero s b h = refl
-marks-all (suc k) s b h =
+marks-all w zero s b h = refl
+marks-all w (suc k) s b h =
     let r = recordAt s b in
-    let z : recordRight 8 r ≡ true = rw (add-zero b) at (h 0 (omega arith)) in
-    let one = batch-marks r (starts-length s b) (flags-length s b) (sound 8 r z) 8 0 (omega arith) in
-    let more = marks-all k s (b + 1) (λ j l. let e : b + 1 + j ≡ b + suc j = omega arith in rw e (h (suc j) (omega arith))) in
-    omega (arith, length-append (marksAt r 0) (marks (recordsFrom k s (b + 1))), one, sound 8 r z .first, more)
+    let z : recordRight w r ≡ true = rw (add-zero b) at (h 0 (omega arith)) in
+    let one = batch-marks w r (starts-length s b) (flags-length s b) (sound w r z) 8 0 (omega arith) in
+    let more = marks-all w k s (b + 1) (λ j l. let e : b + 1 + j ≡ b + suc j = omega arith in rw e (h (suc j) (omega arith))) in
+    omega (arith, length-append (marksAt r 0) (marks (recordsFrom k s (b + 1))), one, sound w r z .first, more)
 
-pub all-marked : AllMarked
+marked : (w : ℕ) (a : Arena) → structureChecked w a ≡ good tt → length (marks (blockIn a .records)) ≡ length (a .codes)
 unfolding blockIn recordsIn
-all-marked a h =
-    let k = checked (a .codes) (a .values) (a .records) h in
-    marks-all (length (a .records) / 82) (a .records) 0 (λ j l. rw (zero-add j) (k .1 .right j l))
+marked w a h =
+    let k = checked w (a .codes) (a .values) (a .records) h in
+    marks-all w (length (a .records) / recordSize) (a .records) 0 (λ j l. rw (zero-add j) (k .1 .right j l))
     ∙ k .1 .sum
     ∙ length-operations (a .codes) (a .values) (equal-lengths (a .codes) (a .values) (a .records) (k .0))
+
+pub all-marked : AllMarked
+all-marked = marked 8
 
 -- ---- what the two functions left
 
@@ -191,9 +194,9 @@ was-made : (d : Answer (List ℕ)) (n : ℕ) → Made n ≡ tabledOf d → WasMa
 was-made (good es) n e = record { entries = es; answer = refl; many = cc }
 was-made (refused k p) n e = absurd (let z : _≡_ {A = ℕ} 0 1 = cc in omega arith)
 
-module _ (table : Block → List ℕ) (a : Arena) (room : ℕ) (es : List ℕ) (h : tableOf table 8 a room ≡ good es) where
+module _ (table : Block → List ℕ) (w : ℕ) (a : Arena) (room : ℕ) (es : List ℕ) (h : tableOf table w a room ≡ good es) where
   record Passed : Type 0 where
-    structure : structureChecked 8 a ≡ good tt
+    structure : structureChecked w a ≡ good tt
     fits : length (table (blockIn a)) ≤ room
     entries : table (blockIn a) ≡ es
 
@@ -202,11 +205,11 @@ module _ (table : Block → List ℕ) (a : Arena) (room : ℕ) (es : List ℕ) (
   has-passed =
       let b = blockIn a in
       let i = passed (not (within a)) 3 0 _ es h in
-      let s = no-fault 0 (structureFaults 8 b) _ es (i .1) in
+      let s = no-fault 0 (structureFaults w b) _ es (i .1) in
       let p = no-fault 0 (paddingFaults b) _ es (s .1) in
       let r = passed (ltb room (length (table b))) 13 0 _ es (p .1) in
       record {
-        structure = rw (not-false (within a) (i .0)) (all-passed 0 (structureFaults 8 b) (good tt) (s .0));
+        structure = rw (not-false (within a) (i .0)) (all-passed 0 (structureFaults w b) (good tt) (s .0));
         fits = ltb-false room (length (table b)) (r .0);
         entries = value (table b) es (r .1);
       }
@@ -215,17 +218,17 @@ left-front : (out out′ es : List ℕ) (n : ℕ) → n ≡ length es → length
 left-front out out′ es n e l h = rw (e, h) (fitted-front (length out) es l)
 
 -- the table, in the front of the run that was lent for it
-was-left : (table : Block → List ℕ) (a : Arena) (out out′ : List ℕ) (n : ℕ) → Answered (tableOf table 8 a (length out)) (Made n) out out′ → (structureChecked 8 a ≡ good tt) × (take n out′ ≡ table (blockIn a))
+was-left : (table : Block → List ℕ) (w : ℕ) (a : Arena) (out out′ : List ℕ) (n : ℕ) → Answered (tableOf table w a (length out)) (Made n) out out′ → (structureChecked w a ≡ good tt) × (take n out′ ≡ table (blockIn a))
 unfolding tableLeft
-was-left table a out out′ n h =
-    let m = was-made (tableOf table 8 a (length out)) n (h .reply) in
-    let p = has-passed table a (length out) (m .entries) (m .answer) in
+was-left table w a out out′ n h =
+    let m = was-made (tableOf table w a (length out)) n (h .reply) in
+    let p = has-passed table w a (length out) (m .entries) (m .answer) in
     let l : length (m .entries) ≤ length out = rw (p .entries) at (p .fits) in
     (p .structure, left-front out out′ (m .entries) n (m .many) l (h .left ∙ ap (tableLeft out) (m .answer)) ∙ sym (p .entries))
 
 pub tables-left : TablesLeft
 tables-left a rawRun rawRun′ paddedRun paddedRun′ n m h k =
-    let r = was-left rawTable a rawRun rawRun′ n h in
-    let p = was-left paddedTable a paddedRun paddedRun′ m k in
-    let few : length (marks (blockIn a .records)) ≤ largest = omega (arith, all-marked a (r .0), few-codes (a .codes) (a .values) (a .records) (checked (a .codes) (a .values) (a .records) (r .0) .0)) in
+    let r = was-left rawTable 8 a rawRun rawRun′ n h in
+    let p = was-left paddedTable 8 a paddedRun paddedRun′ m k in
+    let few : length (marks (blockIn a .records)) ≤ largest = omega (arith, marked 8 a (r .0), few-codes (a .codes) (a .values) (a .records) (checked 8 (a .codes) (a .values) (a .records) (r .0) .0)) in
     rw (r .1, p .1) (tables-lead (blockIn a) few)

@@ -114,7 +114,7 @@ module _ (padded : Bool) (r : Record) (s : length (r .starts) ≡ 9) (f : length
       )
 
 -- no flag is set from the g-th group on
-module _ (padded : Bool) (r : Record) (x : Sound 8 r) (s : length (r .starts) ≡ 9) (f : length (r .flags) ≡ 8) (k : ℕ) (rest : List Bool) where
+module _ (padded : Bool) (width : ℕ) (r : Record) (x : Sound width r) (s : length (r .starts) ≡ 9) (f : length (r .flags) ≡ 8) (k : ℕ) (rest : List Bool) where
   unpadded : (n : ℕ) → keptIn padded n 0 ≡ n
   unpadded n = go padded
     where
@@ -134,9 +134,9 @@ module _ (padded : Bool) (r : Record) (x : Sound 8 r) (s : length (r .starts) �
       ap (λ (m : ℕ). ahead padded m k rest) d ∙ sym (ap (λ (ms : List Bool). ahead padded w k (ms ++ rest)) (marks-end r s f g z))
   still (suc j) g w h e =
       let l : g < 8 = omega arith in
-      let a = flags-ahead 8 r x f g l in
-      let up = rise 8 r x s g l in
-      let top = below-ninth 8 r x s (g + 1) (omega arith) in
+      let a = flags-ahead width r x f g l in
+      let up = rise width r x s g l in
+      let top = below-ninth width r x s (g + 1) (omega arith) in
       let n = getD (r .starts) (g + 1) 0 - getD (r .starts) g 0 in
       let d : w + (ninth r - getD (r .starts) g 0) ≡ w + n + (ninth r - getD (r .starts) (g + 1) 0) = omega (arith, up, top) in
       ap (λ (m : ℕ). ahead padded m k rest) d
@@ -170,12 +170,12 @@ unfolding rawTable paddedTable blockIn
 same-table true a = refl
 same-table false a = refl
 
-pub table-then : (table : Block → List ℕ) (a : Arena) (room : ℕ)
-    → tableOf table 8 a room ≡ andThen (paddingChecked 8 a) (refuse (ltb room (length (table (blockIn a)))) 13 0 (good (table (blockIn a))))
+pub table-then : (table : Block → List ℕ) (w : ℕ) (a : Arena) (room : ℕ)
+    → tableOf table w a room ≡ andThen (paddingChecked w a) (refuse (ltb room (length (table (blockIn a)))) 13 0 (good (table (blockIn a))))
 unfolding tableOf paddingChecked
-table-then table a room =
+table-then table w a room =
     let r = refuse (ltb room (length (table (blockIn a)))) 13 0 (good (table (blockIn a))) in
-    let s = structureFaults 8 (blockIn a) in
+    let s = structureFaults w (blockIn a) in
     let p = paddingFaults (blockIn a) in
     ap (λ (d : Answer (List ℕ)). refuse (not (within a)) 3 0 (refuseFirst 0 s d)) (first-then 0 p (good tt) r)
     ∙ ap (refuse (not (within a)) 3 0) (first-then 0 s (refuseFirst 0 p (good tt)) r)
@@ -183,21 +183,21 @@ table-then table a room =
 
 -- ---- the ways out
 
-module _ (padded : Bool) (a : Arena) (out : List ℕ) where
+module _ (padded : Bool) (width : ℕ) (a : Arena) (out : List ℕ) where
   abbrev answer : Answer (List ℕ)
-  answer = tableOf (tableBy padded) 8 a (length out)
+  answer = tableOf (tableBy padded) width a (length out)
 
-  pub refused-way : (n p : ℕ) (out′ : List ℕ) → verdictOf (paddingChecked 8 a) ≡ Refused n p → out′ ≡ fitted (length out) (take 0 out) → Answered answer (tabled.Refused n p) out out′
+  pub refused-way : (n p : ℕ) (out′ : List ℕ) → verdictOf (paddingChecked width a) ≡ Refused n p → out′ ≡ fitted (length out) (take 0 out) → Answered answer (tabled.Refused n p) out out′
   unfolding tableLeft
   refused-way n p out′ h z =
-      rw (table-then (tableBy padded) a (length out), was-refused (paddingChecked 8 a) n p h)
+      rw (table-then (tableBy padded) width a (length out), was-refused (paddingChecked width a) n p h)
       (record { reply = refl; left = z })
 
-  module _ (g : paddingChecked 8 a ≡ good tt) (n : ℕ) (out′ : List ℕ) (w : Filling (tableFrom padded 0 (marks (recordsIn (a .records)))) n out out′) where
+  module _ (g : paddingChecked width a ≡ good tt) (n : ℕ) (out′ : List ℕ) (w : Filling (tableFrom padded 0 (marks (recordsIn (a .records)))) n out out′) where
     decided : answer ≡ refuse (ltb (length out) n) 13 0 (good (tableFrom padded 0 (marks (recordsIn (a .records)))))
     decided =
-        table-then (tableBy padded) a (length out)
-        ∙ went-on (paddingChecked 8 a) _ g
+        table-then (tableBy padded) width a (length out)
+        ∙ went-on (paddingChecked width a) _ g
         ∙ rw (same-table padded a, w .entries)
 
     pub no-room : (end : List ℕ) → length out < n → length out′ ≡ length out → end ≡ fitted (length out′) (take 0 out′) → Answered answer (tabled.Refused 13 0) out end

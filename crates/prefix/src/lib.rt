@@ -1,13 +1,12 @@
 // The two index tables of a block, RawToPaddedPrefix and PaddedToRawPrefix, and lookups in them (document 01, "Lookups and tables").
 ghost use mathlib.Core.Path.{_≡_};
-ghost use mathlib.Core.Bool.{true};
-ghost use Prim.Native.Nat.{ℕ, _+_, _*_, _/_, _≤_, _<_, _^_};
+ghost use Prim.Native.Nat.{_+_, _*_, _/_, _≤_, _<_, _^_};
 ghost use lib.ListN.{length, replicate};
 ghost use lib.Seq.{sets};
-ghost use Rattle.rules.specs.Record.{recordAt, recordsIn};
-ghost use Rattle.rules.specs.Checks.{recordRight};
+ghost use Rattle.rules.specs.Record.{recordSize, recordAt, recordsIn};
 ghost use Rattle.rules.specs.Lookups.{marks, rawAt, paddedAt, paddedIndex, rawIndex};
 ghost use Rattle.rules.specs.Functions.{arena, rawTabled, paddedTabled, tableOf};
+ghost use Rattle.checks.specs.Batch.{Fits, AllFit};
 ghost use Rattle.prefix.specs.Tables.{paddedFound, rawFound, paddedBy, rawBy, tableBy, tableFrom, padsIn, keptIn, marksAt, Goes, Filling, Answered};
 use op_batch::RECORD;
 use operation::Verdict;
@@ -150,7 +149,7 @@ fn kept_in(padded: bool, size: usize, pads: usize) -> usize
 
 // The entries of one batch, group by group as far as flags are set.
 fn batch_entries(records: &[u8], b: usize, padded: bool, from: Filled, out: &mut [u64]) -> Filled
-    requires { ⌜ (82 * b + 82 ≤ length (now records)) × (recordRight 8 (recordAt (now records) b) ≡ true) × (b < 16384) ⌝ }
+    requires { ⌜ (recordSize * b + recordSize ≤ length (now records)) × Fits (recordAt (now records) b) × (b < 16384) ⌝ }
     requires { ⌜ (from .entries + from .waiting ≤ 72 * b) × (from .paddings ≤ 8 * b) ⌝ }
     ensures { λ r. ⌜ Goes padded (marksAt (recordAt (now (records .entry)) b) 0) from r (now (out .entry)) (now (out .exit)) ⌝ }
     ensures { λ r. ⌜ (r .entries + r .waiting ≤ 72 * (b + 1)) × (r .paddings ≤ 8 * (b + 1)) ⌝ }
@@ -186,8 +185,7 @@ fn batch_entries(records: &[u8], b: usize, padded: bool, from: Filled, out: &mut
 
 // A whole table, and how many entries it has; those past the end of the lent run are left out.
 fn fill(records: &[u8], padded: bool, out: &mut [u64]) -> usize
-    requires { ⌜ length (now records) / 82 ≤ 16384 ⌝ }
-    requires { ⌜ ((b : ℕ) → b < length (now records) / 82 → recordRight 8 (recordAt (now records) b) ≡ true) ⌝ }
+    requires { ⌜ (length (now records) / recordSize ≤ 16384) × AllFit (now records) ⌝ }
     ensures { λ r. ⌜ Filling (tableFrom padded 0 (marks (recordsIn (now (records .entry))))) r (now (out .entry)) (now (out .exit)) ⌝ }
 {
     let n = records.len() / RECORD;

@@ -26,7 +26,7 @@ use Rattle.encoder.specs.Replies.{Encodes, encodedOf}
 use Rattle.decoder.specs.declared.Decoded.{Decoded}
 use Rattle.decoder.specs.declared.Decoded.the-variants as decoding
 use Rattle.decoder.specs.Replies.{Decodes, decodedOf}
-use Rattle.decoder.proofs.Ops.{codes-operations, values-operations}
+use Rattle.unpacker.proofs.Operations.{codes-operations, values-operations}
 use Rattle.tight.specs.Contracts.{cutAt, Holds, size, FromDecode, FromBuild, blockFor, Contracts}
 
 -- runs that hold a block's totals have room for it

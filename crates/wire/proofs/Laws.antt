@@ -1,4 +1,4 @@
--- Laws of the items: digits and runs of bytes walked by a loop, the width of a count, the bytes of an operation. Assumes nothing.
+-- Laws of the items: digits and runs of bytes walked by a loop, the bytes of an operation. Assumes nothing.
 use mathlib.Core.Path.{_≡_, refl, ap}
 use mathlib.Core.Bool.{Bool, true, false, _&&_}
 use mathlib.Core.List.{List, [], _∷_}
@@ -88,8 +88,6 @@ starts-at (suc n) s j h zero l = rw add-zero (step-at s j (startsRight (bytesAt 
 starts-at (suc n) s j h (suc k) l =
     let e : j + suc k ≡ j + 1 + k = omega arith in
     rw e (starts-at n s (j + 1) (step-at s j (startsRight (bytesAt (suc n) s (j + 1))) h .1) k (omega arith))
-
--- ---- how many bytes a count takes
 
 -- ---- the bytes of an operation, by its kind
 

@@ -7,11 +7,12 @@ ghost use lib.Seq.{sets};
 ghost use lib.Dec.{leb};
 ghost use Rattle.rules.specs.Lists.{every};
 ghost use Rattle.rules.specs.Digits.{digits, number, leAt};
-ghost use Rattle.rules.specs.Record.{startsFrom, differences, bytesAt};
+ghost use Rattle.rules.specs.Record.{differences, bytesAt};
 ghost use Rattle.rules.specs.Bytes.{countAt, least, more, countBytes, opAt, valueAt, opBytes, batchCountAt, upTo};
 ghost use Rattle.rules.specs.Checks.{startsRight};
 ghost use Rattle.operation.specs.Verdict.{op};
 ghost use Rattle.wire.specs.Replies.{countReadOf, opReadOf};
+ghost use Rattle.wire.specs.Stages.{handOp};
 
 // A count or a batch count, and the place after it; or a refusal's number and place.
 pub enum CountRead {
@@ -191,6 +192,23 @@ pub fn read_op(table: &[u8], s: &[u8], at: usize, i: usize) -> OpRead
     read_value(s, at, i, code)
 }
 
+// A refused operation, handed on.
+pub fn not_read(r: OpRead) -> CountRead
+    ensures { λ a. ⌜ a ≡ handOp r ⌝ }
+{
+    match r {
+        OpRead::Refused { number, place } => CountRead::Refused { number, place },
+        OpRead::Found {
+            code: _,
+            value: _,
+            next: _,
+        } => CountRead::Refused {
+            number: 0,
+            place: 0,
+        },
+    }
+}
+
 // An operation, stored from `at` on; and the place after it.
 pub fn write_op(table: &[u8], out: &mut [u8], at: usize, code: u8, v: u64) -> usize
     requires { ⌜ (length (now table) ≡ 128) × (code < 128) × (at + length (opBytes (now table) (op code v)) ≤ length (now out)) ⌝ }
@@ -260,23 +278,6 @@ pub fn deltas_right(v: u64) -> bool
     true
 }
 
-// The nine starts that v's eight nibbles say, stored from b on.
-pub fn unpack_indptr_deltas(v: u64, out: &mut [u8], b: usize)
-    requires { ⌜ b + 9 ≤ length (now out) ⌝ }
-    ensures { λ _. ⌜ now (out .exit) ≡ sets (now (out .entry)) b (startsFrom 0 (digits 16 8 v)) ⌝ }
-{
-    let mut left = v;
-    let mut sum: u8 = 0;
-    let mut i: usize = 0;
-    while i < 8 {
-        out[b + i] = sum;
-        sum = sum + (left % 16) as u8;
-        left = left / 16;
-        i += 1;
-    }
-    out[b + 8] = sum;
-}
-
 // The nibbles of the nine starts from b on.
 pub fn pack_indptr_deltas(s: &[u8], b: usize) -> u64
     requires { ⌜ (b + 9 ≤ length (now s)) × (startsRight (bytesAt 9 (now s) b) ≡ true) ⌝ }
@@ -292,20 +293,6 @@ pub fn pack_indptr_deltas(s: &[u8], b: usize) -> u64
 }
 
 // ---- 5. the flag byte
-
-// The eight flags that v's bits say, stored from b on.
-pub fn unpack_padding(v: u8, out: &mut [u8], b: usize)
-    requires { ⌜ b + 8 ≤ length (now out) ⌝ }
-    ensures { λ _. ⌜ now (out .exit) ≡ sets (now (out .entry)) b (digits 2 8 v) ⌝ }
-{
-    let mut left = v;
-    let mut i: usize = 0;
-    while i < 8 {
-        out[b + i] = left % 2;
-        left = left / 2;
-        i += 1;
-    }
-}
 
 // The byte of the eight flags from b on.
 pub fn pack_padding(s: &[u8], b: usize) -> u8

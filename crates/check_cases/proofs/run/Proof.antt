@@ -11,7 +11,7 @@ use Rattle.check_cases.proofs.lookups.Reads as lookups-reads
 use Rattle.check_cases.proofs.most.Reads as most-reads
 use Rattle.check_cases.proofs.show_verdict.Reads as show-verdict-reads
 use Rattle.check_cases.proofs.tables.Reads as tables-reads
-use Rattle.checks.proofs.commitment.Reads as commitment-reads
+use Rattle.commitment.proofs.commitment.Reads as commitment-reads
 use Rattle.checks.proofs.padding.Reads as padding-reads
 use Rattle.checks.proofs.structure.Reads as structure-reads
 

@@ -42,7 +42,7 @@ flag-requires c κs =
     let n = arena (a .codes .now) (a .values .now) (a .records .now) in
     let x = lying n (a .b) (a .from) (c .before .before .before .before .before .before .before .pre) in
     let l = c .before .loop in
-    let h = flagged 8 _ (x .sound) (x .flags) (l .g) (l .left) (l .inv .2) (c .loop-test .taken) in
+    let h = flagged _ _ (x .sound) (x .flags) (l .g) (l .left) (l .inv .2) (c .loop-test .taken) in
     omega arith
 
 add-g : tie.Need-add-g Inv-loop μ-loop
@@ -57,8 +57,8 @@ loop-again c =
     let n = arena (a .codes .now) (a .values .now) (a .records .now) in
     let x = lying n (a .b) (a .from) (c .before .before .before .before .before .before .before .before .before .pre) in
     let l = c .before .before .before .loop in
-    let h = flagged 8 _ (x .sound) (x .flags) (l .g) (l .left) (l .inv .2) (c .before .before .loop-test .taken) in
-    (omega arith, plain _ _ _ _ x (l .g) h (sym (c .before .flag .ensures) ∙ c .if1 .taken) ∙ l .inv .1, flags-turn 8 _ (x .sound) (x .flags) (l .g) (l .left) (l .inv .2) h)
+    let h = flagged _ _ (x .sound) (x .flags) (l .g) (l .left) (l .inv .2) (c .before .before .loop-test .taken) in
+    (omega arith, plain _ _ _ _ x (l .g) h (sym (c .before .flag .ensures) ∙ c .if1 .taken) ∙ l .inv .1, flags-turn _ _ (x .sound) (x .flags) (l .g) (l .left) (l .inv .2) h)
 
 returns : tie.Need-returns Inv-loop μ-loop
 returns c =
@@ -66,7 +66,7 @@ returns c =
     let n = arena (a .codes .now) (a .values .now) (a .records .now) in
     let x = lying n (a .b) (a .from) (c .before .before .before .before .before .before .before .before .before .before .pre) in
     let l = c .before .before .before .before .loop in
-    let h = flagged 8 _ (x .sound) (x .flags) (l .g) (l .left) (l .inv .2) (c .before .before .before .loop-test .taken) in
+    let h = flagged _ _ (x .sound) (x .flags) (l .g) (l .left) (l .inv .2) (c .before .before .before .loop-test .taken) in
     let e = over _ _ _ _ x (l .g) h (λ z. c .before .if1 .left (c .before .before .flag .ensures ∙ z)) (omega (arith, c .before .before .before .before .before .before .count .ensures .0, c .if2 .taken)) in
     ap (λ (t : Bool). cond t 0 10) (sym e ∙ l .inv .1) ∙ begin n (a .b) (a .from) (c .before .before .before .before .before .before .before .before .before .before .pre)
 
@@ -79,7 +79,7 @@ start-requires c κs =
     let n = arena (a .codes .now) (a .values .now) (a .records .now) in
     let x = lying n (a .b) (a .from) (c .before .before .before .before .before .before .before .before .before .before .pre) in
     let l = c .before .before .before .before .loop in
-    let h = flagged 8 _ (x .sound) (x .flags) (l .g) (l .left) (l .inv .2) (c .before .before .before .loop-test .taken) in
+    let h = flagged _ _ (x .sound) (x .flags) (l .g) (l .left) (l .inv .2) (c .before .before .before .loop-test .taken) in
     omega arith
 
 start-requires-2 : tie.Need-start-requires-2 Inv-loop μ-loop
@@ -88,7 +88,7 @@ start-requires-2 c κs =
     let n = arena (a .codes .now) (a .values .now) (a .records .now) in
     let x = lying n (a .b) (a .from) (c .before .before .before .before .before .before .before .before .before .before .before .pre) in
     let l = c .before .before .before .before .before .loop in
-    let h = flagged 8 _ (x .sound) (x .flags) (l .g) (l .left) (l .inv .2) (c .before .before .before .before .loop-test .taken) in
+    let h = flagged _ _ (x .sound) (x .flags) (l .g) (l .left) (l .inv .2) (c .before .before .before .before .loop-test .taken) in
     omega arith
 
 returns-2 : tie.Need-returns-2 Inv-loop μ-loop
@@ -97,7 +97,7 @@ returns-2 c =
     let n = arena (a .codes .now) (a .values .now) (a .records .now) in
     let x = lying n (a .b) (a .from) (c .before .before .before .before .before .before .before .before .before .before .before .before .before .pre) in
     let l = c .before .before .before .before .before .before .before .loop in
-    let h = flagged 8 _ (x .sound) (x .flags) (l .g) (l .left) (l .inv .2) (c .before .before .before .before .before .before .loop-test .taken) in
+    let h = flagged _ _ (x .sound) (x .flags) (l .g) (l .left) (l .inv .2) (c .before .before .before .before .before .before .loop-test .taken) in
     let e = empty _ _ _ _ x (l .g) h (λ z. c .before .before .before .before .if1 .left (c .before .before .before .before .before .flag .ensures ∙ z)) (omega (arith, c .before .before .before .before .before .before .before .before .before .count .ensures .0, c .before .before .before .if2 .left)) (sym (c .before .start2 .ensures .0) ∙ c .if3 .taken ∙ c .before .before .start .ensures .0) in
     ap (λ (t : Bool). cond t 0 10) (sym e ∙ l .inv .1) ∙ begin n (a .b) (a .from) (c .before .before .before .before .before .before .before .before .before .before .before .before .before .pre)
 
@@ -107,7 +107,7 @@ add-if4 c =
     let n = arena (a .codes .now) (a .values .now) (a .records .now) in
     let x = lying n (a .b) (a .from) (c .before .before .before .before .before .before .before .before .before .before .before .before .before .pre) in
     let l = c .before .before .before .before .before .before .before .loop in
-    let h = flagged 8 _ (x .sound) (x .flags) (l .g) (l .left) (l .inv .2) (c .before .before .before .before .before .before .loop-test .taken) in
+    let h = flagged _ _ (x .sound) (x .flags) (l .g) (l .left) (l .inv .2) (c .before .before .before .before .before .before .loop-test .taken) in
     omega (arith, within-codes _ _ _ _ x (l .g + 1) (omega arith), c .before .before .start .ensures .0)
 
 sub-if4 : tie.Need-sub-if4 Inv-loop μ-loop
@@ -116,7 +116,7 @@ sub-if4 c =
     let n = arena (a .codes .now) (a .values .now) (a .records .now) in
     let x = lying n (a .b) (a .from) (c .before .before .before .before .before .before .before .before .before .before .before .before .before .pre) in
     let l = c .before .before .before .before .before .before .before .loop in
-    let h = flagged 8 _ (x .sound) (x .flags) (l .g) (l .left) (l .inv .2) (c .before .before .before .before .before .before .loop-test .taken) in
+    let h = flagged _ _ (x .sound) (x .flags) (l .g) (l .left) (l .inv .2) (c .before .before .before .before .before .before .loop-test .taken) in
     omega (arith, in-order _ _ _ _ x (l .g) h, c .before .before .start .ensures .0, c .before .start2 .ensures .0)
 
 shared-slice-read-if4 : tie.Need-shared-slice-read-if4 Inv-loop μ-loop
@@ -125,7 +125,7 @@ shared-slice-read-if4 c =
     let n = arena (a .codes .now) (a .values .now) (a .records .now) in
     let x = lying n (a .b) (a .from) (c .before .before .before .before .before .before .before .before .before .before .before .before .before .before .pre) in
     let l = c .before .before .before .before .before .before .before .before .loop in
-    let h = flagged 8 _ (x .sound) (x .flags) (l .g) (l .left) (l .inv .2) (c .before .before .before .before .before .before .before .loop-test .taken) in
+    let h = flagged _ _ (x .sound) (x .flags) (l .g) (l .left) (l .inv .2) (c .before .before .before .before .before .before .before .loop-test .taken) in
     omega (arith, in-order _ _ _ _ x (l .g) h, within-codes _ _ _ _ x (l .g + 1) (omega arith), c .before .before .before .start .ensures .0, c .before .before .start2 .ensures .0)
 
 returns-3 : tie.Need-returns-3 Inv-loop μ-loop
@@ -134,7 +134,7 @@ returns-3 c =
     let n = arena (a .codes .now) (a .values .now) (a .records .now) in
     let x = lying n (a .b) (a .from) (c .before .before .before .before .before .before .before .before .before .before .before .before .before .before .before .pre) in
     let l = c .before .before .before .before .before .before .before .before .before .loop in
-    let h = flagged 8 _ (x .sound) (x .flags) (l .g) (l .left) (l .inv .2) (c .before .before .before .before .before .before .before .before .loop-test .taken) in
+    let h = flagged _ _ (x .sound) (x .flags) (l .g) (l .left) (l .inv .2) (c .before .before .before .before .before .before .before .before .loop-test .taken) in
     let s = c .before .before .before .before .start .ensures .0 in
     let e = other _ _ _ _ x (l .g) h (λ z. c .before .before .before .before .before .before .if1 .left (c .before .before .before .before .before .before .before .flag .ensures ∙ z)) (omega (arith, c .before .before .before .before .before .before .before .before .before .before .before .count .ensures .0, c .before .before .before .before .before .if2 .left)) (λ z. c .before .before .if3 .left (c .before .before .before .start2 .ensures .0 ∙ z ∙ sym s)) (rw s at (c .if4 .taken)) in
     ap (λ (t : Bool). cond t 0 10) (sym e ∙ l .inv .1) ∙ begin n (a .b) (a .from) (c .before .before .before .before .before .before .before .before .before .before .before .before .before .before .before .pre)
@@ -151,10 +151,10 @@ loop-again-2 c =
     let n = arena (a .codes .now) (a .values .now) (a .records .now) in
     let x = lying n (a .b) (a .from) (c .before .before .before .before .before .before .before .before .before .before .before .before .before .before .before .pre) in
     let l = c .before .before .before .before .before .before .before .before .before .loop in
-    let h = flagged 8 _ (x .sound) (x .flags) (l .g) (l .left) (l .inv .2) (c .before .before .before .before .before .before .before .before .loop-test .taken) in
+    let h = flagged _ _ (x .sound) (x .flags) (l .g) (l .left) (l .inv .2) (c .before .before .before .before .before .before .before .before .loop-test .taken) in
     let s = c .before .before .before .before .start .ensures .0 in
     let e = noop _ _ _ _ x (l .g) h (λ z. c .before .before .before .before .before .before .if1 .left (c .before .before .before .before .before .before .before .flag .ensures ∙ z)) (omega (arith, c .before .before .before .before .before .before .before .before .before .before .before .count .ensures .0, c .before .before .before .before .before .if2 .left)) (λ z. c .before .before .if3 .left (c .before .before .before .start2 .ensures .0 ∙ z ∙ sym s)) (rw s at (c .if4 .left)) in
-    (omega arith, e ∙ l .inv .1, flags-turn 8 _ (x .sound) (x .flags) (l .g) (l .left) (l .inv .2) h)
+    (omega arith, e ∙ l .inv .1, flags-turn _ _ (x .sound) (x .flags) (l .g) (l .left) (l .inv .2) h)
 
 returns-4 : tie.Need-returns-4 Inv-loop μ-loop
 returns-4 c =

@@ -4,6 +4,7 @@ use Rattle.rules.specs.Functions.{arena, blockIn, structureChecked, paddingChec
 use Rattle.rules.specs.Checks.{paddingFaults}
 use Rattle.rules.specs.Answer.{good, refuseFirst}
 use mathlib.Core.Path.{sym, ap, _∙_}
+use native.Mathlib.Omega.{arith}
 use borrow.Author.Needs.{needs}
 use Rattle.checks.proofs.padding.Statement.{statement}
 use Rattle.checks.proofs.padding.Tie as tie
@@ -30,7 +31,7 @@ enum-told : tie.Need-enum-told
 enum-told c = search needs
 
 padding-fault-requires : tie.Need-padding-fault-requires
-padding-fault-requires c κs = was-good _ (sym (c .before .before .structure .ensures) ∙ c .enum-told .given .1)
+padding-fault-requires c κs = record { width = 8; room = omega arith; passed = was-good _ (sym (c .before .before .structure .ensures) ∙ c .enum-told .given .1) }
 
 returns-2 : tie.Need-returns-2
 unfolding paddingChecked

@@ -3,6 +3,7 @@ use Prim.Native.Nat.{_+_, _-_, _/_}
 use native.Mathlib.Omega.{arith}
 use borrow.Author.Needs.{needs}
 use lib.ListN.{length}
+use Rattle.rules.specs.Record.{recordSize}
 use Rattle.rules.specs.Checks.{paddingFault, paddingFaults}
 use Rattle.rules.specs.Functions.{arena}
 use Rattle.operation.specs.Verdict.{verdictOf}
@@ -16,7 +17,7 @@ use Rattle.op_batch.proofs.start.Reads as start-reads
 
 abbrev Inv-loop : tie.InvT-loop
 Inv-loop codes values records n from₀ b₀ from b =
-    (n ≡ length records / 82) × (from + rest (length records / 82) records b ≡ length codes) × (faultFrom paddingFault (length records / 82) (arena codes values records) b from ≡ faultFrom paddingFault (length records / 82) (arena codes values records) 0 0)
+    (n ≡ length records / recordSize) × (from + rest (length records / recordSize) records b ≡ length codes) × (faultFrom paddingFault (length records / recordSize) (arena codes values records) b from ≡ faultFrom paddingFault (length records / recordSize) (arena codes values records) 0 0)
 
 abbrev μ-loop : tie.MeasureT-loop
 μ-loop codes values records n from₀ b₀ from b = n - b
@@ -45,7 +46,7 @@ add-from : tie.Need-add-from Inv-loop μ-loop
 add-from c =
     let a = c .before .before .before .before .before .before .before .before .args in
     let l = c .before .before .before .before .loop in
-    omega (arith, rest-turn (length (a .records .now) / 82) (a .records .now) (l .b) (omega arith))
+    omega (arith, rest-turn (length (a .records .now) / recordSize) (a .records .now) (l .b) (omega arith))
 
 add-b : tie.Need-add-b Inv-loop μ-loop
 add-b c = search needs
@@ -59,7 +60,7 @@ loop-again c =
     let l = c .before .before .before .before .loop in
     let s = c .start .ensures .0 in
     let n = arena (a .codes .now) (a .values .now) (a .records .now) in
-    (l .inv .0, omega (arith, rest-turn (length (a .records .now) / 82) (a .records .now) (l .b) (omega arith)), rw s (turn paddingFault _ n (l .b) (l .from) (omega arith) (sym (c .before .before .batch-padding .ensures) ∙ c .before .if1 .left)) ∙ l .inv .2)
+    (l .inv .0, omega (arith, rest-turn (length (a .records .now) / recordSize) (a .records .now) (l .b) (omega arith)), rw s (turn paddingFault _ n (l .b) (l .from) (omega arith) (sym (c .before .before .batch-padding .ensures) ∙ c .before .if1 .left)) ∙ l .inv .2)
 
 returns-2 : tie.Need-returns-2 Inv-loop μ-loop
 unfolding paddingFaults

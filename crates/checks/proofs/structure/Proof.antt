@@ -1,4 +1,5 @@
 use mathlib.Core.Path.{sym, _∙_}
+use native.Mathlib.Omega.{arith}
 use borrow.Author.Needs.{needs}
 use borrow.Author.Tests.{not-true, not-false}
 use Rattle.rules.specs.Functions.{structureChecked}
@@ -20,7 +21,7 @@ returns c = rw (sym (c .before .within .ensures) ∙ not-true _ (c .if1 .taken))
 structure-fault-requires : tie.Need-structure-fault-requires
 structure-fault-requires c κs =
     let a = c .before .before .before .before .before .args in
-    equal-lengths (a .codes .now) (a .values .now) (a .records .now) (sym (c .before .within .ensures) ∙ not-false _ (c .if1 .left))
+    (omega arith, equal-lengths (a .codes .now) (a .values .now) (a .records .now) (sym (c .before .within .ensures) ∙ not-false _ (c .if1 .left)))
 
 returns-2 : tie.Need-returns-2
 unfolding structureChecked

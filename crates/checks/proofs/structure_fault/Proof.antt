@@ -5,7 +5,7 @@ use borrow.Author.Needs.{needs}
 use borrow.Author.Tests.{not-true, not-false}
 use lib.ListN.{length}
 use Rattle.operation.specs.Verdict.{verdictOf}
-use Rattle.rules.specs.Record.{recordAt}
+use Rattle.rules.specs.Record.{recordSize, recordAt}
 use Rattle.op_batch.proofs.Right.{sound, starts-length, ninth-small}
 use Rattle.checks.proofs.Walk.{left, start, turn, stop, short, done}
 use Rattle.checks.proofs.structure_fault.Statement.{statement}
@@ -16,11 +16,11 @@ use Rattle.op_batch.proofs.record_right.Reads as record-right-reads
 use Rattle.op_batch.proofs.start.Reads as start-reads
 
 abbrev Inv-loop : tie.InvT-loop
-Inv-loop codes values records n sum₀ b₀ sum b =
-    (n ≡ length records / 82) × (b ≤ n) × (sum ≤ 72 * b) × (left n records (length codes) b sum ≡ left (length records / 82) records (length codes) 0 0)
+Inv-loop width codes values records n sum₀ b₀ sum b =
+    (n ≡ length records / recordSize) × (b ≤ n) × (sum ≤ 72 * b) × (left width n records (length codes) b sum ≡ left width (length records / recordSize) records (length codes) 0 0)
 
 abbrev μ-loop : tie.MeasureT-loop
-μ-loop codes values records n sum₀ b₀ sum b = n - b
+μ-loop width codes values records n sum₀ b₀ sum b = n - b
 
 loop-holds : tie.Need-loop-holds Inv-loop μ-loop
 loop-holds c = (refl, omega arith, omega arith, refl)
@@ -32,7 +32,7 @@ returns : tie.Need-returns Inv-loop μ-loop
 returns c =
     let l = c .before .before .before .loop in
     let a = c .before .before .before .before .before .before .before .args in
-    ap verdictOf (sym (stop _ (a .records .now) _ (l .b) (l .sum) (omega arith) (sym (c .before .record-right .ensures) ∙ not-true _ (c .if1 .taken))) ∙ l .inv .3 ∙ start (a .codes .now) (a .values .now) (a .records .now) (c .before .before .before .before .before .before .before .pre))
+    ap verdictOf (sym (stop (a .width) _ (a .records .now) _ (l .b) (l .sum) (omega arith) (sym (c .before .record-right .ensures) ∙ not-true _ (c .if1 .taken))) ∙ l .inv .3 ∙ start (a .width) (a .codes .now) (a .values .now) (a .records .now) (c .before .before .before .before .before .before .before .pre .1))
 
 start-requires : tie.Need-start-requires Inv-loop μ-loop
 start-requires c κs = omega arith
@@ -49,22 +49,23 @@ loop-less c = search needs
 loop-again : tie.Need-loop-again Inv-loop μ-loop
 loop-again c =
     let l = c .before .before .before .before .loop in
-    let s = c .before .before .before .before .before .before .before .before .args .records .now in
+    let a = c .before .before .before .before .before .before .before .before .args in
+    let s = a .records .now in
     let e = c .start .ensures .0 in
     let r = sym (c .before .before .record-right .ensures) ∙ not-false _ (c .before .if1 .left) in
-    (l .inv .0, omega arith, omega (arith, ninth-small 8 (recordAt s (l .b)) (sound 8 (recordAt s (l .b)) r) (starts-length s (l .b))), rw e (turn _ s _ (l .b) (l .sum) (omega arith) r ∙ l .inv .3))
+    (l .inv .0, omega arith, omega (arith, ninth-small (a .width) (recordAt s (l .b)) (sound (a .width) (recordAt s (l .b)) r) (starts-length s (l .b))), rw e (turn (a .width) _ s _ (l .b) (l .sum) (omega arith) r ∙ l .inv .3))
 
 returns-2 : tie.Need-returns-2 Inv-loop μ-loop
 returns-2 c =
     let l = c .before .before .loop in
     let a = c .before .before .before .before .before .before .args in
-    ap verdictOf (sym (short _ (a .records .now) _ (l .b) (l .sum) (omega arith) (c .if2 .taken)) ∙ l .inv .3 ∙ start (a .codes .now) (a .values .now) (a .records .now) (c .before .before .before .before .before .before .pre))
+    ap verdictOf (sym (short (a .width) _ (a .records .now) _ (l .b) (l .sum) (omega arith) (c .if2 .taken)) ∙ l .inv .3 ∙ start (a .width) (a .codes .now) (a .values .now) (a .records .now) (c .before .before .before .before .before .before .pre .1))
 
 returns-3 : tie.Need-returns-3 Inv-loop μ-loop
 returns-3 c =
     let l = c .before .before .loop in
     let a = c .before .before .before .before .before .before .args in
-    ap verdictOf (sym (done _ (a .records .now) _ (l .b) (l .sum) (omega arith) (c .if2 .left)) ∙ l .inv .3 ∙ start (a .codes .now) (a .values .now) (a .records .now) (c .before .before .before .before .before .before .pre))
+    ap verdictOf (sym (done (a .width) _ (a .records .now) _ (l .b) (l .sum) (omega arith) (c .if2 .left)) ∙ l .inv .3 ∙ start (a .width) (a .codes .now) (a .values .now) (a .records .now) (c .before .before .before .before .before .before .pre .1))
 
 pub structure-fault-spec : {M : Type 1} → statement M
 structure-fault-spec =

@@ -33,8 +33,8 @@ returns c =
     let a = c .before .before .before .before .before .before .before .before .before .before .before .before .before .before .before .before .before .before .before .before .before .before .before .before .before .before .before .args in
     let w = c .before .before .before .before .before .before .before .before .before .before .before .before .before .before .before .before .before .before .decode-checked in
     let b = arena (now (a .out-codes)) (now (a .out-values)) (now (a .records)) in
-    let m = arena (w .last .1 .1 .1 .0) (w .last .1 .1 .1 .1 .0) (w .last .1 .1 .1 .1 .1 .0) in
-    let e : Even m b = record { codes = w .kept .1 .1 .1 .0; values = w .kept .1 .1 .1 .1 .0; records = w .kept .1 .1 .1 .1 .1 .0 } in
+    let m = arena (w .last .1 .1 .1 .1 .0) (w .last .1 .1 .1 .1 .1 .0) (w .last .1 .1 .1 .1 .1 .1 .0) in
+    let e : Even m b = record { codes = w .kept .1 .1 .1 .1 .0; values = w .kept .1 .1 .1 .1 .1 .0; records = w .kept .1 .1 .1 .1 .1 .1 .0 } in
     record { reply = w .ensures .reply; runs = c .before .before .before .before .before .before .clear-after .ensures ∙ refused-kept (a .at) b m e (w .ensures) (c .before .before .before .before .before .before .before .before .before .before .enum-told .given .1) }
 
 mul-clear-after : tie.Need-mul-clear-after
@@ -42,8 +42,8 @@ mul-clear-after c =
     let a = c .before .before .before .before .before .before .before .before .before .before .before .before .before .before .before .before .before .before .before .before .before .args in
     let w = c .before .before .before .before .before .before .before .before .before .before .before .before .decode-checked in
     let b = arena (now (a .out-codes)) (now (a .out-values)) (now (a .records)) in
-    let m = arena (w .last .1 .1 .1 .0) (w .last .1 .1 .1 .1 .0) (w .last .1 .1 .1 .1 .1 .0) in
-    let e : Even m b = record { codes = w .kept .1 .1 .1 .0; values = w .kept .1 .1 .1 .1 .0; records = w .kept .1 .1 .1 .1 .1 .0 } in
+    let m = arena (w .last .1 .1 .1 .1 .0) (w .last .1 .1 .1 .1 .1 .0) (w .last .1 .1 .1 .1 .1 .1 .0) in
+    let e : Even m b = record { codes = w .kept .1 .1 .1 .1 .0; values = w .kept .1 .1 .1 .1 .1 .0; records = w .kept .1 .1 .1 .1 .1 .1 .0 } in
     omega (arith, c .before .before .before .before .before .before .before .before .before .before .before .before .before .before .before .before .before .before .before .before .before .good .1 .1 .1 .1 .1 .0, made-fits (a .at) b m e (w .ensures) (c .before .before .before .before .r .given .1))
 
 clear-after-requires-2 : tie.Need-clear-after-requires-2
@@ -63,8 +63,8 @@ returns-2 c =
     let a = c .before .before .before .before .before .before .before .before .before .before .before .before .before .before .before .before .before .before .before .before .before .before .before .before .before .before .before .before .args in
     let w = c .before .before .before .before .before .before .before .before .before .before .before .before .before .before .before .before .before .before .before .decode-checked in
     let b = arena (now (a .out-codes)) (now (a .out-values)) (now (a .records)) in
-    let m = arena (w .last .1 .1 .1 .0) (w .last .1 .1 .1 .1 .0) (w .last .1 .1 .1 .1 .1 .0) in
-    let e : Even m b = record { codes = w .kept .1 .1 .1 .0; values = w .kept .1 .1 .1 .1 .0; records = w .kept .1 .1 .1 .1 .1 .0 } in
+    let m = arena (w .last .1 .1 .1 .1 .0) (w .last .1 .1 .1 .1 .1 .0) (w .last .1 .1 .1 .1 .1 .1 .0) in
+    let e : Even m b = record { codes = w .kept .1 .1 .1 .1 .0; values = w .kept .1 .1 .1 .1 .1 .0; records = w .kept .1 .1 .1 .1 .1 .1 .0 } in
     let u = c .before .before .before .before .before .before .before .before .before .before .before .r .given in
     record { reply = sym (u .1) ∙ w .ensures .reply; runs = c .before .before .before .before .before .before .clear-after2 .ensures ∙ made-kept (a .at) b m e (w .ensures) (u .1) }
 

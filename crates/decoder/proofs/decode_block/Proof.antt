@@ -8,7 +8,7 @@ use Rattle.rules.specs.Bytes.{countAt}
 use Rattle.rules.specs.Functions.{arena, roomIn}
 use Rattle.decoder.specs.declared.Decoded.the-variants.{Made}
 use Rattle.decoder.specs.Stages.{handCount}
-use Rattle.decoder.proofs.Stages.{found-by, refused-by, held, count-found, count-lost}
+use Rattle.wire.proofs.Stages.{found-by, refused-by, held, count-found, count-lost}
 use Rattle.decoder.proofs.Ops.{items-in, count-on}
 use Rattle.decoder.proofs.Blocks as B
 use Rattle.decoder.proofs.decode_block.Statement.{statement}
@@ -30,7 +30,7 @@ returns : tie.Need-returns
 returns c =
     let a = c .before .before .before .before .before .before .before .before .before .args in
     let u = c .before .enum-told .given in
-    rw (B.block-uncounted (now (a .table)) (now (a .s)) (a .at) (roomIn (arena (now (a .out-codes)) (now (a .out-values)) (now (a .records)))) _ _ (count-lost (countAt (now (a .s)) (a .at)) _ _ (sym (c .before .before .before .read-count .ensures) ∙ u .1)))
+    rw (B.block-uncounted (a .width) (now (a .table)) (now (a .s)) (a .at) (roomIn (arena (now (a .out-codes)) (now (a .out-values)) (now (a .records)))) _ _ (count-lost (countAt (now (a .s)) (a .at)) _ _ (sym (c .before .before .before .read-count .ensures) ∙ u .1)))
     (record { reply = c .not-counted .ensures ∙ ap handCount (u .1); left = tt })
 
 returns-2 : tie.Need-returns-2
@@ -39,7 +39,7 @@ returns-2 c =
     let a = c .before .before .before .before .before .before .before .before .before .before .args in
     let u = c .before .before .c .given in
     let n = count-found (countAt (now (a .s)) (a .at)) _ _ (sym (c .before .before .before .before .read-count .ensures) ∙ u .1) in
-    rw (B.block-codes (now (a .table)) (now (a .s)) (a .at) (roomIn (arena (now (a .out-codes)) (now (a .out-values)) (now (a .records)))) _ _ n (c .if1 .taken)) (record { reply = refl; left = tt })
+    rw (B.block-codes (a .width) (now (a .table)) (now (a .s)) (a .at) (roomIn (arena (now (a .out-codes)) (now (a .out-values)) (now (a .records)))) _ _ n (c .if1 .taken)) (record { reply = refl; left = tt })
 
 returns-3 : tie.Need-returns-3
 unfolding roomIn
@@ -47,7 +47,7 @@ returns-3 c =
     let a = c .before .before .before .before .before .before .before .before .before .before .before .args in
     let u = c .before .before .before .c .given in
     let n = count-found (countAt (now (a .s)) (a .at)) _ _ (sym (c .before .before .before .before .before .read-count .ensures) ∙ u .1) in
-    rw (B.block-values (now (a .table)) (now (a .s)) (a .at) (roomIn (arena (now (a .out-codes)) (now (a .out-values)) (now (a .records)))) _ _ n (c .before .if1 .left) (c .if2 .taken)) (record { reply = refl; left = tt })
+    rw (B.block-values (a .width) (now (a .table)) (now (a .s)) (a .at) (roomIn (arena (now (a .out-codes)) (now (a .out-values)) (now (a .records)))) _ _ n (c .before .if1 .left) (c .if2 .taken)) (record { reply = refl; left = tt })
 
 read-items-requires : tie.Need-read-items-requires
 read-items-requires c κs = search needs
@@ -73,7 +73,7 @@ returns-4 c =
     let a = c .before .before .before .before .before .before .before .before .before .before .before .before .before .before .before .before .before .before .before .before .before .args in
     let n = count-found (countAt (now (a .s)) (a .at)) _ _ (sym (c .before .before .before .before .before .before .before .before .before .before .before .before .before .before .before .read-count .ensures) ∙ c .before .before .before .before .before .before .before .before .before .before .before .before .before .c .given .1) in
     let u = c .before .enum-told2 .given in
-    rw (B.block-items (now (a .table)) (now (a .s)) (a .at) (roomIn (arena (now (a .out-codes)) (now (a .out-values)) (now (a .records)))) _ _ n (c .before .before .before .before .before .before .before .before .before .before .before .if1 .left) (c .before .before .before .before .before .before .before .before .before .before .if2 .left) _ _ (refused-by (c .before .before .before .before .before .before .before .read-items .ensures) (u .1)))
+    rw (B.block-items (a .width) (now (a .table)) (now (a .s)) (a .at) (roomIn (arena (now (a .out-codes)) (now (a .out-values)) (now (a .records)))) _ _ n (c .before .before .before .before .before .before .before .before .before .before .before .if1 .left) (c .before .before .before .before .before .before .before .before .before .before .if2 .left) _ _ (refused-by (c .before .before .before .before .before .before .before .read-items .ensures) (u .1)))
     (record { reply = c .not-counted2 .ensures ∙ ap handCount (u .1); left = tt })
 
 slice-reshare-prefix-decode-batches : tie.Need-slice-reshare-prefix-decode-batches
@@ -90,8 +90,9 @@ slice-aggregate-decode-batches-2 c = sym (length-take-le _ _ (omega (arith, c .b
 
 decode-batches-requires : tie.Need-decode-batches-requires
 decode-batches-requires c κs =
+    let a = c .before .before .before .before .before .before .before .before .before .before .before .before .before .before .before .before .before .before .before .before .before .before .before .before .pre in
     let i = items-in _ _ _ _ _ _ _ _ _ (c .before .before .before .before .before .before .before .before .before .before .read-items .ensures) (c .before .before .before .before .i .given .1) in
-    ((c .before .before .before .before .before .before .before .before .before .before .before .before .before .before .before .before .before .before .before .before .before .before .before .before .pre, i .even, i .coded), (i .bytes, omega (arith, i .records)))
+    ((a .0, i .even, i .coded), (a .1, i .bytes, omega (arith, i .records)))
 
 enum-known-r : tie.Need-enum-known-r
 enum-known-r c = search needs
@@ -118,7 +119,7 @@ returns-5 c =
     let n = count-found (countAt (now (a .s)) (a .at)) _ _ (sym (c .before .before .before .before .before .before .before .before .before .before .before .before .before .before .before .before .before .before .before .before .before .before .before .before .read-count .ensures) ∙ c .before .before .before .before .before .before .before .before .before .before .before .before .before .before .before .before .before .before .before .before .before .before .c .given .1) in
     let i = items-in _ _ _ _ _ _ _ _ _ (c .before .before .before .before .before .before .before .before .before .before .before .before .before .before .before .before .read-items .ensures) (c .before .before .before .before .before .before .before .before .before .before .i .given .1) in
     let u = c .before .enum-told3 .given in
-    rw (B.block-lost (now (a .table)) (now (a .s)) (a .at) (roomIn (arena (now (a .out-codes)) (now (a .out-values)) (now (a .records)))) _ _ n (c .before .before .before .before .before .before .before .before .before .before .before .before .before .before .before .before .before .before .before .before .if1 .left) (c .before .before .before .before .before .before .before .before .before .before .before .before .before .before .before .before .before .before .before .if2 .left) _ _ (i .is) _ _ (refused-by (c .before .before .before .before .before .decode-batches .ensures) (u .1)))
+    rw (B.block-lost (a .width) (now (a .table)) (now (a .s)) (a .at) (roomIn (arena (now (a .out-codes)) (now (a .out-values)) (now (a .records)))) _ _ n (c .before .before .before .before .before .before .before .before .before .before .before .before .before .before .before .before .before .before .before .before .if1 .left) (c .before .before .before .before .before .before .before .before .before .before .before .before .before .before .before .before .before .before .before .if2 .left) _ _ (i .is) _ _ (refused-by (c .before .before .before .before .before .decode-batches .ensures) (u .1)))
     (record { reply = c .not-counted3 .ensures ∙ ap handCount (u .1); left = tt })
 
 sub-used : tie.Need-sub-used
@@ -146,7 +147,7 @@ returns-6 c =
     let i = items-in _ _ _ _ _ _ _ _ _ (c .before .before .before .before .before .before .before .before .before .before .before .before .before .before .before .before .read-items .ensures) (c .before .before .before .before .before .before .before .before .before .before .i .given .1) in
     let u = c .before .r .given in
     let r = found-by (c .before .before .before .before .before .decode-batches .ensures) (u .1) in
-    rw (B.block-good (now (a .table)) (now (a .s)) (a .at) (roomIn (arena (now (a .out-codes)) (now (a .out-values)) (now (a .records)))) _ _ n (c .before .before .before .before .before .before .before .before .before .before .before .before .before .before .before .before .before .before .before .before .if1 .left) (c .before .before .before .before .before .before .before .before .before .before .before .before .before .before .before .before .before .before .before .if2 .left) _ _ (i .is) _ _ (r .is))
+    rw (B.block-good (a .width) (now (a .table)) (now (a .s)) (a .at) (roomIn (arena (now (a .out-codes)) (now (a .out-values)) (now (a .records)))) _ _ n (c .before .before .before .before .before .before .before .before .before .before .before .before .before .before .before .before .before .before .before .before .if1 .left) (c .before .before .before .before .before .before .before .before .before .before .before .before .before .before .before .before .before .before .before .if2 .left) _ _ (i .is) _ _ (r .is))
     (record { reply = ap₂ (λ (k m : ℕ). Made k m (u .0 .1 .0 - a .at)) (sym (r .number)) (sym (i .many)); left = (i .ops, r .holds .0) })
 
 pub decode-block-spec : {M : Type 1} → statement M

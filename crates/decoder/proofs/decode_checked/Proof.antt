@@ -11,7 +11,7 @@ use Rattle.decoder.proofs.decode_checked.Tie as tie
 returns : tie.Need-returns
 returns c =
     let a = c .before .before .before .before .before .before .args in
-    rw (B.decoded-3 (now (a .table)) (now (a .s)) (a .at) _ (omega arith)) (record { reply = refl; left = tt })
+    rw (B.decoded-3 (a .width) (now (a .table)) (now (a .s)) (a .at) _ (omega arith)) (record { reply = refl; left = tt })
 
 good-table-requires : tie.Need-good-table-requires
 good-table-requires c κs = search needs
@@ -19,15 +19,15 @@ good-table-requires c κs = search needs
 returns-2 : tie.Need-returns-2
 returns-2 c =
     let a = c .before .before .before .before .before .before .before .before .args in
-    rw (B.decoded-14 (now (a .table)) (now (a .s)) (a .at) _ (omega arith) (sym (c .before .good-table .ensures) ∙ not-true _ (c .if2 .taken))) (record { reply = refl; left = tt })
+    rw (B.decoded-14 (a .width) (now (a .table)) (now (a .s)) (a .at) _ (omega arith) (sym (c .before .good-table .ensures) ∙ not-true _ (c .if2 .taken))) (record { reply = refl; left = tt })
 
 returns-3 : tie.Need-returns-3
 returns-3 c =
     let a = c .before .before .before .before .before .before .before .before .before .args in
-    rw (B.decoded-1 (now (a .table)) (now (a .s)) (a .at) _ (omega arith) (sym (c .before .before .good-table .ensures) ∙ not-false _ (c .before .if2 .left)) (omega arith)) (record { reply = refl; left = tt })
+    rw (B.decoded-1 (a .width) (now (a .table)) (now (a .s)) (a .at) _ (omega arith) (sym (c .before .before .good-table .ensures) ∙ not-false _ (c .before .if2 .left)) (omega arith)) (record { reply = refl; left = tt })
 
 decode-block-requires : tie.Need-decode-block-requires
-decode-block-requires c κs = table-128 _ (sym (c .before .before .before .before .before .good-table .ensures) ∙ not-false _ (c .before .before .before .before .if2 .left))
+decode-block-requires c κs = (table-128 _ (sym (c .before .before .before .before .before .good-table .ensures) ∙ not-false _ (c .before .before .before .before .if2 .left)), c .before .before .before .before .before .before .before .before .before .before .before .before .pre)
 
 same-length : tie.Need-same-length
 same-length c = search needs
@@ -41,7 +41,7 @@ same-length-3 c = search needs
 returns-4 : tie.Need-returns-4
 returns-4 c =
     let a = c .before .before .before .before .before .before .before .before .before .before .before .before .before .before .before .before .before .before .before .args in
-    rw (B.decoded-block (now (a .table)) (now (a .s)) (a .at) _ (omega arith) (sym (c .before .before .before .before .before .before .before .before .before .before .before .before .good-table .ensures) ∙ not-false _ (c .before .before .before .before .before .before .before .before .before .before .before .if2 .left)) (omega arith)) (c .before .before .before .before .before .before .decode-block .ensures)
+    rw (B.decoded-block (a .width) (now (a .table)) (now (a .s)) (a .at) _ (omega arith) (sym (c .before .before .before .before .before .before .before .before .before .before .before .before .good-table .ensures) ∙ not-false _ (c .before .before .before .before .before .before .before .before .before .before .before .if2 .left)) (omega arith)) (c .before .before .before .before .before .before .decode-block .ensures)
 
 pub decode-checked-spec : {M : Type 1} → statement M
 decode-checked-spec =

@@ -10,7 +10,7 @@ use lib.ListN.{length}
 use Rattle.rules.specs.Digits.{digits}
 use Rattle.rules.specs.Bytes.{nibblesAt, upTo}
 use Rattle.wire.specs.declared.CountRead.the-variants.{Found}
-use Rattle.decoder.specs.Stages.{counted}
+use Rattle.wire.specs.Stages.{counted}
 use Rattle.decoder.proofs.Sizes.{turn, stop, done}
 use Rattle.decoder.proofs.nibbles_right.Statement.{statement}
 use Rattle.decoder.proofs.nibbles_right.Tie as tie

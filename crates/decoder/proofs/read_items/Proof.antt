@@ -2,7 +2,7 @@ use mathlib.Core.Path.{refl, sym, _∙_}
 use borrow.Author.Needs.{needs}
 use denote.Ref.{now}
 use Rattle.rules.specs.Bytes.{batchCountAt}
-use Rattle.decoder.proofs.Stages.{found-by, refused-by, count-found, count-lost}
+use Rattle.wire.proofs.Stages.{found-by, refused-by, count-found, count-lost}
 use Rattle.decoder.proofs.Ops.{items-lost, items-uncounted, items-13, items-good}
 use Rattle.decoder.proofs.read_items.Statement.{statement}
 use Rattle.decoder.proofs.read_items.Tie as tie

@@ -4,7 +4,7 @@ use borrow.Author.Needs.{needs}
 use denote.Ref.{now}
 use lib.ListN.{length}
 use Rattle.rules.specs.Functions.{arena, written}
-use Rattle.checks.proofs.Passed.{was-good, was-refused}
+use Rattle.checks.proofs.Passed.{was-good, was-refused, all-fit}
 use Rattle.encoder.specs.Replies.{encodedOf}
 use Rattle.encoder.specs.Parts.{inputsChecked, handVerdict}
 use Rattle.encoder.specs.declared.Encoded.the-variants.{Written}
@@ -31,41 +31,41 @@ returns c =
     let a = c .before .before .before .before .before .before .before .before .before .args in
     let b = arena (now (a .codes)) (now (a .values)) (now (a .records)) in
     let u = c .before .enum-told2 .given in
-    let i = was-refused (inputsChecked (now (a .table)) b (length (now (a .out))) (a .at)) _ _ (sym (c .before .before .before .check-inputs .ensures) ∙ u .1) in
-    let e = encoded-refused (now (a .table)) b (length (now (a .out))) (a .at) _ _ i in
+    let i = was-refused (inputsChecked 8 (now (a .table)) b (length (now (a .out))) (a .at)) _ _ (sym (c .before .before .before .check-inputs .ensures) ∙ u .1) in
+    let e = encoded-refused 8 (now (a .table)) b (length (now (a .out))) (a .at) _ _ i in
     record { reply = c .not-passed .ensures ∙ ap handVerdict (u .1) ∙ sym (ap encodedOf e); bytes = sym (ap (written (now (a .out)) (a .at)) e) }
 
 basic-block-data-len-requires : tie.Need-basic-block-data-len-requires
 basic-block-data-len-requires c κs =
     let a = c .before .before .before .before .before .before .before .before .args in
     let b = arena (now (a .codes)) (now (a .values)) (now (a .records)) in
-    let i = inputs-good _ _ _ _ _ _ (was-good (inputsChecked (now (a .table)) b (length (now (a .out))) (a .at)) (sym (c .before .before .check-inputs .ensures) ∙ c .enum-told .given .1)) in
+    let i = inputs-good _ _ _ _ _ _ _ (was-good (inputsChecked 8 (now (a .table)) b (length (now (a .out))) (a .at)) (sym (c .before .before .check-inputs .ensures) ∙ c .enum-told .given .1)) in
     (i .operations, i .few, i .batches)
 
 sub-if1 : tie.Need-sub-if1
 sub-if1 c =
     let a = c .before .before .before .before .before .before .before .before .before .args in
     let b = arena (now (a .codes)) (now (a .values)) (now (a .records)) in
-    inputs-good _ _ _ _ _ _ (was-good (inputsChecked (now (a .table)) b (length (now (a .out))) (a .at)) (sym (c .before .before .before .check-inputs .ensures) ∙ c .before .enum-told .given .1)) .inside
+    inputs-good _ _ _ _ _ _ _ (was-good (inputsChecked 8 (now (a .table)) b (length (now (a .out))) (a .at)) (sym (c .before .before .before .check-inputs .ensures) ∙ c .before .enum-told .given .1)) .inside
 
 returns-2 : tie.Need-returns-2
 unfolding written
 returns-2 c =
     let a = c .before .before .before .before .before .before .before .before .before .before .args in
     let b = arena (now (a .codes)) (now (a .values)) (now (a .records)) in
-    let g = was-good (inputsChecked (now (a .table)) b (length (now (a .out))) (a .at)) (sym (c .before .before .before .before .check-inputs .ensures) ∙ c .before .before .enum-told .given .1) in
-    let i = inputs-good _ _ _ _ _ _ g in
+    let g = was-good (inputsChecked 8 (now (a .table)) b (length (now (a .out))) (a .at)) (sym (c .before .before .before .before .check-inputs .ensures) ∙ c .before .before .enum-told .given .1) in
+    let i = inputs-good _ _ _ _ _ _ _ g in
     let l = long (now (a .table)) (now (a .codes)) (now (a .values)) (now (a .records)) (i .equal) in
-    let e = encoded-13 (now (a .table)) b (length (now (a .out))) (a .at) g (omega (arith, l .all, i .inside)) in
+    let e = encoded-13 8 (now (a .table)) b (length (now (a .out))) (a .at) g (omega (arith, l .all, i .inside)) in
     record { reply = sym (ap encodedOf e); bytes = sym (ap (written (now (a .out)) (a .at)) e) }
 
 encode-basic-block-requires : tie.Need-encode-basic-block-requires
 encode-basic-block-requires c κs =
     let a = c .before .before .before .before .before .before .before .before .before .before .before .args in
     let b = arena (now (a .codes)) (now (a .values)) (now (a .records)) in
-    let i = inputs-good _ _ _ _ _ _ (was-good (inputsChecked (now (a .table)) b (length (now (a .out))) (a .at)) (sym (c .before .before .before .before .before .check-inputs .ensures) ∙ c .before .before .before .enum-told .given .1)) in
+    let i = inputs-good _ _ _ _ _ _ _ (was-good (inputsChecked 8 (now (a .table)) b (length (now (a .out))) (a .at)) (sym (c .before .before .before .before .before .check-inputs .ensures) ∙ c .before .before .before .enum-told .given .1)) in
     let l = long (now (a .table)) (now (a .codes)) (now (a .values)) (now (a .records)) (i .equal) in
-    ((i .operations, i .equal, i .few, i .structure .right), omega (arith, l .all, i .inside))
+    ((i .operations, i .equal, i .few, all-fit 8 _ _ _ (omega arith) (i .structure)), omega (arith, l .all, i .inside))
 
 same-length : tie.Need-same-length
 same-length c = search needs
@@ -75,10 +75,10 @@ unfolding written
 returns-3 c =
     let a = c .before .before .before .before .before .before .before .before .before .before .before .before .before .before .args in
     let b = arena (now (a .codes)) (now (a .values)) (now (a .records)) in
-    let g = was-good (inputsChecked (now (a .table)) b (length (now (a .out))) (a .at)) (sym (c .before .before .before .before .before .before .before .before .check-inputs .ensures) ∙ c .before .before .before .before .before .before .enum-told .given .1) in
-    let i = inputs-good _ _ _ _ _ _ g in
+    let g = was-good (inputsChecked 8 (now (a .table)) b (length (now (a .out))) (a .at)) (sym (c .before .before .before .before .before .before .before .before .check-inputs .ensures) ∙ c .before .before .before .before .before .before .enum-told .given .1) in
+    let i = inputs-good _ _ _ _ _ _ _ g in
     let l = long (now (a .table)) (now (a .codes)) (now (a .values)) (now (a .records)) (i .equal) in
-    let e = encoded-good (now (a .table)) b (length (now (a .out))) (a .at) g (omega (arith, l .all, i .inside)) in
+    let e = encoded-good 8 (now (a .table)) b (length (now (a .out))) (a .at) g (omega (arith, l .all, i .inside)) in
     record {
       reply = ap Written (c .before .before .before .before .before .basic-block-data-len .ensures ∙ sym (l .all)) ∙ sym (ap encodedOf e);
       bytes = c .before .before .encode-basic-block .ensures ∙ sym (ap (written (now (a .out)) (a .at)) e);

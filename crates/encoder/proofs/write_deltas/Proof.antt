@@ -27,11 +27,8 @@ mul-put4 c = search needs
 add-put4 : tie.Need-add-put4 Inv-loop μ-loop
 add-put4 c = search needs
 
-mul-pack-indptr-deltas : tie.Need-mul-pack-indptr-deltas Inv-loop μ-loop
-mul-pack-indptr-deltas c = search needs
-
 pack-indptr-deltas-requires : tie.Need-pack-indptr-deltas-requires Inv-loop μ-loop
-pack-indptr-deltas-requires c κs = (omega arith, right-starts _ _ (c .before .before .before .before .before .pre .0 (c .before .before .loop .b) (omega arith)))
+pack-indptr-deltas-requires c κs = (omega arith, right-starts _ (c .before .before .before .before .before .pre .0 (c .before .before .loop .b) (omega arith)))
 
 put4-requires : tie.Need-put4-requires Inv-loop μ-loop
 put4-requires c κs = search needs
@@ -73,7 +70,6 @@ write-deltas-spec =
     loop-holds
     mul-put4
     add-put4
-    mul-pack-indptr-deltas
     pack-indptr-deltas-requires
     put4-requires
     add-b

@@ -21,14 +21,8 @@ abbrev μ-loop : tie.MeasureT-loop
 loop-holds : tie.Need-loop-holds Inv-loop μ-loop
 loop-holds c = (omega arith, refl, rw (add-zero, all-records))
 
-mul-pack-padding : tie.Need-mul-pack-padding Inv-loop μ-loop
-mul-pack-padding c = search needs
-
-add-pack-padding : tie.Need-add-pack-padding Inv-loop μ-loop
-add-pack-padding c = search needs
-
 pack-padding-requires : tie.Need-pack-padding-requires Inv-loop μ-loop
-pack-padding-requires c κs = (omega arith, right-flags _ _ (c .before .before .before .before .pre .0 (c .before .loop .b) (omega arith)))
+pack-padding-requires c κs = (omega arith, right-flags _ (c .before .before .before .before .pre .0 (c .before .loop .b) (omega arith)))
 
 add-out : tie.Need-add-out Inv-loop μ-loop
 add-out c = search needs
@@ -64,8 +58,6 @@ write-padding-spec =
     Inv-loop
     μ-loop
     loop-holds
-    mul-pack-padding
-    add-pack-padding
     pack-padding-requires
     add-out
     slice-write-out

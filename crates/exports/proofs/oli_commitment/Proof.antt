@@ -7,7 +7,7 @@ use Rattle.exports.proofs.oli_commitment.Statement.{statement}
 use Rattle.exports.proofs.oli_commitment.Tie as tie
 use Rattle.exports.proofs.oli_commitment.Reads as reads
 use Rattle.exports.proofs.oli_commitment.Lts as lts
-use Rattle.checks.proofs.commitment.Reads as commitment-reads
+use Rattle.commitment.proofs.commitment.Reads as commitment-reads
 use Rattle.exports.proofs.flat_verdict.Reads as flat-verdict-reads
 
 commitment-requires : tie.Need-commitment-requires

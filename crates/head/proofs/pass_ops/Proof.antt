@@ -9,8 +9,8 @@ use lib.ListN.{length}
 use Rattle.rules.specs.Operations.{Op}
 use Rattle.rules.specs.Bytes.{opAt, opsAt}
 use Rattle.wire.specs.declared.CountRead.the-variants.{Found}
-use Rattle.decoder.specs.Stages.{counted, handOp}
-use Rattle.decoder.proofs.Stages.{op-found, op-lost}
+use Rattle.wire.specs.Stages.{counted, handOp}
+use Rattle.wire.proofs.Stages.{op-found, op-lost}
 use Rattle.head.proofs.Heads.{turn, stop, done}
 use Rattle.head.proofs.pass_ops.Statement.{statement}
 use Rattle.head.proofs.pass_ops.Tie as tie

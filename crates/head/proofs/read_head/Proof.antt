@@ -3,7 +3,7 @@ use Prim.Native.Nat.{ℕ}
 use borrow.Author.Needs.{needs}
 use denote.Ref.{now}
 use Rattle.rules.specs.Bytes.{countAt, opsAt, batchCountAt}
-use Rattle.decoder.proofs.Stages.{found-by, refused-by, count-found, count-lost}
+use Rattle.wire.proofs.Stages.{found-by, refused-by, count-found, count-lost}
 use Rattle.head.specs.declared.Headed.the-variants.{Found}
 use Rattle.head.specs.Replies.{headOf, handHead}
 use Rattle.head.proofs.Heads.{only, head-uncounted, head-lost, head-unbatched, head-good}

@@ -5,26 +5,19 @@ use Rattle.listing.proofs.flagged.Statement.{statement}
 use Rattle.listing.proofs.flagged.Tie as tie
 use Rattle.listing.proofs.flagged.Reads as reads
 use Rattle.listing.proofs.flagged.Lts as lts
-use Rattle.console.proofs.byte.Reads as byte-reads
 use Rattle.listing.proofs.marked.Reads as marked-reads
 
 abbrev Inv-loop : tie.InvT-loop
-Inv-loop records r n₀ g₀ n g = (g ≤ 8) × (n ≤ g)
+Inv-loop batch n₀ g₀ n g = (g ≤ 8) × (n ≤ g)
 
 abbrev μ-loop : tie.MeasureT-loop
-μ-loop records r n₀ g₀ n g = 8 - g
+μ-loop batch n₀ g₀ n g = 8 - g
 
 loop-holds : tie.Need-loop-holds Inv-loop μ-loop
 loop-holds c = search needs
 
-add-byte : tie.Need-add-byte Inv-loop μ-loop
-add-byte c = search needs
-
-add-byte-2 : tie.Need-add-byte-2 Inv-loop μ-loop
-add-byte-2 c = search needs
-
-byte-requires : tie.Need-byte-requires Inv-loop μ-loop
-byte-requires c κs = search needs
+element-copy-out-marked : tie.Need-element-copy-out-marked Inv-loop μ-loop
+element-copy-out-marked c = search needs
 
 marked-requires : tie.Need-marked-requires Inv-loop μ-loop
 marked-requires c κs = search needs
@@ -51,9 +44,7 @@ flagged-spec =
     Inv-loop
     μ-loop
     loop-holds
-    add-byte
-    add-byte-2
-    byte-requires
+    element-copy-out-marked
     marked-requires
     add-n
     add-g

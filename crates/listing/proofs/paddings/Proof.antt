@@ -6,6 +6,7 @@ use Rattle.listing.proofs.paddings.Tie as tie
 use Rattle.listing.proofs.paddings.Reads as reads
 use Rattle.listing.proofs.paddings.Lts as lts
 use Rattle.listing.proofs.flagged.Reads as flagged-reads
+use Rattle.listing.proofs.record.Reads as record-reads
 
 abbrev Inv-loop : tie.InvT-loop
 Inv-loop records batches n₀ b₀ n b = (b ≤ batches) × (n ≤ 8 * b)
@@ -16,8 +17,8 @@ abbrev μ-loop : tie.MeasureT-loop
 loop-holds : tie.Need-loop-holds Inv-loop μ-loop
 loop-holds c = search needs
 
-mul-flagged : tie.Need-mul-flagged Inv-loop μ-loop
-mul-flagged c = search needs
+record-requires : tie.Need-record-requires Inv-loop μ-loop
+record-requires c κs = search needs
 
 flagged-requires : tie.Need-flagged-requires Inv-loop μ-loop
 flagged-requires c κs = search needs
@@ -44,7 +45,7 @@ paddings-spec =
     Inv-loop
     μ-loop
     loop-holds
-    mul-flagged
+    record-requires
     flagged-requires
     add-n
     add-b

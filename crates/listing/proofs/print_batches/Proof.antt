@@ -6,10 +6,10 @@ use Rattle.listing.proofs.print_batches.Statement.{statement}
 use Rattle.listing.proofs.print_batches.Tie as tie
 use Rattle.listing.proofs.print_batches.Reads as reads
 use Rattle.listing.proofs.print_batches.Lts as lts
-use Rattle.console.proofs.byte.Reads as byte-reads
 use Rattle.listing.proofs.plus.Reads as plus-reads
 use Rattle.listing.proofs.print_batch.Reads as print-batch-reads
 use Rattle.listing.proofs.print_groups.Reads as print-groups-reads
+use Rattle.listing.proofs.record.Reads as record-reads
 use Rattle.listing.proofs.size.Reads as size-reads
 
 abbrev Inv-loop : tie.InvT-loop
@@ -21,20 +21,17 @@ abbrev μ-loop : tie.MeasureT-loop
 loop-holds : tie.Need-loop-holds Inv-loop μ-loop
 loop-holds c = search needs
 
-mul-r : tie.Need-mul-r Inv-loop μ-loop
-mul-r c = search needs
+record-requires : tie.Need-record-requires Inv-loop μ-loop
+record-requires c κs = search needs
 
-add-byte : tie.Need-add-byte Inv-loop μ-loop
-add-byte c = search needs
+element-copy-out-n : tie.Need-element-copy-out-n Inv-loop μ-loop
+element-copy-out-n c = search needs
 
-byte-requires : tie.Need-byte-requires Inv-loop μ-loop
-byte-requires c κs = search needs
+cast-n : tie.Need-cast-n Inv-loop μ-loop
+cast-n c = search needs
 
-add-byte-2 : tie.Need-add-byte-2 Inv-loop μ-loop
-add-byte-2 c = search needs
-
-byte-requires-2 : tie.Need-byte-requires-2 Inv-loop μ-loop
-byte-requires-2 c κs = search needs
+cast-print-batch : tie.Need-cast-print-batch Inv-loop μ-loop
+cast-print-batch c = search needs
 
 print-batch-requires : tie.Need-print-batch-requires Inv-loop μ-loop
 print-batch-requires c κs = search needs
@@ -73,11 +70,10 @@ print-batches-spec =
     Inv-loop
     μ-loop
     loop-holds
-    mul-r
-    add-byte
-    byte-requires
-    add-byte-2
-    byte-requires-2
+    record-requires
+    element-copy-out-n
+    cast-n
+    cast-print-batch
     print-batch-requires
     print-groups-requires
     size-requires

@@ -9,10 +9,13 @@ use Rattle.listing.proofs.print_groups.Lts as lts
 use Rattle.listing.proofs.print_group.Reads as print-group-reads
 
 abbrev Inv-loop : tie.InvT-loop
-Inv-loop page₀ codes values records r at count g₀ page g = (g ≤ 8) × (length page ≡ length page₀)
+Inv-loop page₀ codes values batch at count g₀ page g = (g ≤ 8) × (length page ≡ length page₀)
 
 abbrev μ-loop : tie.MeasureT-loop
-μ-loop page₀ codes values records r at count g₀ page g = 8 - g
+μ-loop page₀ codes values batch at count g₀ page g = 8 - g
+
+cast-count : tie.Need-cast-count Inv-loop μ-loop
+cast-count c = search needs
 
 loop-holds : tie.Need-loop-holds Inv-loop μ-loop
 loop-holds c = search needs
@@ -47,6 +50,7 @@ print-groups-spec =
     (tie.spec
     Inv-loop
     μ-loop
+    cast-count
     loop-holds
     same-length
     returns

@@ -49,9 +49,10 @@ start-requires c κs =
     let a = c .before .before .before .before .before .args in
     let s = a .records .now in
     let r = recordAt s (a .b) in
-    let x = sound 8 r (c .before .before .before .before .before .pre .0 .1) in
+    let f = c .before .before .before .before .before .pre .0 .1 in
+    let x = sound (f .width) r (f .right) in
     let l = c .before .loop in
-    let h = flagged 8 r x (flags-length s (a .b)) (l .g) (l .left) (l .inv .4) (c .loop-test .taken) in
+    let h = flagged _ r x (flags-length s (a .b)) (l .g) (l .left) (l .inv .4) (c .loop-test .taken) in
     omega arith
 
 start-requires-2 : tie.Need-start-requires-2 Inv-loop μ-loop
@@ -59,9 +60,10 @@ start-requires-2 c κs =
     let a = c .before .before .before .before .before .before .args in
     let s = a .records .now in
     let r = recordAt s (a .b) in
-    let x = sound 8 r (c .before .before .before .before .before .before .pre .0 .1) in
+    let f = c .before .before .before .before .before .before .pre .0 .1 in
+    let x = sound (f .width) r (f .right) in
     let l = c .before .before .loop in
-    let h = flagged 8 r x (flags-length s (a .b)) (l .g) (l .left) (l .inv .4) (c .before .loop-test .taken) in
+    let h = flagged _ r x (flags-length s (a .b)) (l .g) (l .left) (l .inv .4) (c .before .loop-test .taken) in
     omega arith
 
 sub-size : tie.Need-sub-size Inv-loop μ-loop
@@ -69,19 +71,21 @@ sub-size c =
     let a = c .before .before .before .before .before .before .before .args in
     let s = a .records .now in
     let r = recordAt s (a .b) in
-    let x = sound 8 r (c .before .before .before .before .before .before .before .pre .0 .1) in
+    let f = c .before .before .before .before .before .before .before .pre .0 .1 in
+    let x = sound (f .width) r (f .right) in
     let l = c .before .before .before .loop in
-    let h = flagged 8 r x (flags-length s (a .b)) (l .g) (l .left) (l .inv .4) (c .before .before .loop-test .taken) in
-    omega (arith, rise 8 r x (starts-length s (a .b)) (l .g) h, below-ninth 8 r x (starts-length s (a .b)) (l .g + 1) (omega arith), ninth-small 8 r x (starts-length s (a .b)), c .before .start .ensures .0, c .start2 .ensures .0)
+    let h = flagged _ r x (flags-length s (a .b)) (l .g) (l .left) (l .inv .4) (c .before .before .loop-test .taken) in
+    omega (arith, rise _ r x (starts-length s (a .b)) (l .g) h, below-ninth _ r x (starts-length s (a .b)) (l .g + 1) (omega arith), ninth-small _ r x (starts-length s (a .b)), c .before .start .ensures .0, c .start2 .ensures .0)
 
 flag-requires : tie.Need-flag-requires Inv-loop μ-loop
 flag-requires c κs =
     let a = c .before .before .before .before .before .before .before .args in
     let s = a .records .now in
     let r = recordAt s (a .b) in
-    let x = sound 8 r (c .before .before .before .before .before .before .before .pre .0 .1) in
+    let f = c .before .before .before .before .before .before .before .pre .0 .1 in
+    let x = sound (f .width) r (f .right) in
     let l = c .before .before .before .loop in
-    let h = flagged 8 r x (flags-length s (a .b)) (l .g) (l .left) (l .inv .4) (c .before .before .loop-test .taken) in
+    let h = flagged _ r x (flags-length s (a .b)) (l .g) (l .left) (l .inv .4) (c .before .before .loop-test .taken) in
     omega arith
 
 pads-in-requires : tie.Need-pads-in-requires Inv-loop μ-loop
@@ -95,10 +99,11 @@ add-n c =
     let a = c .before .before .before .before .before .before .before .before .before .before .args in
     let s = a .records .now in
     let r = recordAt s (a .b) in
-    let x = sound 8 r (c .before .before .before .before .before .before .before .before .before .before .pre .0 .1) in
+    let f = c .before .before .before .before .before .before .before .before .before .before .pre .0 .1 in
+    let x = sound (f .width) r (f .right) in
     let l = c .before .before .before .before .before .before .loop in
-    let h = flagged 8 r x (flags-length s (a .b)) (l .g) (l .left) (l .inv .4) (c .before .before .before .before .before .loop-test .taken) in
-    omega (arith, rise 8 r x (starts-length s (a .b)) (l .g) h, below-ninth 8 r x (starts-length s (a .b)) (l .g + 1) (omega arith), ninth-small 8 r x (starts-length s (a .b)), c .before .before .before .before .start .ensures .0, c .before .before .before .start2 .ensures .0)
+    let h = flagged _ r x (flags-length s (a .b)) (l .g) (l .left) (l .inv .4) (c .before .before .before .before .before .loop-test .taken) in
+    omega (arith, rise _ r x (starts-length s (a .b)) (l .g) h, below-ninth _ r x (starts-length s (a .b)) (l .g + 1) (omega arith), ninth-small _ r x (starts-length s (a .b)), c .before .before .before .before .start .ensures .0, c .before .before .before .start2 .ensures .0)
 
 add-g : tie.Need-add-g Inv-loop μ-loop
 add-g c = search needs
@@ -111,17 +116,18 @@ loop-again c =
     let a = c .before .before .before .before .before .before .before .before .before .before .before .args in
     let s = a .records .now in
     let r = recordAt s (a .b) in
-    let x = sound 8 r (c .before .before .before .before .before .before .before .before .before .before .before .pre .0 .1) in
+    let f = c .before .before .before .before .before .before .before .before .before .before .before .pre .0 .1 in
+    let x = sound (f .width) r (f .right) in
     let l = c .before .before .before .before .before .before .before .loop in
-    let h = flagged 8 r x (flags-length s (a .b)) (l .g) (l .left) (l .inv .4) (c .before .before .before .before .before .before .loop-test .taken) in
+    let h = flagged _ r x (flags-length s (a .b)) (l .g) (l .left) (l .inv .4) (c .before .before .before .before .before .before .loop-test .taken) in
     let d = ap₂ (λ (i j : ℕ). i - j) (c .before .before .before .before .before .start .ensures .0) (c .before .before .before .before .start2 .ensures .0) in
     let ep = c .before .before .pads-in .ensures .0 ∙ ap₂ padsIn d (c .before .before .before .flag .ensures) in
     let en = c .before .kept-in .ensures .0 ∙ ap (λ (i : ℕ). keptIn (a .padded) i (c .before .before .pads-in .result)) d in (
       omega arith,
       l .inv .1,
-      omega (arith, rise 8 r x (starts-length s (a .b)) (l .g) h, below-ninth 8 r x (starts-length s (a .b)) (l .g + 1) (omega arith), ninth-small 8 r x (starts-length s (a .b)), c .before .before .before .before .before .start .ensures .0, c .before .before .before .before .start2 .ensures .0),
+      omega (arith, rise _ r x (starts-length s (a .b)) (l .g) h, below-ninth _ r x (starts-length s (a .b)) (l .g + 1) (omega arith), ninth-small _ r x (starts-length s (a .b)), c .before .before .before .before .before .start .ensures .0, c .before .before .before .before .start2 .ensures .0),
       omega arith,
-      flags-turn 8 r x (flags-length s (a .b)) (l .g) (l .left) (l .inv .4) h,
+      flags-turn _ r x (flags-length s (a .b)) (l .g) (l .left) (l .inv .4) h,
       λ rest. ap (sets (l .out) (l .entries)) (wait-turn (a .padded) r (starts-length s (a .b)) (flags-length s (a .b)) (l .g) h (l .paddings) (l .waiting) _ _ en ep rest (c .if1 .taken)) ∙ l .inv .5 rest,
       λ rest. ap (λ (es : List ℕ). l .entries + length es) (wait-turn (a .padded) r (starts-length s (a .b)) (flags-length s (a .b)) (l .g) h (l .paddings) (l .waiting) _ _ en ep rest (c .if1 .taken)) ∙ l .inv .6 rest,
     )
@@ -131,20 +137,22 @@ fill64-requires c κs =
     let a = c .before .before .before .before .before .before .before .before .before .before .before .before .args in
     let s = a .records .now in
     let r = recordAt s (a .b) in
-    let x = sound 8 r (c .before .before .before .before .before .before .before .before .before .before .before .before .pre .0 .1) in
+    let f = c .before .before .before .before .before .before .before .before .before .before .before .before .pre .0 .1 in
+    let x = sound (f .width) r (f .right) in
     let l = c .before .before .before .before .before .before .before .before .loop in
-    let h = flagged 8 r x (flags-length s (a .b)) (l .g) (l .left) (l .inv .4) (c .before .before .before .before .before .before .before .loop-test .taken) in
-    omega (arith, rise 8 r x (starts-length s (a .b)) (l .g) h, below-ninth 8 r x (starts-length s (a .b)) (l .g + 1) (omega arith), ninth-small 8 r x (starts-length s (a .b)), c .before .before .before .before .before .before .start .ensures .0, c .before .before .before .before .before .start2 .ensures .0)
+    let h = flagged _ r x (flags-length s (a .b)) (l .g) (l .left) (l .inv .4) (c .before .before .before .before .before .before .before .loop-test .taken) in
+    omega (arith, rise _ r x (starts-length s (a .b)) (l .g) h, below-ninth _ r x (starts-length s (a .b)) (l .g + 1) (omega arith), ninth-small _ r x (starts-length s (a .b)), c .before .before .before .before .before .before .start .ensures .0, c .before .before .before .before .before .start2 .ensures .0)
 
 add-entries : tie.Need-add-entries Inv-loop μ-loop
 add-entries c =
     let a = c .before .before .before .before .before .before .before .before .before .before .before .before .before .before .before .args in
     let s = a .records .now in
     let r = recordAt s (a .b) in
-    let x = sound 8 r (c .before .before .before .before .before .before .before .before .before .before .before .before .before .before .before .pre .0 .1) in
+    let f = c .before .before .before .before .before .before .before .before .before .before .before .before .before .before .before .pre .0 .1 in
+    let x = sound (f .width) r (f .right) in
     let l = c .before .before .before .before .before .before .before .before .before .before .before .loop in
-    let h = flagged 8 r x (flags-length s (a .b)) (l .g) (l .left) (l .inv .4) (c .before .before .before .before .before .before .before .before .before .before .loop-test .taken) in
-    omega (arith, rise 8 r x (starts-length s (a .b)) (l .g) h, below-ninth 8 r x (starts-length s (a .b)) (l .g + 1) (omega arith), ninth-small 8 r x (starts-length s (a .b)), c .before .before .before .before .before .before .before .before .before .start .ensures .0, c .before .before .before .before .before .before .before .before .start2 .ensures .0)
+    let h = flagged _ r x (flags-length s (a .b)) (l .g) (l .left) (l .inv .4) (c .before .before .before .before .before .before .before .before .before .before .loop-test .taken) in
+    omega (arith, rise _ r x (starts-length s (a .b)) (l .g) h, below-ninth _ r x (starts-length s (a .b)) (l .g + 1) (omega arith), ninth-small _ r x (starts-length s (a .b)), c .before .before .before .before .before .before .before .before .before .start .ensures .0, c .before .before .before .before .before .before .before .before .start2 .ensures .0)
 
 add-paddings : tie.Need-add-paddings Inv-loop μ-loop
 add-paddings c = search needs
@@ -160,18 +168,19 @@ loop-again-2 c =
     let a = c .before .before .before .before .before .before .before .before .before .before .before .before .before .before .before .args in
     let s = a .records .now in
     let r = recordAt s (a .b) in
-    let x = sound 8 r (c .before .before .before .before .before .before .before .before .before .before .before .before .before .before .before .pre .0 .1) in
+    let f = c .before .before .before .before .before .before .before .before .before .before .before .before .before .before .before .pre .0 .1 in
+    let x = sound (f .width) r (f .right) in
     let l = c .before .before .before .before .before .before .before .before .before .before .before .loop in
-    let h = flagged 8 r x (flags-length s (a .b)) (l .g) (l .left) (l .inv .4) (c .before .before .before .before .before .before .before .before .before .before .loop-test .taken) in
+    let h = flagged _ r x (flags-length s (a .b)) (l .g) (l .left) (l .inv .4) (c .before .before .before .before .before .before .before .before .before .before .loop-test .taken) in
     let d = ap₂ (λ (i j : ℕ). i - j) (c .before .before .before .before .before .before .before .before .before .start .ensures .0) (c .before .before .before .before .before .before .before .before .start2 .ensures .0) in
     let ep = c .before .before .before .before .before .before .pads-in .ensures .0 ∙ ap₂ padsIn d (c .before .before .before .before .before .before .before .flag .ensures) in
     let en = c .before .before .before .before .before .kept-in .ensures .0 ∙ ap (λ (i : ℕ). keptIn (a .padded) i (c .before .before .before .before .before .before .pads-in .result)) d in
     let is : c .before .before .before .before .before .before .pads-in .result ≡ 1 = omega (arith, c .before .before .before .before .if1 .left) in (
       omega arith,
       c .before .before .fill64 .kept .0 ∙ l .inv .1,
-      omega (arith, rise 8 r x (starts-length s (a .b)) (l .g) h, below-ninth 8 r x (starts-length s (a .b)) (l .g + 1) (omega arith), ninth-small 8 r x (starts-length s (a .b)), c .before .before .before .before .before .before .before .before .before .start .ensures .0, c .before .before .before .before .before .before .before .before .start2 .ensures .0),
+      omega (arith, rise _ r x (starts-length s (a .b)) (l .g) h, below-ninth _ r x (starts-length s (a .b)) (l .g + 1) (omega arith), ninth-small _ r x (starts-length s (a .b)), c .before .before .before .before .before .before .before .before .before .start .ensures .0, c .before .before .before .before .before .before .before .before .start2 .ensures .0),
       omega arith,
-      flags-turn 8 r x (flags-length s (a .b)) (l .g) (l .left) (l .inv .4) h,
+      flags-turn _ r x (flags-length s (a .b)) (l .g) (l .left) (l .inv .4) h,
       λ rest. run-turn (a .padded) r (starts-length s (a .b)) (flags-length s (a .b)) (l .g) h (l .paddings) (l .waiting) _ _ en ep rest is (l .out) _ (l .entries) (c .before .before .fill64 .ensures) ∙ l .inv .5 rest,
       λ rest. entries-turn (a .padded) r (starts-length s (a .b)) (flags-length s (a .b)) (l .g) h (l .paddings) (l .waiting) _ _ en ep rest is (l .entries) ∙ l .inv .6 rest,
     )
@@ -187,18 +196,20 @@ sub-more c =
     let a = c .before .before .before .before .before .before .before .args in
     let s = a .records .now in
     let r = recordAt s (a .b) in
-    let x = sound 8 r (c .before .before .before .before .before .before .before .pre .0 .1) in
+    let f = c .before .before .before .before .before .before .before .pre .0 .1 in
+    let x = sound (f .width) r (f .right) in
     let l = c .before .before .before .loop in
-    omega (arith, below-ninth 8 r x (starts-length s (a .b)) (l .g) (omega arith), c .before .start3 .ensures .0, c .start4 .ensures .0)
+    omega (arith, below-ninth _ r x (starts-length s (a .b)) (l .g) (omega arith), c .before .start3 .ensures .0, c .start4 .ensures .0)
 
 add-t24 : tie.Need-add-t24 Inv-loop μ-loop
 add-t24 c =
     let a = c .before .before .before .before .before .before .before .args in
     let s = a .records .now in
     let r = recordAt s (a .b) in
-    let x = sound 8 r (c .before .before .before .before .before .before .before .pre .0 .1) in
+    let f = c .before .before .before .before .before .before .before .pre .0 .1 in
+    let x = sound (f .width) r (f .right) in
     let l = c .before .before .before .loop in
-    omega (arith, ninth-small 8 r x (starts-length s (a .b)), below-ninth 8 r x (starts-length s (a .b)) (l .g) (omega arith), c .before .start3 .ensures .0, c .start4 .ensures .0)
+    omega (arith, ninth-small _ r x (starts-length s (a .b)), below-ninth _ r x (starts-length s (a .b)) (l .g) (omega arith), c .before .start3 .ensures .0, c .start4 .ensures .0)
 
 same-length : tie.Need-same-length Inv-loop μ-loop
 same-length c = c .before .before .before .loop .inv .1
@@ -208,15 +219,16 @@ returns c =
     let a = c .before .before .before .before .before .before .before .args in
     let s = a .records .now in
     let r = recordAt s (a .b) in
-    let x = sound 8 r (c .before .before .before .before .before .before .before .pre .0 .1) in
+    let f = c .before .before .before .before .before .before .before .pre .0 .1 in
+    let x = sound (f .width) r (f .right) in
     let l = c .before .before .before .loop in
-    let top = below-ninth 8 r x (starts-length s (a .b)) (l .g) (omega arith) in
+    let top = below-ninth _ r x (starts-length s (a .b)) (l .g) (omega arith) in
     let d = ap₂ (λ (i j : ℕ). l .waiting + (i - j)) (c .before .start3 .ensures .0) (c .start4 .ensures .0) in (
       record {
-        run = λ rest. ap (sets (l .out) (l .entries)) (ap (λ (w : ℕ). ahead (a .padded) w (l .paddings) rest) d ∙ rest-waits (a .padded) r x (starts-length s (a .b)) (flags-length s (a .b)) (l .paddings) rest (l .g) (l .waiting) (l .left) (l .inv .0) (l .inv .4) (omega arith)) ∙ l .inv .5 rest;
-        entries = λ rest. ap (λ (es : List ℕ). l .entries + length es) (ap (λ (w : ℕ). ahead (a .padded) w (l .paddings) rest) d ∙ rest-waits (a .padded) r x (starts-length s (a .b)) (flags-length s (a .b)) (l .paddings) rest (l .g) (l .waiting) (l .left) (l .inv .0) (l .inv .4) (omega arith)) ∙ l .inv .6 rest;
+        run = λ rest. ap (sets (l .out) (l .entries)) (ap (λ (w : ℕ). ahead (a .padded) w (l .paddings) rest) d ∙ rest-waits (a .padded) _ r x (starts-length s (a .b)) (flags-length s (a .b)) (l .paddings) rest (l .g) (l .waiting) (l .left) (l .inv .0) (l .inv .4) (omega arith)) ∙ l .inv .5 rest;
+        entries = λ rest. ap (λ (es : List ℕ). l .entries + length es) (ap (λ (w : ℕ). ahead (a .padded) w (l .paddings) rest) d ∙ rest-waits (a .padded) _ r x (starts-length s (a .b)) (flags-length s (a .b)) (l .paddings) rest (l .g) (l .waiting) (l .left) (l .inv .0) (l .inv .4) (omega arith)) ∙ l .inv .6 rest;
       },
-      omega (arith, top, ninth-small 8 r x (starts-length s (a .b)), c .before .start3 .ensures .0, c .start4 .ensures .0),
+      omega (arith, top, ninth-small _ r x (starts-length s (a .b)), c .before .start3 .ensures .0, c .start4 .ensures .0),
     )
 
 pub batch-entries-spec : {M : Type 1} → statement M

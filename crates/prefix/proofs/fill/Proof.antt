@@ -1,7 +1,7 @@
 use Rattle.prefix.proofs.Entries.{marks-next, marks-none, last-entry}
 use Rattle.prefix.specs.Tables.{tableFrom, ahead}
 use Rattle.rules.specs.Lookups.{marks}
-use Rattle.rules.specs.Record.{recordsFrom, recordsIn}
+use Rattle.rules.specs.Record.{recordSize, recordsFrom, recordsIn}
 use lib.Seq.{sets}
 use lib.ListN.{length, replicate, length-replicate}
 use borrow.Author.Needs.{needs}
@@ -18,13 +18,13 @@ use Rattle.prefix.proofs.fill64.Reads as fill64-reads
 
 abbrev Inv-loop : tie.InvT-loop
 Inv-loop records padded out₀ n done₀ b₀ out done b =
-    (n ≡ length records / 82)
+    (n ≡ length records / recordSize)
     × (b ≤ n)
     × (length out ≡ length out₀)
     × (done .entries + done .waiting ≤ 72 * b)
     × (done .paddings ≤ 8 * b)
-    × (sets out (done .entries) (ahead padded (done .waiting) (done .paddings) (marks (recordsFrom (length records / 82 - b) records b))) ≡ sets out₀ 0 (tableFrom padded 0 (marks (recordsFrom (length records / 82) records 0))))
-    × (done .entries + length (ahead padded (done .waiting) (done .paddings) (marks (recordsFrom (length records / 82 - b) records b))) ≡ length (tableFrom padded 0 (marks (recordsFrom (length records / 82) records 0))))
+    × (sets out (done .entries) (ahead padded (done .waiting) (done .paddings) (marks (recordsFrom (length records / recordSize - b) records b))) ≡ sets out₀ 0 (tableFrom padded 0 (marks (recordsFrom (length records / recordSize) records 0))))
+    × (done .entries + length (ahead padded (done .waiting) (done .paddings) (marks (recordsFrom (length records / recordSize - b) records b))) ≡ length (tableFrom padded 0 (marks (recordsFrom (length records / recordSize) records 0))))
 
 abbrev μ-loop : tie.MeasureT-loop
 μ-loop records padded out₀ n done₀ b₀ out done b = n - b
@@ -48,8 +48,8 @@ loop-again c =
     let s = c .before .before .before .before .before .before .before .before .args .records .now in
     let l = c .before .before .before .before .before .loop in
     let e = c .before .before .batch-entries .ensures in
-    let more = marks (recordsFrom (length s / 82 - (l .b + 1)) s (l .b + 1)) in
-    let next = marks-next (length s / 82) s (l .b) (omega arith) in (
+    let more = marks (recordsFrom (length s / recordSize - (l .b + 1)) s (l .b + 1)) in
+    let next = marks-next (length s / recordSize) s (l .b) (omega arith) in (
       l .inv .0,
       omega arith,
       c .before .before .batch-entries .kept .1 .1 .1 .1 .0 ∙ l .inv .2,
@@ -79,7 +79,7 @@ returns c =
     let l = c .before .before .before .before .before .before .before .loop in
     let w = l .done .waiting in
     let k = l .done .paddings in
-    let z : ahead (a .padded) w k (marks (recordsFrom (length s / 82 - l .b) s (l .b))) ≡ replicate (w + 1) k = ap (ahead (a .padded) w k) (marks-none (length s / 82) s (l .b) (omega arith)) ∙ last-entry (a .padded) w k in
+    let z : ahead (a .padded) w k (marks (recordsFrom (length s / recordSize - l .b) s (l .b))) ≡ replicate (w + 1) k = ap (ahead (a .padded) w k) (marks-none (length s / recordSize) s (l .b) (omega arith)) ∙ last-entry (a .padded) w k in
     record { entries = omega (arith, ap length z, l .inv .6, length-replicate (w + 1) k); run = c .before .before .before .fill64 .ensures ∙ (rw z at (l .inv .5)) }
 
 pub fill-spec : {M : Type 1} → statement M

@@ -3,7 +3,7 @@ use native.Mathlib.Omega.{arith}
 use borrow.Author.Needs.{needs}
 use Rattle.rules.specs.Functions.{arena, paddingChecked}
 use Rattle.checks.proofs.Walk.{few-records}
-use Rattle.checks.proofs.Passed.{was-good, checked, padding-good}
+use Rattle.checks.proofs.Passed.{was-good, checked, padding-good, all-fit}
 use Rattle.prefix.proofs.Entries.{refused-way, no-room, made}
 use Rattle.prefix.proofs.table.Statement.{statement}
 use Rattle.prefix.proofs.table.Tie as tie
@@ -29,7 +29,7 @@ returns : tie.Need-returns
 returns c =
     let a = c .before .before .before .before .before .before .before .before .before .before .before .before .args in
     let n = arena (a .codes .now) (a .values .now) (a .records .now) in
-    refused-way (a .padded) n (a .out .now) _ _ _ (sym (c .before .before .before .before .before .before .before .padding .ensures) ∙ c .before .before .before .before .before .v .given .1) (c .before .before .zero-words .ensures)
+    refused-way (a .padded) 8 n (a .out .now) _ _ _ (sym (c .before .before .before .before .before .before .before .padding .ensures) ∙ c .before .before .before .before .before .v .given .1) (c .before .before .zero-words .ensures)
 
 enum-told : tie.Need-enum-told
 enum-told c = search needs
@@ -39,8 +39,8 @@ fill-requires c κs =
     let a = c .before .before .before .before .before .before .before .before .args in
     let n = arena (a .codes .now) (a .values .now) (a .records .now) in
     let g = was-good (paddingChecked 8 n) (sym (c .before .before .before .padding .ensures) ∙ c .before .enum-told .given .1) in
-    let k = checked (a .codes .now) (a .values .now) (a .records .now) (padding-good n g) in
-    (few-records (a .codes .now) (a .values .now) (a .records .now) (k .0), k .1 .right)
+    let k = checked 8 (a .codes .now) (a .values .now) (a .records .now) (padding-good 8 n g) in
+    (few-records (a .codes .now) (a .values .now) (a .records .now) (k .0), all-fit 8 _ _ _ (omega arith) (k .1))
 
 zero-words-requires-2 : tie.Need-zero-words-requires-2
 zero-words-requires-2 c κs = search needs
@@ -54,7 +54,7 @@ returns-2 c =
     let n = arena (a .codes .now) (a .values .now) (a .records .now) in
     let g = was-good (paddingChecked 8 n) (sym (c .before .before .before .before .before .before .before .before .before .before .before .padding .ensures) ∙ c .before .before .before .before .before .before .before .before .before .enum-told .given .1) in
     let l = c .before .before .before .before .before .before .before .fill .kept .1 .1 .0 in
-    no-room (a .padded) n (a .out .now) g _ _ (c .before .before .before .before .before .before .before .fill .ensures) _ (omega (arith, c .before .before .before .before .if1 .taken)) l (c .before .before .zero-words2 .ensures)
+    no-room (a .padded) 8 n (a .out .now) g _ _ (c .before .before .before .before .before .before .before .fill .ensures) _ (omega (arith, c .before .before .before .before .if1 .taken)) l (c .before .before .zero-words2 .ensures)
 
 zero-words-requires-3 : tie.Need-zero-words-requires-3
 zero-words-requires-3 c κs = search needs
@@ -68,7 +68,7 @@ returns-3 c =
     let n = arena (a .codes .now) (a .values .now) (a .records .now) in
     let g = was-good (paddingChecked 8 n) (sym (c .before .before .before .before .before .before .before .before .before .before .before .padding .ensures) ∙ c .before .before .before .before .before .before .before .before .before .enum-told .given .1) in
     let l = c .before .before .before .before .before .before .before .fill .kept .1 .1 .0 in
-    made (a .padded) n (a .out .now) g _ _ (c .before .before .before .before .before .before .before .fill .ensures) _ (omega (arith, c .before .before .before .before .if1 .left)) l (c .before .before .zero-words3 .ensures)
+    made (a .padded) 8 n (a .out .now) g _ _ (c .before .before .before .before .before .before .before .fill .ensures) _ (omega (arith, c .before .before .before .before .if1 .left)) l (c .before .before .zero-words3 .ensures)
 
 pub table-spec : {M : Type 1} → statement M
 table-spec =

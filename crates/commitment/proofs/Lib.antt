@@ -1,0 +1,4 @@
+pub mod Stages
+pub mod Numbers
+pub mod Slots
+pub mod Owed
