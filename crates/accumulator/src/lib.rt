@@ -12,7 +12,7 @@ ghost use Rattle.accumulator.specs.Model.{newAcc, fitsIn, padOf, closedR
 // operations in a group
 pub const GROUP_SIZE: usize = 9;
 
-// groups in a record
+// groups that a record has room for, whatever the width
 pub const RECORD_GROUPS: usize = 8;
 
 pub struct OpBatchAccumulator {

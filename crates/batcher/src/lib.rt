@@ -136,18 +136,19 @@ fn keep(v: u64, b: usize, next: usize, records: &mut [u8])
     }
 }
 
-// Whether runs of these lengths have room for a whole group and for the b-th record.
+// Whether runs of these lengths have room for a whole group and for the b-th record. The record is looked at first: the compiled code then moves
+// fewer numbers between registers.
 fn room_ahead(from: usize, b: usize, codes: usize, values: usize, records: usize) -> bool
     requires { ⌜ (from < 2 ^ 32) × (b < 2 ^ 20) ⌝ }
     ensures { λ r. ⌜ (r ≡ true → (from + 9 ≤ codes) × (from + 9 ≤ values) × (recordSize * b + recordSize ≤ records)) ⌝ }
 {
+    if records < op_batch::RECORD * b + op_batch::RECORD {
+        return false;
+    }
     if codes < from + accumulator::GROUP_SIZE {
         return false;
     }
-    if values < from + accumulator::GROUP_SIZE {
-        return false;
-    }
-    op_batch::RECORD * b + op_batch::RECORD <= records
+    from + accumulator::GROUP_SIZE <= values
 }
 
 // How many operations can join at most: what is left of the group, or of the list.

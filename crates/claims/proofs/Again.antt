@@ -103,7 +103,7 @@ pub record Sizes (w : ℕ) (ns : List ℕ) : Type 0 where
   pub many : length ns ≡ 8
   pub small : All (λ k. k ≤ 9) ns
 
-record-right : (w : ℕ) (ns fs vs : List ℕ) (at end : ℕ) → Sizes w ns → flagsRight fs ≡ true → Laid ns at vs end → length vs ≤ w → recordRight w (recordBy ns fs vs) ≡ true
+pub record-right : (w : ℕ) (ns fs vs : List ℕ) (at end : ℕ) → Sizes w ns → flagsRight fs ≡ true → Laid ns at vs end → length vs ≤ w → recordRight w (recordBy ns fs vs) ≡ true
 unfolding recordRight recordBy
 record-right w ns fs vs at end z f l c =
     let m = z .many in
@@ -113,7 +113,7 @@ record-right w ns fs vs at end z f l c =
     let e : getD (startsFrom 0 ns) (length vs) 0 ≡ getD (startsFrom 0 ns) 8 0 = omega (arith, a, b, total-split (length vs) ns, l .rest, take-total ns 8 m) in
     rw (le-leb (length vs) w c, f, eq-eqb (getD (startsFrom 0 ns) 0 0) 0 (first-start ns), starts-right 0 ns (z .small)) (eq-eqb (getD (startsFrom 0 ns) (length vs) 0) (getD (startsFrom 0 ns) 8 0) e)
 
-ninth-is : (w : ℕ) (ns fs vs : List ℕ) → Sizes w ns → ninth (recordBy ns fs vs) ≡ total ns
+pub ninth-is : (w : ℕ) (ns fs vs : List ℕ) → Sizes w ns → ninth (recordBy ns fs vs) ≡ total ns
 unfolding recordBy
 ninth-is w ns fs vs z = let m = z .many in omega (arith, start-at 8 0 ns (omega arith), take-total ns 8 m)
 
@@ -138,17 +138,17 @@ laid-front w ns at vs end z l =
 
 -- ---- nibbles and flags
 
-zeros-total : (ns : List ℕ) → upTo 0 ns ≡ true → total ns ≡ 0
+pub zeros-total : (ns : List ℕ) → upTo 0 ns ≡ true → total ns ≡ 0
 unfolding every total
 zeros-total [] h = refl
 zeros-total (n ∷ ns) h = omega (arith, leb-true n 0 (true-left (leb n 0) (upTo 0 ns) h), zeros-total ns (true-right (leb n 0) (upTo 0 ns) h))
 
-none-over : (ns : List ℕ) → upTo 9 ns ≡ true → All (λ k. k ≤ 9) ns
+pub none-over : (ns : List ℕ) → upTo 9 ns ≡ true → All (λ k. k ≤ 9) ns
 unfolding every
 none-over [] h = tt
 none-over (n ∷ ns) h = (leb-true n 9 (true-left (leb n 9) (upTo 9 ns) h), none-over ns (true-right (leb n 9) (upTo 9 ns) h))
 
-bits-right : (k v : ℕ) → flagsRight (digits 2 k v) ≡ true
+pub bits-right : (k v : ℕ) → flagsRight (digits 2 k v) ≡ true
 unfolding every digits
 bits-right zero v = refl
 bits-right (suc k) v = rw (le-leb (v % 2) 1 (omega arith)) (bits-right k (v / 2))

@@ -11,7 +11,7 @@ use Rattle.rules.specs.Lists.{fitted, inRow}
 use Rattle.rules.specs.Digits.{digits, leAt, leBytes}
 use Rattle.rules.specs.Record.{Record, NineAndEight, startsFrom, recordSize, wordBytes, recordBytes, bytesAt, wordsAt, recordAt}
 use Rattle.rules.proofs.Digits.{split, length-leBytes, length-digits}
-use Rattle.rules.proofs.Records.{Sized, record-length, record-back}
+use Rattle.rules.proofs.Records.{Sized, Alike, record-length, parts-back, record-back}
 use Rattle.rules.proofs.Runs.{sets-past, sets-front, sets-over, sets-fitted, sets-next}
 use Rattle.rules.proofs.Sizes.{length-words, length-starts}
 use Rattle.op_batch.specs.Stores.{startsSet, flagSet, numberSet, countSet, recordSet, withStarts, withFlag, withNumber, withCount, packed}
@@ -61,14 +61,20 @@ module _ (b : ℕ) (r : Record) (s : List ℕ) where
   unfolding recordSet
   stored-length = length-sets s (recordSize * b) (recordBytes r)
 
-  -- a load after a store to the same record
-  pub load-after : Sized r → recordSize * b + recordSize ≤ length s → recordAt (recordSet b r s) b ≡ r
+  -- a load after a store to the same record; of one whose numbers are over eight bytes the rest is as it was stored
+  stands : NineAndEight r → recordSize * b + recordSize ≤ length s
+      → recordSet b r s ≡ take (recordSize * b) s ++ (recordBytes r ++ drop (recordSize * b + length (recordBytes r)) s)
   unfolding recordSet
-  load-after h l =
-      let n = record-length r (h .whole) in
+  stands w l =
+      let n = record-length r w in
       let p = recordSize * b in
-      let q = drop (p + length (recordBytes r)) s in
-      ap (λ (x : List ℕ). recordAt x b) (sets-eq (recordBytes r) s p (omega arith) ∙ append-assoc (take p s) (recordBytes r) q) ∙ record-back (take p s) q r b (length-take-le p s (omega arith)) h
+      sets-eq (recordBytes r) s p (omega arith) ∙ append-assoc (take p s) (recordBytes r) (drop (p + length (recordBytes r)) s)
+
+  pub parts-after : NineAndEight r → recordSize * b + recordSize ≤ length s → Alike (recordAt (recordSet b r s) b) r
+  parts-after w l = rw (stands w l) (parts-back (take (recordSize * b) s) _ r b (length-take-le (recordSize * b) s (omega arith)) w)
+
+  pub load-after : Sized r → recordSize * b + recordSize ≤ length s → recordAt (recordSet b r s) b ≡ r
+  load-after h l = rw (stands (h .whole) l) (record-back (take (recordSize * b) s) _ r b (length-take-le (recordSize * b) s (omega arith)) (h .whole) (h .small))
 
   -- and after a store to another
   pub load-past : (c : ℕ) → (c ≡ b → ⊥) → NineAndEight r → recordAt (recordSet b r s) c ≡ recordAt s c

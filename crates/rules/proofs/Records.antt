@@ -35,27 +35,65 @@ pub record Sized (r : Record) : Type 0 where
   pub whole : NineAndEight r
   pub small : All (λ n. n < 256 ^ 8) (r .numbers)
 
-pub record-back : (p q : List ℕ) (r : Record) (b : ℕ) → length p ≡ recordSize * b → Sized r → recordAt (p ++ (recordBytes r ++ q)) b ≡ r
-unfolding recordAt recordBytes
-record-back p q r b e h =
-    let s = r .starts in
-    let f = r .flags in
-    let w = wordBytes (r .numbers) in
-    let c = r .count ∷ [] in
-    let all = p ++ (s ++ (f ++ (w ++ c)) ++ q) in
-    let lw : length w ≡ 64 = length-words (r .numbers) ∙ ap (λ (k : ℕ). 8 * k) (h .whole .numbers) in
-    let a1 : all ≡ p ++ (s ++ (f ++ (w ++ c) ++ q)) = ap (λ (l : List ℕ). p ++ l) (append-assoc s (f ++ (w ++ c)) q) in
-    let a2 : all ≡ (p ++ s) ++ (f ++ (w ++ c ++ q)) = a1 ∙ sym (append-assoc p s (f ++ (w ++ c) ++ q)) ∙ ap (λ (l : List ℕ). (p ++ s) ++ l) (append-assoc f (w ++ c) q) in
-    let a3 : all ≡ ((p ++ s) ++ f) ++ (w ++ (c ++ q)) = a2 ∙ sym (append-assoc (p ++ s) f (w ++ c ++ q)) ∙ ap (λ (l : List ℕ). ((p ++ s) ++ f) ++ l) (append-assoc w c q) in
-    let a4 : all ≡ (((p ++ s) ++ f) ++ w) ++ (r .count ∷ q) = a3 ∙ sym (append-assoc ((p ++ s) ++ f) w (c ++ q)) in
-    let l1 : length (p ++ s) ≡ recordSize * b + 9 = length-append p s ∙ ap₂ (λ (x y : ℕ). x + y) e (h .whole .starts) in
-    let l2 : length ((p ++ s) ++ f) ≡ recordSize * b + 17 = omega (arith, length-append (p ++ s) f, l1, h .whole .flags) in
-    let l3 : length (((p ++ s) ++ f) ++ w) ≡ recordSize * b + 81 = omega (arith, length-append ((p ++ s) ++ f) w, l2, lw) in
-    let e1 : bytesAt 9 all (recordSize * b) ≡ s = (λ j. bytesAt (sym (h .whole .starts) j) (a1 j) (sym e j)) ∙ bytes-back s p (f ++ (w ++ c) ++ q) in
-    let e2 : bytesAt 8 all (recordSize * b + 9) ≡ f = (λ j. bytesAt (sym (h .whole .flags) j) (a2 j) (sym l1 j)) ∙ bytes-back f (p ++ s) (w ++ c ++ q) in
-    let e3 : wordsAt 8 all (recordSize * b + 17) ≡ r .numbers = (λ j. wordsAt (sym (h .whole .numbers) j) (a3 j) (sym l2 j)) ∙ words-back (r .numbers) ((p ++ s) ++ f) (c ++ q) (h .small) in
-    let e4 : getD all (recordSize * b + 81) 0 ≡ r .count = (λ j. getD (a4 j) (sym l3 j) 0) ∙ getD-append-seam (((p ++ s) ++ f) ++ w) (r .count) q 0 in
-    λ j. record { starts = e1 j; flags = e2 j; numbers = e3 j; count = e4 j }
+-- two records that say the same but for their numbers
+pub record Alike (x r : Record) : Type 0 where
+  pub starts : x .starts ≡ r .starts
+  pub flags : x .flags ≡ r .flags
+  pub count : x .count ≡ r .count
+
+module _ (p q : List ℕ) (r : Record) (b : ℕ) (e : length p ≡ recordSize * b) (h : NineAndEight r) where
+  abbrev s : List ℕ
+  s = r .starts
+
+  abbrev f : List ℕ
+  f = r .flags
+
+  abbrev w : List ℕ
+  w = wordBytes (r .numbers)
+
+  abbrev c : List ℕ
+  c = r .count ∷ []
+
+  abbrev all : List ℕ
+  all = p ++ (s ++ (f ++ (w ++ c)) ++ q)
+
+  -- before each part stand those before it
+  at-starts : all ≡ p ++ (s ++ (f ++ (w ++ c) ++ q))
+  at-starts = ap (λ (l : List ℕ). p ++ l) (append-assoc s (f ++ (w ++ c)) q)
+
+  at-flags : all ≡ (p ++ s) ++ (f ++ (w ++ c ++ q))
+  at-flags = at-starts ∙ sym (append-assoc p s (f ++ (w ++ c) ++ q)) ∙ ap (λ (l : List ℕ). (p ++ s) ++ l) (append-assoc f (w ++ c) q)
+
+  at-numbers : all ≡ ((p ++ s) ++ f) ++ (w ++ (c ++ q))
+  at-numbers = at-flags ∙ sym (append-assoc (p ++ s) f (w ++ c ++ q)) ∙ ap (λ (l : List ℕ). ((p ++ s) ++ f) ++ l) (append-assoc w c q)
+
+  at-count : all ≡ (((p ++ s) ++ f) ++ w) ++ (r .count ∷ q)
+  at-count = at-numbers ∙ sym (append-assoc ((p ++ s) ++ f) w (c ++ q))
+
+  to-flags : length (p ++ s) ≡ recordSize * b + 9
+  to-flags = length-append p s ∙ ap₂ (λ (x y : ℕ). x + y) e (h .starts)
+
+  to-numbers : length ((p ++ s) ++ f) ≡ recordSize * b + 17
+  to-numbers = omega (arith, length-append (p ++ s) f, to-flags, h .flags)
+
+  to-count : length (((p ++ s) ++ f) ++ w) ≡ recordSize * b + 81
+  to-count = omega (arith, length-append ((p ++ s) ++ f) w, to-numbers, length-words (r .numbers), h .numbers)
+
+  pub parts-back : Alike (recordAt (p ++ (recordBytes r ++ q)) b) r
+  unfolding recordAt recordBytes
+  parts-back =
+      record {
+        starts = (λ j. bytesAt (sym (h .starts) j) (at-starts j) (sym e j)) ∙ bytes-back s p (f ++ (w ++ c) ++ q);
+        flags = (λ j. bytesAt (sym (h .flags) j) (at-flags j) (sym to-flags j)) ∙ bytes-back f (p ++ s) (w ++ c ++ q);
+        count = (λ j. getD (at-count j) (sym to-count j) 0) ∙ getD-append-seam (((p ++ s) ++ f) ++ w) (r .count) q 0;
+      }
+
+  pub record-back : All (λ n. n < 256 ^ 8) (r .numbers) → recordAt (p ++ (recordBytes r ++ q)) b ≡ r
+  unfolding recordAt recordBytes
+  record-back small =
+      let parts = parts-back in
+      let numbers : wordsAt 8 all (recordSize * b + 17) ≡ r .numbers = (λ j. wordsAt (sym (h .numbers) j) (at-numbers j) (sym to-numbers j)) ∙ words-back (r .numbers) ((p ++ s) ++ f) (c ++ q) small in
+      λ j. record { starts = parts .starts j; flags = parts .flags j; numbers = numbers j; count = parts .count j }
 
 pub record-length : (r : Record) → NineAndEight r → length (recordBytes r) ≡ recordSize
 unfolding recordBytes
@@ -74,7 +112,7 @@ records-from (r ∷ rs) p q b e h =
     let y = recordsBytes rs in
     let l : length (p ++ x) ≡ recordSize * (b + 1) = length-append p x ∙ omega (arith, record-length r (h .0 .whole)) in
     let s : p ++ ((x ++ y) ++ q) ≡ p ++ (x ++ (y ++ q)) = ap (λ (l : List ℕ). p ++ l) (append-assoc x y q) in
-    ap₂ (λ (a : Record) (l : List Record). a ∷ l) (ap (λ (l : List ℕ). recordAt l b) s ∙ record-back p (y ++ q) r b e (h .0))
+    ap₂ (λ (a : Record) (l : List Record). a ∷ l) (ap (λ (l : List ℕ). recordAt l b) s ∙ record-back p (y ++ q) r b e (h .0 .whole) (h .0 .small))
     (ap (λ (l : List ℕ). recordsFrom (length rs) l (b + 1)) (s ∙ sym (append-assoc p x (y ++ q))) ∙ records-from rs (p ++ x) q (b + 1) l (h .1))
 
 pub records-back : (rs : List Record) → All Sized rs → recordsIn (recordsBytes rs) ≡ rs
