@@ -56,11 +56,11 @@ module _ (cs vs : List ℕ) (e : length cs ≡ length vs) (i to : ℕ) (h : i < 
 pub sum-done : (n p s i to : ℕ) (xs : List Op) → n + p * codesNumber (span xs i to) ≡ s → to ≤ i → n ≡ s
 sum-done n p s i to xs e h = let z : n ≡ n + p * 0 = omega arith in z ∙ ap (λ (k : ℕ). n + p * k) (sym (number-none i to xs h)) ∙ e
 
-pub place-first : (from : ℕ) → 1 ≡ 128 ^ (from - from)
-place-first from = let z : from - from ≡ 0 = omega arith in rw (z, pow-zero)
+pub unit-first : (from : ℕ) → 1 ≡ 128 ^ (from - from)
+unit-first from = let z : from - from ≡ 0 = omega arith in rw (z, pow-zero)
 
-pub place-small : (p k : ℕ) → p ≡ 128 ^ k → k ≤ 8 → p ≤ 72057594037927936
-place-small p k e h = omega (arith, pow-le-pow-right {n = 128} (omega arith) {i = k} {j = 8} h)
+pub unit-small : (p k : ℕ) → p ≡ 128 ^ k → k ≤ 8 → p ≤ 72057594037927936
+unit-small p k e h = omega (arith, pow-le-pow-right {n = 128} (omega arith) {i = k} {j = 8} h)
 
 pub product-small : (c p : ℕ) → c < 128 → c * p ≤ 127 * p
 product-small c p h = mul-le-mul-right p (omega arith)

@@ -1,4 +1,4 @@
-use Rattle.commitment.proofs.Slots.{over-after, kind-after, slots-turn, slots-stop, slots-none, sum-turn, sum-done, place-first, place-small, product-small, place-next}
+use Rattle.commitment.proofs.Slots.{over-after, kind-after, slots-turn, slots-stop, slots-none, sum-turn, sum-done, unit-first, unit-small, product-small, place-next}
 use Rattle.commitment.specs.Walk.{slotsAfter}
 use Rattle.checks.specs.Batch.{span}
 use Rattle.rules.specs.Record.{recordAt, codesNumber}
@@ -12,14 +12,14 @@ use Rattle.commitment.proofs.walk_group.Statement.{statement}
 use Rattle.commitment.proofs.walk_group.Tie as tie
 
 abbrev Inv-loop : tie.InvT-loop
-Inv-loop table codes values records b g from to number₀ place₀ next₀ i₀ number place next i =
-    (from ≤ i) × (i ≤ to) × (next ≤ 8) × (place ≡ 128 ^ (i - from)) × (number < place) × (number + place * codesNumber (span (operations codes values) i to) ≡ codesNumber (span (operations codes values) from to)) × (slotsAfter table (span (operations codes values) i to) (recordAt records b .numbers) next ≡ slotsAfter table (span (operations codes values) from to) (recordAt records b .numbers) g)
+Inv-loop table codes values records b g from to number₀ unit₀ next₀ i₀ number unit next i =
+    (from ≤ i) × (i ≤ to) × (next ≤ 8) × (unit ≡ 128 ^ (i - from)) × (number < unit) × (number + unit * codesNumber (span (operations codes values) i to) ≡ codesNumber (span (operations codes values) from to)) × (slotsAfter table (span (operations codes values) i to) (recordAt records b .numbers) next ≡ slotsAfter table (span (operations codes values) from to) (recordAt records b .numbers) g)
 
 abbrev μ-loop : tie.MeasureT-loop
-μ-loop table codes values records b g from to number₀ place₀ next₀ i₀ number place next i = to - i
+μ-loop table codes values records b g from to number₀ unit₀ next₀ i₀ number unit next i = to - i
 
 loop-holds : tie.Need-loop-holds Inv-loop μ-loop
-loop-holds c = (omega arith, omega arith, omega arith, place-first (c .before .before .before .before .args .from), omega arith, omega arith, refl)
+loop-holds c = (omega arith, omega arith, omega arith, unit-first (c .before .before .before .before .args .from), omega arith, omega arith, refl)
 
 shared-slice-read-code : tie.Need-shared-slice-read-code Inv-loop μ-loop
 shared-slice-read-code c = search needs
@@ -63,17 +63,17 @@ wide-requires c κs = search needs
 mul-number : tie.Need-mul-number Inv-loop μ-loop
 mul-number c =
     let l = c .before .before .before .before .before .before .before .before .loop in
-    omega (arith, place-small (l .place) (l .i - c .before .before .before .before .before .before .before .before .before .before .before .before .before .args .from) (l .inv .3) (omega arith), product-small (c .wide .result) (l .place) (omega arith))
+    omega (arith, unit-small (l .unit) (l .i - c .before .before .before .before .before .before .before .before .before .before .before .before .before .args .from) (l .inv .3) (omega arith), product-small (c .wide .result) (l .unit) (omega arith))
 
 add-number : tie.Need-add-number Inv-loop μ-loop
 add-number c =
     let l = c .before .before .before .before .before .before .before .before .loop in
-    omega (arith, place-small (l .place) (l .i - c .before .before .before .before .before .before .before .before .before .before .before .before .before .args .from) (l .inv .3) (omega arith), product-small (c .wide .result) (l .place) (omega arith))
+    omega (arith, unit-small (l .unit) (l .i - c .before .before .before .before .before .before .before .before .before .before .before .before .before .args .from) (l .inv .3) (omega arith), product-small (c .wide .result) (l .unit) (omega arith))
 
-mul-place : tie.Need-mul-place Inv-loop μ-loop
-mul-place c =
+mul-unit : tie.Need-mul-unit Inv-loop μ-loop
+mul-unit c =
     let l = c .before .before .before .before .before .before .before .before .loop in
-    omega (arith, place-small (l .place) (l .i - c .before .before .before .before .before .before .before .before .before .before .before .before .before .args .from) (l .inv .3) (omega arith))
+    omega (arith, unit-small (l .unit) (l .i - c .before .before .before .before .before .before .before .before .before .before .before .before .before .args .from) (l .inv .3) (omega arith))
 
 add-i : tie.Need-add-i Inv-loop μ-loop
 add-i c = search needs
@@ -88,14 +88,14 @@ loop-again c =
     let l = c .before .before .before .before .before .before .before .before .loop in
     let ns = recordAt (a .records .now) (a .b) .numbers in
     let o = kind-after (a .table .now) ns (getD (a .codes .now) (l .i) 0) (getD (a .values .now) (l .i) 0) (l .next) (p .0 .4) (c .before .before .before .before .before .if1 .left) in
-    (omega arith, omega arith, omega arith, place-next (l .place) (l .i) (a .from) (l .inv .3) (omega arith), omega (arith, product-small (c .wide .result) (l .place) (omega arith)), ap (λ (k : ℕ). l .number + k * l .place + l .place * 128 * codesNumber (span (operations (a .codes .now) (a .values .now)) (l .i + 1) (a .to))) (c .wide .ensures .0) ∙ sum-turn (a .codes .now) (a .values .now) (p .0 .0) (l .i) (a .to) (omega arith) (omega arith) (l .number) (l .place) ∙ l .inv .5, slots-turn (a .table .now) (a .codes .now) (a .values .now) ns (p .0 .0) (l .i) (a .to) (l .next) (omega arith) (omega arith) (c .before .before .slot-after .result) (c .before .before .slot-after .ensures ∙ sym o) (omega arith) ∙ l .inv .6)
+    (omega arith, omega arith, omega arith, place-next (l .unit) (l .i) (a .from) (l .inv .3) (omega arith), omega (arith, product-small (c .wide .result) (l .unit) (omega arith)), ap (λ (k : ℕ). l .number + k * l .unit + l .unit * 128 * codesNumber (span (operations (a .codes .now) (a .values .now)) (l .i + 1) (a .to))) (c .wide .ensures .0) ∙ sum-turn (a .codes .now) (a .values .now) (p .0 .0) (l .i) (a .to) (omega arith) (omega arith) (l .number) (l .unit) ∙ l .inv .5, slots-turn (a .table .now) (a .codes .now) (a .values .now) ns (p .0 .0) (l .i) (a .to) (l .next) (omega arith) (omega arith) (c .before .before .slot-after .result) (c .before .before .slot-after .ensures ∙ sym o) (omega arith) ∙ l .inv .6)
 
 returns-3 : tie.Need-returns-3 Inv-loop μ-loop
 returns-3 c =
     let a = c .before .before .before .before .before .before .args in
     let l = c .before .loop in
     let ns = recordAt (a .records .now) (a .b) .numbers in
-    (sym (slots-none (a .table .now) (operations (a .codes .now) (a .values .now)) ns (l .i) (a .to) (l .next) (omega arith)) ∙ l .inv .6, λ h. sum-done (l .number) (l .place) _ (l .i) (a .to) (operations (a .codes .now) (a .values .now)) (l .inv .5) (omega arith))
+    (sym (slots-none (a .table .now) (operations (a .codes .now) (a .values .now)) ns (l .i) (a .to) (l .next) (omega arith)) ∙ l .inv .6, λ h. sum-done (l .number) (l .unit) _ (l .i) (a .to) (operations (a .codes .now) (a .values .now)) (l .inv .5) (omega arith))
 
 pub walk-group-spec : {M : Type 1} → statement M
 walk-group-spec =
@@ -115,7 +115,7 @@ walk-group-spec =
     wide-requires
     mul-number
     add-number
-    mul-place
+    mul-unit
     add-i
     loop-less
     loop-again
