@@ -16,7 +16,7 @@ use Rattle.accumulator.proofs.Places.{number-next}
 
 -- a greater bound
 pub good-wider : {v w : ℕ} (a : OpBatchAccumulator) → v ≤ w → Good v a → Good w a
-good-wider a h g = record { low = g .low; high = omega (arith, g .high); room = g .room; imm = g .imm; sum = g .sum; small = g .small; unit = g .unit }
+good-wider a h g = record { low = g .low; high = omega (arith, g .high); few = g .few; imm = g .imm; sum = g .sum; small = g .small; power = g .power }
 
 ltb-wider : (n v w : ℕ) → v ≤ w → ltb n v ≡ true → ltb n w ≡ true
 ltb-wider n v w h e = lt-ltb n w (omega (arith, ltb-true n v e))
@@ -38,7 +38,7 @@ pad-room : {w : ℕ} (a : OpBatchAccumulator) → Good w a → pads a ≡ true �
 pad-room a g e = go (eqb (a .inside) 0) refl e
   where
     go : (b : Bool) → eqb (a .inside) 0 ≡ b → cond b true (a .tail) ≡ true → a .inside < 9
-    go true p q = omega (arith, g .room, eqb-true (a .inside) 0 p)
+    go true p q = omega (arith, g .few, eqb-true (a .inside) 0 p)
     go false p q = omega (arith, g .imm q)
 
 closed-total : {w : ℕ} (a : OpBatchAccumulator) → Good w a → a .total + padOf a ≤ 9 * a .cur + 9
@@ -52,7 +52,7 @@ pub turned-good : {w : ℕ} (a : OpBatchAccumulator) → Good w a → a .next < 
 unfolding turnedAcc
 turned-good a g h =
     let t = closed-total a g in
-    record { low = omega arith; high = omega arith; room = omega arith; imm = λ e. omega arith; sum = omega arith; small = omega arith; unit = refl }
+    record { low = omega arith; high = omega arith; few = omega arith; imm = λ e. omega arith; sum = omega arith; small = omega arith; power = refl }
 
 -- what fitting says of an operation that opens a group, and of an immediate that does not
 next-room : (w : ℕ) (imm : Bool) (a : OpBatchAccumulator) → fitsIn w imm a ≡ true → crosses imm a ≡ true → a .next + cond imm 1 0 < w
@@ -104,10 +104,10 @@ unfolding slottedAcc
 slotted-ready imm a e r =
     let h = slot-free imm a r e in
     let g = r .good in
-    (record { low = omega arith; high = omega arith; room = omega arith; imm = g .imm; sum = omega arith; small = g .small; unit = g .unit }, rw e at (r .here))
+    (record { low = omega arith; high = omega arith; few = omega arith; imm = g .imm; sum = omega arith; small = g .small; power = g .power }, rw e at (r .here))
 
-place-step : {w : ℕ} (a : OpBatchAccumulator) → Good w a → a .place * 128 ≡ 128 ^ (a .inside + 1)
-place-step a g = ap (λ (k : ℕ). k * 128) (g .unit) ∙ sym (pow-suc 128 (a .inside)) ∙ ap (λ (k : ℕ). 128 ^ k) (sym (add-one (a .inside)))
+unit-step : {w : ℕ} (a : OpBatchAccumulator) → Good w a → a .unit * 128 ≡ 128 ^ (a .inside + 1)
+unit-step a g = ap (λ (k : ℕ). k * 128) (g .power) ∙ sym (pow-suc 128 (a .inside)) ∙ ap (λ (k : ℕ). 128 ^ k) (sym (add-one (a .inside)))
 
 joined-good : {w : ℕ} (c : ℕ) (imm : Bool) (a : OpBatchAccumulator) → c < 128 → Good w a → a .inside < cond imm 8 9 → Good w (joinedAcc c imm a)
 unfolding joinedAcc
@@ -115,20 +115,20 @@ joined-good c imm a hc g h =
     record {
       low = g .low;
       high = g .high;
-      room = omega (arith, here-9 imm (a .inside) h);
+      few = omega (arith, here-9 imm (a .inside) h);
       imm = λ e. let k : a .inside < 8 = rw e at h in omega arith;
       sum = omega arith;
-      small = rw (g .unit) (number-next (a .number) c (a .inside) hc (g .small));
-      unit = place-step a g;
+      small = rw (g .power) (number-next (a .number) c (a .inside) hc (g .small));
+      power = unit-step a g;
     }
 
 -- and the numbers of the group that it joins do not overflow
-pub joined-fits : {w : ℕ} (c : ℕ) (a : OpBatchAccumulator) → c < 128 → Good w a → a .inside < 9 → (a .number + c * a .place < 128 ^ 9) × (a .place * 128 ≤ 128 ^ 9)
+pub joined-fits : {w : ℕ} (c : ℕ) (a : OpBatchAccumulator) → c < 128 → Good w a → a .inside < 9 → (a .number + c * a .unit < 128 ^ 9) × (a .unit * 128 ≤ 128 ^ 9)
 unfolding joinedAcc
 joined-fits c a hc g h =
     let j = joined-good c false a hc g h in
     let p = pow-le-pow-right {n = 128} (omega arith) {i = a .inside + 1} {j = 9} (omega arith) in
-    (omega (arith, j .small, p), omega (arith, j .unit, p))
+    (omega (arith, j .small, p), omega (arith, j .power, p))
 
 pub added-good : {w : ℕ} (c : ℕ) (imm : Bool) (a : OpBatchAccumulator) → c < 128 → Good w a → fitsIn w imm a ≡ true → Good w (addedAcc c imm a)
 unfolding addedAcc
@@ -208,7 +208,7 @@ ended-total a g =
     omega (arith, closed-total (lastAcc a) q, q .low, q .high)
 
 pub new-good : (w : ℕ) → 2 ≤ w → Good w newAcc
-new-good w h = record { low = omega arith; high = omega arith; room = omega arith; imm = λ e. omega arith; sum = omega arith; small = omega arith; unit = refl }
+new-good w h = record { low = omega arith; high = omega arith; few = omega arith; imm = λ e. omega arith; sum = omega arith; small = omega arith; power = refl }
 
 -- a new batch takes any operation
 pub new-fits : (w : ℕ) (imm : Bool) → 2 ≤ w → fitsIn w imm newAcc ≡ true

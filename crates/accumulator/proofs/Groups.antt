@@ -14,7 +14,7 @@ use Rattle.rules.specs.Operations.{Op, noop, codes, hasImmediate}
 use Rattle.rules.specs.Batching.{Group, ops, imm, Batch, nextFree, wantsNoop, closeGroup, groups, turned, joined, ready, full, added, turnedTimes, target, ended}
 use Rattle.rules.specs.Record.{opsIn, codesNumber, opsOf, paddedOf, recordOf, recordSize, recordBytes, recordsBytes}
 use Rattle.rules.proofs.Runs.{fitted-zeros}
-use Rattle.accumulator.specs.View.{endsIn, written}
+use Rattle.accumulator.specs.View.{endsIn, opsSoFar}
 use Rattle.accumulator.proofs.Draft.{length-record}
 
 -- ---- a group
@@ -66,12 +66,12 @@ unfolding inRow opsIn
 ops-imm [] = refl
 ops-imm (v ∷ vs) = ops-imm vs
 
-pub written-length : (b : Batch) → length (written b) ≡ length (opsOf (b .closed)) + length (b .current)
-unfolding written
-written-length b = length-append (opsOf (b .closed)) (b .current)
+pub so-far-length : (b : Batch) → length (opsSoFar b) ≡ length (opsOf (b .closed)) + length (b .current)
+unfolding opsSoFar
+so-far-length b = length-append (opsOf (b .closed)) (b .current)
 
-pub groups-ops : (t : List ℕ) (b : Batch) → opsOf (groups t b) ≡ written b ++ pad t (b .current)
-unfolding groups written inRow
+pub groups-ops : (t : List ℕ) (b : Batch) → opsOf (groups t b) ≡ opsSoFar b ++ pad t (b .current)
+unfolding groups opsSoFar inRow
 groups-ops t b =
     ops-append (b .closed) (closeGroup t (b .current) ∷ map imm (b .placed))
     ∙ ap (λ (l : List Op). opsOf (b .closed) ++ l) (ap₂ (λ (x y : List Op). x ++ y) (ops-closed t (b .current)) (ops-imm (b .placed)) ∙ append-nil (b .current ++ pad t (b .current)))
@@ -82,17 +82,17 @@ unfolding groups nextFree
 groups-length t b =
     omega (arith, length-append (b .closed) (closeGroup t (b .current) ∷ map imm (b .placed)), length-map {A = ℕ} {B = Group} (b .placed) imm)
 
-written-turned : (t : List ℕ) (b : Batch) → written (turned t b) ≡ opsOf (groups t b)
-unfolding written turned
-written-turned t b = append-nil (opsOf (groups t b))
+so-far-turned : (t : List ℕ) (b : Batch) → opsSoFar (turned t b) ≡ opsOf (groups t b)
+unfolding opsSoFar turned
+so-far-turned t b = append-nil (opsOf (groups t b))
 
-written-joined : (t : List ℕ) (x : Op) (b : Batch) → written (joined t x b) ≡ written b ++ (x ∷ [])
-unfolding written joined
-written-joined t x b = sym (append-assoc (opsOf (b .closed)) (b .current) (x ∷ []))
+so-far-joined : (t : List ℕ) (x : Op) (b : Batch) → opsSoFar (joined t x b) ≡ opsSoFar b ++ (x ∷ [])
+unfolding opsSoFar joined
+so-far-joined t x b = sym (append-assoc (opsOf (b .closed)) (b .current) (x ∷ []))
 
-pub added-length : (t : List ℕ) (x : Op) (b : Batch) → length (written (added t x b)) ≡ length (written (ready t x b)) + 1
+pub added-length : (t : List ℕ) (x : Op) (b : Batch) → length (opsSoFar (added t x b)) ≡ length (opsSoFar (ready t x b)) + 1
 unfolding added
-added-length t x b = ap length (written-joined t x (ready t x b)) ∙ length-append (written (ready t x b)) (x ∷ [])
+added-length t x b = ap length (so-far-joined t x (ready t x b)) ∙ length-append (opsSoFar (ready t x b)) (x ∷ [])
 
 pub free-turned : (t : List ℕ) (b : Batch) → nextFree (turned t b) ≡ nextFree b + 1
 unfolding nextFree turned
@@ -116,45 +116,45 @@ module _ (f : Op → ℕ) (z : f noop ≡ 0) (n : ℕ) (q : List Op) where
   map-append [] ys = refl
   map-append (x ∷ xs) ys = ap (λ (l : List ℕ). f x ∷ l) (map-append xs ys)
 
-  unseen-groups : (t : List ℕ) (b : Batch) → fitted n (map f (q ++ opsOf (groups t b))) ≡ fitted n (map f (q ++ written b))
+  unseen-groups : (t : List ℕ) (b : Batch) → fitted n (map f (q ++ opsOf (groups t b))) ≡ fitted n (map f (q ++ opsSoFar b))
   unfolding pad
   unseen-groups t b = ap (λ (l : List Op). fitted n (map f (q ++ l))) (groups-ops t b) ∙ go (wantsNoop t (b .current))
     where
-      go : (w : Bool) → fitted n (map f (q ++ (written b ++ cond w (noop ∷ []) []))) ≡ fitted n (map f (q ++ written b))
+      go : (w : Bool) → fitted n (map f (q ++ (opsSoFar b ++ cond w (noop ∷ []) []))) ≡ fitted n (map f (q ++ opsSoFar b))
       go true =
-          ap (λ (l : List Op). fitted n (map f l)) (sym (append-assoc q (written b) (noop ∷ [])))
-          ∙ ap (fitted n) (map-append (q ++ written b) (noop ∷ []) ∙ ap (λ (k : ℕ). map f (q ++ written b) ++ (k ∷ [])) z)
-          ∙ fitted-zeros n (map f (q ++ written b)) 1
-      go false = ap (λ (l : List Op). fitted n (map f (q ++ l))) (append-nil (written b))
+          ap (λ (l : List Op). fitted n (map f l)) (sym (append-assoc q (opsSoFar b) (noop ∷ [])))
+          ∙ ap (fitted n) (map-append (q ++ opsSoFar b) (noop ∷ []) ∙ ap (λ (k : ℕ). map f (q ++ opsSoFar b) ++ (k ∷ [])) z)
+          ∙ fitted-zeros n (map f (q ++ opsSoFar b)) 1
+      go false = ap (λ (l : List Op). fitted n (map f (q ++ l))) (append-nil (opsSoFar b))
 
-  unseen-turned : (t : List ℕ) (b : Batch) → fitted n (map f (q ++ written (turned t b))) ≡ fitted n (map f (q ++ written b))
-  unseen-turned t b = ap (λ (l : List Op). fitted n (map f (q ++ l))) (written-turned t b) ∙ unseen-groups t b
+  unseen-turned : (t : List ℕ) (b : Batch) → fitted n (map f (q ++ opsSoFar (turned t b))) ≡ fitted n (map f (q ++ opsSoFar b))
+  unseen-turned t b = ap (λ (l : List Op). fitted n (map f (q ++ l))) (so-far-turned t b) ∙ unseen-groups t b
 
-  unseen-times : (k : ℕ) (t : List ℕ) (b : Batch) → fitted n (map f (q ++ written (turnedTimes k t b))) ≡ fitted n (map f (q ++ written b))
+  unseen-times : (k : ℕ) (t : List ℕ) (b : Batch) → fitted n (map f (q ++ opsSoFar (turnedTimes k t b))) ≡ fitted n (map f (q ++ opsSoFar b))
   unfolding turnedTimes
   unseen-times zero t b = refl
   unseen-times (suc k) t b = unseen-times k t (turned t b) ∙ unseen-turned t b
 
-  pub unseen-ended : (t : List ℕ) (b : Batch) → fitted n (map f (q ++ opsOf (ended t b))) ≡ fitted n (map f (q ++ written b))
+  pub unseen-ended : (t : List ℕ) (b : Batch) → fitted n (map f (q ++ opsOf (ended t b))) ≡ fitted n (map f (q ++ opsSoFar b))
   unfolding ended
   unseen-ended t b =
       let k = target (nextFree b) - nextFree b in
       unseen-groups t (turnedTimes k t b) ∙ unseen-times k t b
 
-  pub unseen-ready : (t : List ℕ) (x : Op) (b : Batch) → fitted n (map f (q ++ written (ready t x b))) ≡ fitted n (map f (q ++ written b))
+  pub unseen-ready : (t : List ℕ) (x : Op) (b : Batch) → fitted n (map f (q ++ opsSoFar (ready t x b))) ≡ fitted n (map f (q ++ opsSoFar b))
   unfolding ready
   unseen-ready t x b = go (full t x b)
     where
-      go : (w : Bool) → fitted n (map f (q ++ written (cond w (turned t b) b))) ≡ fitted n (map f (q ++ written b))
+      go : (w : Bool) → fitted n (map f (q ++ opsSoFar (cond w (turned t b) b))) ≡ fitted n (map f (q ++ opsSoFar b))
       go true = unseen-turned t b
       go false = refl
 
-  pub seen-added : (t : List ℕ) (x : Op) (b : Batch) → map f (q ++ written (added t x b)) ≡ map f (q ++ written (ready t x b)) ++ (f x ∷ [])
+  pub seen-added : (t : List ℕ) (x : Op) (b : Batch) → map f (q ++ opsSoFar (added t x b)) ≡ map f (q ++ opsSoFar (ready t x b)) ++ (f x ∷ [])
   unfolding added
   seen-added t x b =
-      ap (λ (l : List Op). map f (q ++ l)) (written-joined t x (ready t x b))
-      ∙ ap (map f) (sym (append-assoc q (written (ready t x b)) (x ∷ [])))
-      ∙ map-append (q ++ written (ready t x b)) (x ∷ [])
+      ap (λ (l : List Op). map f (q ++ l)) (so-far-joined t x (ready t x b))
+      ∙ ap (map f) (sym (append-assoc q (opsSoFar (ready t x b)) (x ∷ [])))
+      ∙ map-append (q ++ opsSoFar (ready t x b)) (x ∷ [])
 
 -- ---- several batches
 

@@ -16,9 +16,9 @@ use Rattle.op_batch.specs.Stores.{startsSet, flagSet, numberSet, countSet}
 use Rattle.accumulator.specs.declared.OpBatchAccumulator.{OpBatchAccumulator}
 use Rattle.accumulator.specs.Good.{recordGroups}
 use Rattle.accumulator.specs.Model.{newAcc, fitsIn, pads, padOf, closedRun, turnedAcc, slottedAcc, slottedRun, joinedAcc, crosses, readyAcc, readyRun, addedAcc, addedRun, filledAcc, filledRun, lastAcc, endedTotal, endedRun}
-use Rattle.accumulator.specs.View.{endsIn, accOf, written, drafted, recordWith}
+use Rattle.accumulator.specs.View.{endsIn, accOf, opsSoFar, drafted, recordWith}
 use Rattle.accumulator.proofs.Draft.{record-open, run-shut, run-imm, run-zero, run-count}
-use Rattle.accumulator.proofs.Groups.{wants-ends, ends-snoc, number-snoc, pad, groups-ops, groups-length, written-length, free-turned, free-times, ended-length}
+use Rattle.accumulator.proofs.Groups.{wants-ends, ends-snoc, number-snoc, pad, groups-ops, groups-length, so-far-length, free-turned, free-times, ended-length}
 use Rattle.accumulator.proofs.Good.{target-bounds}
 
 drafted-length : (b : Batch) → length (drafted b) ≡ nextFree b
@@ -51,14 +51,14 @@ pad-length t b = ap (λ (w : Bool). cond w 1 0) (acc-pads t b) ∙ go (wantsNoop
     go true = refl
     go false = refl
 
-pub acc-total : (t : List ℕ) (b : Batch) → accOf t b .total ≡ length (written b)
+pub acc-total : (t : List ℕ) (b : Batch) → accOf t b .total ≡ length (opsSoFar b)
 unfolding accOf
-acc-total t b = sym (written-length b)
+acc-total t b = sym (so-far-length b)
 
 -- the operations of a batch whose current group is closed
 groups-total : (t : List ℕ) (b : Batch) → accOf t b .total + padOf (accOf t b) ≡ length (opsOf (groups t b))
 groups-total t b =
-    ap₂ (λ (x y : ℕ). x + y) (acc-total t b) (pad-length t b) ∙ sym (length-append (written b) (pad t (b .current))) ∙ sym (ap length (groups-ops t b))
+    ap₂ (λ (x y : ℕ). x + y) (acc-total t b) (pad-length t b) ∙ sym (length-append (opsSoFar b) (pad t (b .current))) ∙ sym (ap length (groups-ops t b))
 
 acc-turned : (t : List ℕ) (b : Batch) → turnedAcc (accOf t b) ≡ accOf t (turned t b)
 unfolding turnedAcc accOf turned endsIn codesNumber codes number
@@ -66,7 +66,7 @@ acc-turned t b =
     let e1 = sym (groups-length t b) in
     let e2 = sym (free-turned t b) in
     let e5 = groups-total t b ∙ sym (add-zero (length (opsOf (groups t b)))) in
-    λ j. record { cur = e1 j; next = e2 j; inside = 0; number = 0; place = 1; total = e5 j; tail = false }
+    λ j. record { cur = e1 j; next = e2 j; inside = 0; number = 0; unit = 1; total = e5 j; tail = false }
 
 acc-joined : (t : List ℕ) (x : Op) (b : Batch) → joinedAcc (x .code) (hasImmediate t x) (cond (hasImmediate t x) (slottedAcc (accOf t b)) (accOf t b)) ≡ accOf t (joined t x b)
 unfolding joinedAcc slottedAcc accOf joined nextFree
@@ -91,11 +91,11 @@ acc-joined t x b = go (hasImmediate t x) refl
     go true p =
         let e4 = sym (number-snoc (b .current) x) in
         let e7 = sym p ∙ sym (ends-snoc t (b .current) x) in
-        λ j. record { cur = length (b .closed); next = e2 true j; inside = e3 j; number = e4 j; place = e5 j; total = e6 j; tail = e7 j }
+        λ j. record { cur = length (b .closed); next = e2 true j; inside = e3 j; number = e4 j; unit = e5 j; total = e6 j; tail = e7 j }
     go false p =
         let e4 = sym (number-snoc (b .current) x) in
         let e7 = sym p ∙ sym (ends-snoc t (b .current) x) in
-        λ j. record { cur = length (b .closed); next = e2 false j; inside = e3 j; number = e4 j; place = e5 j; total = e6 j; tail = e7 j }
+        λ j. record { cur = length (b .closed); next = e2 false j; inside = e3 j; number = e4 j; unit = e5 j; total = e6 j; tail = e7 j }
 
 acc-full : (t : List ℕ) (x : Op) (b : Batch) → crosses (hasImmediate t x) (accOf t b) ≡ full t x b
 unfolding accOf full

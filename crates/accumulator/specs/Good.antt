@@ -11,8 +11,8 @@ recordGroups = 8
 pub record Good (w : ℕ) (a : OpBatchAccumulator) : Type 0 where
   pub low : a .cur < a .next
   pub high : a .next ≤ w
-  pub room : a .inside ≤ 9
+  pub few : a .inside ≤ 9
   pub imm : a .tail ≡ true → a .inside ≤ 8
   pub sum : a .total ≤ 9 * a .cur + a .inside
   pub small : a .number < 128 ^ a .inside
-  pub unit : a .place ≡ 128 ^ a .inside
+  pub power : a .unit ≡ 128 ^ a .inside

@@ -9,7 +9,7 @@ use Rattle.op_batch.specs.Stores.{startsSet, flagSet, numberSet, countSet}
 use Rattle.accumulator.specs.declared.OpBatchAccumulator.{OpBatchAccumulator}
 
 abbrev pub newAcc : OpBatchAccumulator
-newAcc = record { cur = 0; next = 1; inside = 0; number = 0; place = 1; total = 0; tail = false }
+newAcc = record { cur = 0; next = 1; inside = 0; number = 0; unit = 1; total = 0; tail = false }
 
 abbrev pub fitsIn : ℕ → Bool → OpBatchAccumulator → Bool
 fitsIn w imm a = cond imm (cond (ltb (a .inside) 8) (ltb (a .next) w) (ltb (a .next + 1) w)) (cond (ltb (a .inside) 9) true (ltb (a .next) w))
@@ -26,18 +26,18 @@ closedRun b a xs = numberSet b (a .cur) (a .number) (flagSet b (a .cur) (padOf a
 
 -- and the group at next free opened
 unfoldable pub turnedAcc : OpBatchAccumulator → OpBatchAccumulator
-turnedAcc a = record { cur = a .next; next = a .next + 1; inside = 0; number = 0; place = 1; total = a .total + padOf a; tail = false }
+turnedAcc a = record { cur = a .next; next = a .next + 1; inside = 0; number = 0; unit = 1; total = a .total + padOf a; tail = false }
 
 -- an immediate takes next free
 unfoldable pub slottedAcc : OpBatchAccumulator → OpBatchAccumulator
-slottedAcc a = record { cur = a .cur; next = a .next + 1; inside = a .inside; number = a .number; place = a .place; total = a .total; tail = a .tail }
+slottedAcc a = record { cur = a .cur; next = a .next + 1; inside = a .inside; number = a .number; unit = a .unit; total = a .total; tail = a .tail }
 
 unfoldable pub slottedRun : ℕ → ℕ → OpBatchAccumulator → List ℕ → List ℕ
 slottedRun v b a xs = numberSet b (a .next) v xs
 
 unfoldable pub joinedAcc : ℕ → Bool → OpBatchAccumulator → OpBatchAccumulator
 joinedAcc c imm a =
-    record { cur = a .cur; next = a .next; inside = a .inside + 1; number = a .number + c * a .place; place = a .place * 128; total = a .total + 1; tail = imm }
+    record { cur = a .cur; next = a .next; inside = a .inside + 1; number = a .number + c * a .unit; unit = a .unit * 128; total = a .total + 1; tail = imm }
 
 abbrev pub crosses : Bool → OpBatchAccumulator → Bool
 crosses imm a = leb (cond imm 8 9) (a .inside)

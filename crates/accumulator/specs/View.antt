@@ -23,14 +23,14 @@ accOf t b =
       next = nextFree b;
       inside = length (b .current);
       number = codesNumber (b .current);
-      place = 128 ^ length (b .current);
+      unit = 128 ^ length (b .current);
       total = length (opsOf (b .closed)) + length (b .current);
       tail = endsIn t (b .current);
     }
 
--- the operations written so far
-unfoldable pub written : Batch → List Op
-written b = opsOf (b .closed) ++ b .current
+-- the operations opsSoFar so far
+unfoldable pub opsSoFar : Batch → List Op
+opsSoFar b = opsOf (b .closed) ++ b .current
 
 -- ---- its record
 

@@ -23,7 +23,7 @@ pub struct OpBatchAccumulator {
     pub inside: usize,
     pub number: u64,
     // what the next opcode counts there: 128 to the power of its position
-    pub place: u64,
+    pub unit: u64,
     // operations in the batch so far
     pub total: u8,
     // whether the last operation of the current group has an immediate
@@ -39,7 +39,7 @@ impl OpBatchAccumulator {
             next: 1,
             inside: 0,
             number: 0,
-            place: 1,
+            unit: 1,
             total: 0,
             tail: false,
         }
@@ -108,7 +108,7 @@ impl OpBatchAccumulator {
             next: self.next + 1,
             inside: 0,
             number: 0,
-            place: 1,
+            unit: 1,
             total,
             tail: false,
         }
@@ -143,7 +143,7 @@ impl OpBatchAccumulator {
             next: self.next,
             inside: self.inside + 1,
             number,
-            place: self.place * 128,
+            unit: self.unit * 128,
             total: self.total + 1,
             tail: imm,
         }
@@ -166,9 +166,9 @@ impl OpBatchAccumulator {
     fn number_with(self, code: u8) -> u64
         requires { ⌜ Good recordGroups self ⌝ }
         requires { ⌜ (code < 128) × (self .inside < 9) ⌝ }
-        ensures { λ r. ⌜ r ≡ self .number + code * self .place ⌝ }
+        ensures { λ r. ⌜ r ≡ self .number + code * self .unit ⌝ }
     {
-        self.number + word::wide(code) * self.place
+        self.number + word::wide(code) * self.unit
     }
 
     // Whether the current group cannot take the operation: no immediate is ninth.
@@ -206,7 +206,7 @@ impl OpBatchAccumulator {
             next: next + 1,
             inside: self.inside,
             number: self.number,
-            place: self.place,
+            unit: self.unit,
             total: self.total,
             tail: self.tail,
         }

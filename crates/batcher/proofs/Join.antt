@@ -19,7 +19,7 @@ use Rattle.accumulator.specs.Good.{recordGroups}
 use Rattle.accumulator.specs.Model.{fitsIn, crosses, slottedAcc, slottedRun, joinedAcc, readyAcc, readyRun, addedAcc, addedRun}
 use Rattle.batcher.specs.Model.{roomWork, roomRun, steppedWork, steppedRun, lastPlace, keptRun, lastImm, takenWork, Joins}
 use Rattle.batcher.specs.Going.{Going}
-use Rattle.batcher.proofs.Held.{held-kept, steppedRuns, going-turn}
+use Rattle.batcher.proofs.InHand.{held-kept, steppedRuns, going-turn}
 
 -- ---- what the tests of the fast path say
 
@@ -42,7 +42,7 @@ joins-small {w} {t} {c} {v} j = admitted t (op c v) (j .fine) .code
 -- the accumulator with an operation that has joined, and the slots that its immediate has taken
 abbrev hereAcc : ℕ → ℕ → OpBatchAccumulator → OpBatchAccumulator
 hereAcc c k a =
-    record { cur = a .cur; next = a .next + k; inside = a .inside + 1; number = a .number + c * a .place; place = a .place * 128; total = a .total + 1; tail = eqb k 1 }
+    record { cur = a .cur; next = a .next + k; inside = a .inside + 1; number = a .number + c * a .unit; unit = a .unit * 128; total = a .total + 1; tail = eqb k 1 }
 
 -- it fits, and crosses into no new group
 here-tests : (w k : ℕ) (a : OpBatchAccumulator) → a .next + k ≤ w → a .inside + k < 9 → k < 2 → (fitsIn w (eqb k 1) a ≡ true) × (crosses (eqb k 1) a ≡ false)
@@ -124,19 +124,19 @@ pub going-at : {w : ℕ} {e : Arena} {t xs ys : List ℕ} {i i′ : ℕ} {s s′
 going-at {w} {e} {t} {xs} {ys} {i} {i′} {s} {s′} {a} g p q = subst (λ (x : ℕ × Work). Going w e t xs ys (x .0) (x .1) a) (λ l. (sym p l, sym q l)) g
 
 module _ {w : ℕ} {e : Arena} {t xs ys : List ℕ} (s : Work) (i : ℕ) {a : Arena} where
-  pub going-none : Going w e t xs ys i s a → Going w e t xs ys (i + 0) (takenWork t xs s i 0 (s .acc .next) (s .acc .number) (s .acc .place)) a
+  pub going-none : Going w e t xs ys i s a → Going w e t xs ys (i + 0) (takenWork t xs s i 0 (s .acc .next) (s .acc .number) (s .acc .unit)) a
   going-none g =
       let inside = add-zero (s .acc .inside) in
       let total = add-zero (s .acc .total) in
       going-at g (add-zero i)
-      (λ l. record { acc = record { cur = s .acc .cur; next = s .acc .next; inside = inside l; number = s .acc .number; place = s .acc .place; total = total l; tail = s .acc .tail }; base = s .base; batches = s .batches })
+      (λ l. record { acc = record { cur = s .acc .cur; next = s .acc .next; inside = inside l; number = s .acc .number; unit = s .acc .unit; total = total l; tail = s .acc .tail }; base = s .base; batches = s .batches })
 
-  pub going-more : {left k : ℕ} {rs : List ℕ} (n next number place : ℕ) → Going w e t xs ys (i + n) (takenWork t xs s i n next number place) a → 2 ≤ w → w ≤ recordGroups → length t ≡ 128
+  pub going-more : {left k : ℕ} {rs : List ℕ} (n next number unit : ℕ) → Going w e t xs ys (i + n) (takenWork t xs s i n next number unit) a → 2 ≤ w → w ≤ recordGroups → length t ≡ 128
       → Joins w t (getD xs (i + n) 0) (getD ys (i + n) 0) next left k → k < 2 → s .acc .inside + n + left ≤ 9 → i + n < length xs → i + n < length ys
       → rs ≡ keptRun (getD ys (i + n) 0) (s .batches) next (a .records)
-      → Going w e t xs ys (i + (n + 1)) (takenWork t xs s i (n + 1) (next + k) (number + getD xs (i + n) 0 * place) (place * 128))
+      → Going w e t xs ys (i + (n + 1)) (takenWork t xs s i (n + 1) (next + k) (number + getD xs (i + n) 0 * unit) (unit * 128))
       (arena (set (a .codes) (s .base + s .acc .total + n) (getD xs (i + n) 0)) (set (a .values) (s .base + s .acc .total + n) (getD ys (i + n) 0)) rs)
-  going-more {left} {k} {rs} n next number place g two wide ht j b r hx hy q =
+  going-more {left} {k} {rs} n next number unit g two wide ht j b r hx hy q =
       let c = getD xs (i + n) 0 in
       let v = getD ys (i + n) 0 in
       let up : i + (n + 1) ≡ i + n + 1 = omega arith in
@@ -147,6 +147,6 @@ module _ {w : ℕ} {e : Arena} {t xs ys : List ℕ} (s : Work) (i : ℕ) {a : Ar
       let tail : lastImm t xs (s .acc .tail) i (n + 1) ≡ eqb k 1 = rw (ne-eqb (n + 1) 0 (λ z. omega arith), last, j .kind) in
       going-at
       (going-join g two wide ht j b r hx hy
-      (λ l. record { acc = record { cur = s .acc .cur; next = next + k; inside = inside l; number = number + c * place; place = place * 128; total = total l; tail = tail l }; base = s .base; batches = s .batches })
+      (λ l. record { acc = record { cur = s .acc .cur; next = next + k; inside = inside l; number = number + c * unit; unit = unit * 128; total = total l; tail = tail l }; base = s .base; batches = s .batches })
       (λ l. arena (set (a .codes) (at l) c) (set (a .values) (at l) v) (q l)))
       up refl

@@ -1,3 +1,3 @@
 pub mod Keeps
-pub mod Held
+pub mod InHand
 pub mod Join

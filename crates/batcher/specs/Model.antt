@@ -46,9 +46,9 @@ lastImm t cs before i n = cond (eqb n 0) before (eqb (getD t (getD cs (i + n - 1
 
 -- the work once n operations have joined from the i-th on
 abbrev pub takenWork : List ℕ → List ℕ → Work → ℕ → ℕ → ℕ → ℕ → ℕ → Work
-takenWork t cs s i n next number place =
+takenWork t cs s i n next number unit =
     record {
-      acc = record { cur = s .acc .cur; next = next; inside = s .acc .inside + n; number = number; place = place; total = s .acc .total + n; tail = lastImm t cs (s .acc .tail) i n };
+      acc = record { cur = s .acc .cur; next = next; inside = s .acc .inside + n; number = number; unit = unit; total = s .acc .total + n; tail = lastImm t cs (s .acc .tail) i n };
       base = s .base;
       batches = s .batches;
     }

@@ -183,11 +183,11 @@ fn gather(
     n: usize,
     next: usize,
     number: u64,
-    place: u64,
+    unit: u64,
 ) -> Taken
     requires { ⌜ (length (now table) ≡ 128) × (i + n ≤ length (now codes)) × (0 < n → getD (now codes) (i + n - 1) 0 < 128) ⌝ }
-    requires { ⌜ Good recordGroups (takenWork (now table) (now codes) work i n next number place .acc) ⌝ }
-    ensures { λ r. ⌜ (r .work ≡ takenWork (now (table .entry)) (now (codes .entry)) work i n next number place) × (r .upto ≡ i + n) ⌝ }
+    requires { ⌜ Good recordGroups (takenWork (now table) (now codes) work i n next number unit .acc) ⌝ }
+    ensures { λ r. ⌜ (r .work ≡ takenWork (now (table .entry)) (now (codes .entry)) work i n next number unit) × (r .upto ≡ i + n) ⌝ }
 {
     let a = work.acc;
     let tail = last_imm(table, codes, a.tail, i, n);
@@ -196,7 +196,7 @@ fn gather(
         next,
         inside: a.inside + n,
         number,
-        place,
+        unit,
         total: a.total + n as u8,
         tail,
     };
@@ -238,24 +238,24 @@ fn join_ops(
     let end = most(a.inside, i, codes.len());
     let mut next = a.next;
     let mut number = a.number;
-    let mut place = a.place;
+    let mut unit = a.unit;
     let mut n: usize = 0;
     while n < end {
         let code = codes[i + n];
         let v = values[i + n];
         let k = slots(width, table, code, v, next, end - n);
         if 1 < k {
-            return gather(work, table, codes, i, n, next, number, place);
+            return gather(work, table, codes, i, n, next, number, unit);
         }
         keep(v, b, next, records);
         out_codes[from + n] = code;
         out_values[from + n] = v;
-        number = number + word::wide(code) * place;
-        place = place * 128;
+        number = number + word::wide(code) * unit;
+        unit = unit * 128;
         next = next + k;
         n += 1;
     }
-    gather(work, table, codes, i, n, next, number, place)
+    gather(work, table, codes, i, n, next, number, unit)
 }
 
 // How much a list comes to; or the number of refusal and the place of its first operation that is not admissible.

@@ -71,8 +71,8 @@ pub fn structure(codes: &[u8], values: &[u64], records: &[u8]) -> Verdict
 
 // ---- padding
 
-// One batch: a flagged group is under the count, holds operations and ends in opcode 0.
-fn batch_padding(codes: &[u8], values: &[u64], records: &[u8], b: usize, from: usize) -> u8
+// One batch: a flagged group is under the count, holds operations and ends in opcode 0. The decoder asks it of each record that it has made.
+pub fn batch_padding(codes: &[u8], values: &[u64], records: &[u8], b: usize, from: usize) -> u8
     requires { ⌜ Lies (arena (now codes) (now values) (now records)) b from ⌝ }
     ensures { λ r. ⌜ r ≡ paddingFault (heldAt (arena (now (codes .entry)) (now (values .entry)) (now (records .entry))) b from) ⌝ }
 {

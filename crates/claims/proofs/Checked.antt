@@ -17,7 +17,7 @@ use Rattle.rules.specs.Functions.{Arena, blockIn, within, paddingChecked, commi
 use Rattle.rules.proofs.Answer.{clash, passed, first-append}
 use Rattle.rules.proofs.Operations.{true-left, true-right, length-operations}
 use Rattle.rules.proofs.Slots.{total-split, or-first}
-use Rattle.claims.proofs.Again.{start-at, take-total}
+use Rattle.claims.proofs.ReadThenChecked.{start-at, take-total}
 use Rattle.rules.proofs.Sizes.{length-bytesAt, length-wordsAt}
 use Rattle.claims.proofs.Lists.{all-map}
 

@@ -7,12 +7,12 @@ use Rattle.claims.proofs.Right.{Width, width-8, width-4}
 use Rattle.claims.proofs.Ended.{ended-count}
 use Rattle.claims.proofs.Sizes.{block-length}
 use Rattle.claims.proofs.Arena.{nine-and-eight}
-use Rattle.claims.proofs.Again.{encodable}
+use Rattle.claims.proofs.ReadThenChecked.{encodable}
 use Rattle.claims.proofs.Demand1.{demand1}
 use Rattle.claims.proofs.Demand3.{takes, demand3, again, once}
 use Rattle.claims.proofs.Passes.{build-passes, decode-passes}
 use Rattle.claims.proofs.Checked.{shaped-in}
-use Rattle.claims.proofs.Settled.{returns, needed}
+use Rattle.claims.proofs.CheckedThenReturned.{returns, needed}
 use Rattle.claims.proofs.Finished.{finished}
 use Rattle.claims.proofs.OneList.{one-list}
 

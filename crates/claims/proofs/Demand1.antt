@@ -22,7 +22,7 @@ use Rattle.rules.specs.Lookups.{groupOf, nextGroup}
 use Rattle.rules.specs.Functions.{Arena, arena, blockIn, within, filled, roomFor, built, encoded, written, decoded, most, headed, countHere, opHere, structureChecked, paddingChecked, commitmentChecked, tableOf, tableLeft, groupLookup, nextLookup}
 use Rattle.rules.proofs.Answer.{first-append}
 use Rattle.rules.proofs.Runs.{zeros-fitted}
-use Rattle.claims.proofs.Again.{count-limit, batchCount-limit}
+use Rattle.claims.proofs.ReadThenChecked.{count-limit, batchCount-limit}
 use Rattle.claims.specs.Demand1.{Refusal, OneOf, Replies, zeros, ops, batches, buildRefusals, encodeRefusals, decodeRefusals, headRefusals, told, toldBatches, countRefusals, opRefusals, structureRefusals, paddingRefusals, commitmentRefusals, tableRefusals, lookupRefusals, Demand1}
 
 -- ---- answers whose results have one property, and whose refusals another

@@ -30,10 +30,10 @@ use Rattle.claims.proofs.Right.{Width, Whole, whole-batches, right-batc
 use Rattle.claims.proofs.Sizes.{block-size}
 use Rattle.claims.proofs.Left.{left}
 use Rattle.claims.proofs.Stands.{Taken}
-use Rattle.claims.proofs.Once.{block-taken}
+use Rattle.claims.proofs.ReadThenWritten.{block-taken}
 use Rattle.claims.proofs.Arena.{block-in, lent-within, roomed, front-lent}
-use Rattle.claims.proofs.Again.{Encodable, encodable}
-use Rattle.claims.proofs.Back.{Writable, block-back}
+use Rattle.claims.proofs.ReadThenChecked.{Encodable, encodable}
+use Rattle.claims.proofs.WrittenThenRead.{Writable, block-back}
 use Rattle.rules.proofs.Sizes.{length-codes, length-values}
 
 noop-admissible : (t : List ℕ) → goodTable t ≡ true → Admissible t noop
@@ -186,8 +186,8 @@ written-in w t a size at inside table right sum allowed l h =
       le-ltb size (at + length (blockBytes t b)) h,
     )
 
-pub written : (w : ℕ) (t : List ℕ) (blk : Block) (size at : ℕ) → Encodable w t blk → size ≤ 1048576 → at + length (blockBytes t blk) ≤ size → encoded w t (lent blk) size at ≡ good (blockBytes t blk)
-written w t blk size at e l h =
+pub writes-it : (w : ℕ) (t : List ℕ) (blk : Block) (size at : ℕ) → Encodable w t blk → size ≤ 1048576 → at + length (blockBytes t blk) ≤ size → encoded w t (lent blk) size at ≡ good (blockBytes t blk)
+writes-it w t blk size at e l h =
     let here = block-in blk (e .sized) in
     rw here at (written-in w t (lent blk) size at (lent-within blk (e .sized) (e .few) (e .less)) (e .table) (rw here (e .right)) (rw here (e .sum)) (rw here (e .allowed)) l (rw here h))
 
@@ -265,7 +265,7 @@ module _ (w : ℕ) (width : Width w) (t : List ℕ) (xs : List Op) (h : Premises
         builds = builds;
         leaves = λ out e. front-lent out block (takes .sized) e;
         left = left w width t (h .table) xs;
-        writes = λ size at l k. written w t block size at takes l k;
+        writes = λ size at l k. writes-it w t block size at takes l k;
         reads = λ p q room l e. let r = room-parts room e in read-within p q room l (r .0) (r .1) (r .2);
         few = few-block;
         short = short;
@@ -292,7 +292,7 @@ module _ (w : ℕ) (t : List ℕ) where
   -- whatever decoding takes, encoding writes byte for byte what stands there
   pub again : (s : List ℕ) → Bytes s → (at : ℕ) (room : Room) (b : Block) (next : ℕ) → decoded w t s at room ≡ found b next → (size to : ℕ) → size ≤ 1048576 → to + length (blockBytes t b) ≤ size
       → (encoded w t (lent b) size to ≡ good (blockBytes t b)) × (take (next - at) (drop at s) ≡ blockBytes t b)
-  again s bytes at room b next h size to l k = (written w t b size to (encodable w t s at room b next h) l k, stood s bytes at room b next h)
+  again s bytes at room b next h size to l k = (writes-it w t b size to (encodable w t s at room b next h) l k, stood s bytes at room b next h)
 
   -- two byte strings that are taken for one block are the same
   pub once : (s s′ : List ℕ) → Bytes s → Bytes s′ → (at at′ : ℕ) (room room′ : Room) (b : Block) (next next′ : ℕ)

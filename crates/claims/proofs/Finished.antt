@@ -20,10 +20,10 @@ use Rattle.claims.proofs.Lists.{split}
 use Rattle.claims.proofs.Stands.{Taken, taken-fits}
 use Rattle.claims.proofs.Found.{passed}
 use Rattle.claims.proofs.Arena.{block-in}
-use Rattle.claims.proofs.Once.{block-taken}
-use Rattle.claims.proofs.Again.{Encodable, encodable, had-room}
+use Rattle.claims.proofs.ReadThenWritten.{block-taken}
+use Rattle.claims.proofs.ReadThenChecked.{Encodable, encodable, had-room}
 use Rattle.claims.proofs.Passes.{decode-passes}
-use Rattle.claims.proofs.Settled.{returns}
+use Rattle.claims.proofs.CheckedThenReturned.{returns}
 
 most-fits : (b : Block) → length (b .ops) ≤ 65535 → length (b .records) ≤ 16384 → roomFor b most ≡ true
 unfolding roomFor

@@ -21,8 +21,8 @@ use Rattle.claims.proofs.Shape.{rawIn, raw, raws, RightGroup, Follow, R
 use Rattle.claims.specs.Left.{unmarked, Counts, endsInImmediate, LeftGroup, Flagged, plain, padding, AllFlagged, together, allHeld, LeftBatch, Left}
 use Rattle.claims.proofs.Batching.{list-back}
 use Rattle.claims.proofs.Right.{Width, right-batches}
-use Rattle.claims.proofs.Back.{differences-starts, fitted-is, part-at, total-sizes}
-use Rattle.claims.proofs.Again.{start-at}
+use Rattle.claims.proofs.WrittenThenRead.{differences-starts, fitted-is, part-at, total-sizes}
+use Rattle.claims.proofs.ReadThenChecked.{start-at}
 
 -- ---- marks
 

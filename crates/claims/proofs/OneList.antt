@@ -18,8 +18,8 @@ use Rattle.rules.proofs.Operations.{Admissible, to-admissible, true-left, true-
 use Rattle.rules.proofs.Sizes.{length-codes}
 use Rattle.rules.proofs.Slots.{or-first, part-some}
 use Rattle.claims.specs.OneList.{SameOp, SameOps, OneList}
-use Rattle.claims.proofs.Bytes.{digits-number}
-use Rattle.claims.proofs.Again.{codes-below, part-allowed}
+use Rattle.claims.proofs.ItemsWrittenThenRead.{digits-number}
+use Rattle.claims.proofs.ReadThenChecked.{codes-below, part-allowed}
 use Rattle.claims.proofs.Checked.{group-right, made, facts, shaped-in}
 
 false-true : _≡_ {A = Bool} false true → ⊥

@@ -23,8 +23,8 @@ use Rattle.claims.specs.Passes.{Passes}
 use Rattle.claims.proofs.Right.{Width}
 use Rattle.claims.proofs.Found.{clash, passed, came, Found, stages}
 use Rattle.claims.proofs.Arena.{block-in, lent-within}
-use Rattle.claims.proofs.Back.{differences-starts, fitted-is}
-use Rattle.claims.proofs.Again.{Encodable, encodable, Sizes, Bits, nibbles-made, flags-made, ops-allowed, batch-made, laid}
+use Rattle.claims.proofs.WrittenThenRead.{differences-starts, fitted-is}
+use Rattle.claims.proofs.ReadThenChecked.{Encodable, encodable, Sizes, Bits, nibbles-made, flags-made, ops-allowed, batch-made, laid}
 use Rattle.claims.proofs.Demand3.{none-first, ops-pass, structure-passes, demand3}
 use Rattle.claims.proofs.Lists.{all-map}
 

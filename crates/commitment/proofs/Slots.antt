@@ -56,19 +56,19 @@ module _ (cs vs : List ℕ) (e : length cs ≡ length vs) (i to : ℕ) (h : i < 
 sum-done : (n p s i to : ℕ) (xs : List Op) → n + p * codesNumber (span xs i to) ≡ s → to ≤ i → n ≡ s
 sum-done n p s i to xs e h = let z : n ≡ n + p * 0 = omega arith in z ∙ ap (λ (k : ℕ). n + p * k) (sym (number-none i to xs h)) ∙ e
 
-pub place-first : (from : ℕ) → 1 ≡ 128 ^ (from - from)
-place-first from = let z : from - from ≡ 0 = omega arith in rw (z, pow-zero)
+pub unit-first : (from : ℕ) → 1 ≡ 128 ^ (from - from)
+unit-first from = let z : from - from ≡ 0 = omega arith in rw (z, pow-zero)
 
-place-small : (p k : ℕ) → p ≡ 128 ^ k → k ≤ 8 → p ≤ 72057594037927936
-place-small p k e h = omega (arith, pow-le-pow-right {n = 128} (omega arith) {i = k} {j = 8} h)
+unit-small : (p k : ℕ) → p ≡ 128 ^ k → k ≤ 8 → p ≤ 72057594037927936
+unit-small p k e h = omega (arith, pow-le-pow-right {n = 128} (omega arith) {i = k} {j = 8} h)
 
 product-small : (c p : ℕ) → c < 128 → c * p ≤ 127 * p
 product-small c p h = mul-le-mul-right p (omega arith)
 
-place-next : (p i from : ℕ) → p ≡ 128 ^ (i - from) → from ≤ i → p * 128 ≡ 128 ^ (i + 1 - from)
-place-next p i from e h = let d : i + 1 - from ≡ suc (i - from) = omega arith in rw (d, pow-suc 128 (i - from), e)
+unit-next : (p i from : ℕ) → p ≡ 128 ^ (i - from) → from ≤ i → p * 128 ≡ 128 ^ (i + 1 - from)
+unit-next p i from e h = let d : i + 1 - from ≡ suc (i - from) = omega arith in rw (d, pow-suc 128 (i - from), e)
 
--- ---- the walk came to the i-th operation: n is the number so far, p the next opcode's place value, and its immediate would belong in the j-th group
+-- ---- the walk came to the i-th operation: n is the number so far, p the next opcode's unit, and its immediate would belong in the j-th group
 
 pub record Walking (t cs vs ns : List ℕ) (g from to n p j i : ℕ) : Type 0 where
   pub table : length t ≡ 128
@@ -77,7 +77,7 @@ pub record Walking (t cs vs ns : List ℕ) (g from to n p j i : ℕ) : Type 0 wh
   pub few : to ≤ from + 9
   pub here : (from ≤ i) × (i ≤ to)
   pub low : j ≤ 8
-  pub place : p ≡ 128 ^ (i - from)
+  pub unit : p ≡ 128 ^ (i - from)
   pub below : n < p
   pub number : n + p * codesNumber (span (operations cs vs) i to) ≡ codesNumber (span (operations cs vs) from to)
   pub slots : slotsAfter t (span (operations cs vs) i to) ns j ≡ slotsAfter t (span (operations cs vs) from to) ns g
@@ -89,7 +89,7 @@ module _ (t cs vs ns : List ℕ) (g from to n p j i : ℕ) (w : Walking t cs vs 
   module _ (h : i < to) where
     -- no product or sum wraps
     pub walk-room : (c : ℕ) → c < 128 → (p ≤ 72057594037927936) × (c * p ≤ 127 * p)
-    walk-room c l = (place-small p (i - from) (w .place) (omega (arith, w .few, w .here)), product-small c p l)
+    walk-room c l = (unit-small p (i - from) (w .unit) (omega (arith, w .few, w .here)), product-small c p l)
 
     stopped : 8 < opAfter t (op (getD cs i 0) (getD vs i 0)) ns j → 9 ≡ slotsAfter t (span (operations cs vs) from to) ns g
     stopped l = sym (slots-stop t cs vs ns (w .equal) i to j h (w .inside) l) ∙ w .slots
@@ -110,7 +110,7 @@ module _ (t cs vs ns : List ℕ) (g from to n p j i : ℕ) (w : Walking t cs vs 
             few = w .few;
             here = omega (arith, w .here);
             low = b;
-            place = place-next p i from (w .place) (w .here .0);
+            unit = unit-next p i from (w .unit) (w .here .0);
             below = omega (arith, w .below, product-small c p (omega arith));
             number = ap (λ (m : ℕ). n + m * p + p * 128 * codesNumber (span (operations cs vs) (i + 1) to)) d ∙ sum-turn cs vs (w .equal) i to h (w .inside) n p ∙ w .number;
             slots = slots-turn t cs vs ns (w .equal) i to j h (w .inside) k (e ∙ sym (kind-after t ns (getD cs i 0) (getD vs i 0) j (w .table) l)) b ∙ w .slots;

@@ -276,7 +276,7 @@ fn walk_group(
     ensures { λ r. ⌜ (r .next ≤ 8 → r .number ≡ codesNumber (span (operations (now (codes .entry)) (now (values .entry))) from to)) ⌝ }
 {
     let mut number: u64 = 0;
-    let mut place: u64 = 1;
+    let mut unit: u64 = 1;
     let mut next = g;
     let mut i = from;
     while i < to {
@@ -288,8 +288,8 @@ fn walk_group(
         if 8 < next {
             return Walked { number, next: 9 };
         }
-        number += word::wide(code) * place;
-        place *= 128;
+        number += word::wide(code) * unit;
+        unit *= 128;
         i += 1;
     }
     Walked { number, next }

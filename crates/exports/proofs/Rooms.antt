@@ -17,8 +17,8 @@ use Rattle.rules.specs.Block.{Room, Head, headAt, layoutAt, batchesBy, blockAt}
 use Rattle.rules.specs.Functions.{Arena, arena, roomIn, filled, decoded, leaves}
 use Rattle.rules.proofs.Operations.{true-right}
 use Rattle.rules.proofs.Runs.{fitted-zeros}
-use Rattle.claims.proofs.Back.{fitted-is}
-use Rattle.claims.proofs.Again.{count-limit, ops-allowed}
+use Rattle.claims.proofs.WrittenThenRead.{fitted-is}
+use Rattle.claims.proofs.ReadThenChecked.{count-limit, ops-allowed}
 use Rattle.wire.specs.Stages.{IfFound}
 use Rattle.wire.proofs.Stages.{if-then, if-refuse, held}
 use Rattle.rules.proofs.Sizes.{length-values}

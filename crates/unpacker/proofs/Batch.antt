@@ -4,7 +4,7 @@ use mathlib.Core.Bool.{false, true}
 use mathlib.Core.List.{List, [], _∷_}
 use Prim.Native.Nat.{ℕ, zero, suc, _+_, _/_, _%_, _≤_, _<_}
 use native.Mathlib.Omega.{arith}
-use borrow.Author.Tests.{lt-ltb, le-ltb, leb-true}
+use borrow.Author.Tests.{lt-ltb, le-ltb}
 use lib.ListN.{length, take, drop}
 use lib.Dec.{leb}
 use Rattle.rules.specs.Lists.{fitted, total, every}
@@ -22,19 +22,15 @@ use Rattle.rules.proofs.Operations.{true-left, true-right, true-both}
 use Rattle.op_batch.specs.Stores.{recordSet, packed}
 use Rattle.op_batch.proofs.Stores.{packed-whole}
 use Rattle.rules.proofs.Records.{record-length}
+use Rattle.claims.proofs.ReadThenChecked.{zeros-total}
 
 -- ---- sizes of which those from the width on are 0
 
-take-digits : (j k v : ℕ) → j ≤ k → take j (digits 16 k v) ≡ digits 16 j v
+pub take-digits : (j k v : ℕ) → j ≤ k → take j (digits 16 k v) ≡ digits 16 j v
 unfolding digits
 take-digits zero k v h = refl
 take-digits (suc j) zero v h = absurd (omega arith)
 take-digits (suc j) (suc k) v h = ap (λ (l : List ℕ). v % 16 ∷ l) (take-digits j k (v / 16) (omega arith))
-
-zeros : (ns : List ℕ) → upTo 0 ns ≡ true → total ns ≡ 0
-unfolding every total
-zeros [] h = refl
-zeros (n ∷ ns) h = omega (arith, leb-true n 0 (true-left (leb n 0) (upTo 0 ns) h), zeros ns (true-right (leb n 0) (upTo 0 ns) h))
 
 up-to-take : (j m : ℕ) (ns : List ℕ) → upTo m ns ≡ true → upTo m (take j ns) ≡ true
 unfolding every
@@ -44,7 +40,7 @@ up-to-take (suc j) m (n ∷ ns) h = true-both (leb n m) (upTo m (take j ns)) (tr
 
 module _ (w v : ℕ) (m : w ≤ 8) where
   pub total-under : upTo 0 (drop w (digits 16 8 v)) ≡ true → total (digits 16 w v) ≡ total (digits 16 8 v)
-  total-under z = omega (arith, zeros (drop w (digits 16 8 v)) z, total-split w (digits 16 8 v), ap total (take-digits w 8 v m))
+  total-under z = omega (arith, zeros-total (drop w (digits 16 8 v)) z, total-split w (digits 16 8 v), ap total (take-digits w 8 v m))
 
   pub small-under : upTo 9 (digits 16 8 v) ≡ true → upTo 9 (digits 16 w v) ≡ true
   small-under s = rw (← take-digits w 8 v m) (up-to-take w 9 (digits 16 8 v) s)
@@ -61,7 +57,7 @@ module _ (w : ℕ) (t : List ℕ) (xs : List Op) (at b v f : ℕ) where
 
   module _ (m : w ≤ 8) (z : upTo 0 (drop w (digits 16 8 v)) ≡ true) (h : at + total (digits 16 8 v) ≤ length xs) where
     walked : batch ≡ batchBy w t xs at b (digits 16 8 v) (digits 2 8 f)
-    walked = batch-is w t xs at b (digits 16 8 v) (digits 2 8 f) (zeros (drop w (digits 16 8 v)) z)
+    walked = batch-is w t xs at b (digits 16 8 v) (digits 2 8 f) (zeros-total (drop w (digits 16 8 v)) z)
 
     pub way-slots : (n p : ℕ) → slots t b (digits 16 w v) [] xs at ≡ refused n p → batch ≡ refused n p
     unfolding batchBy

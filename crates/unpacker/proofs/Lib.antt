@@ -1,4 +1,4 @@
 pub mod Operations
 pub mod Groups
-pub mod Padding
 pub mod Batch
+pub mod Padding

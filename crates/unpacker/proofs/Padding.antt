@@ -1,94 +1,81 @@
--- A walk over the flags of a batch. Assumes nothing.
-use mathlib.Core.Path.{_≡_, refl, ap}
-use mathlib.Core.Bool.{Bool, true, false, _&&_}
-use mathlib.Core.List.{List, [], _∷_}
-use Prim.Native.Nat.{ℕ, zero, suc, _+_, _-_, _/_, _%_, _≤_, _<_}
+-- The record of a batch as it lies in the run, and what the padding walk is asked of it and says. Assumes nothing.
+use mathlib.Core.Path.{_≡_, refl, sym, ap, _∙_}
+use mathlib.Core.Bool.{Bool, true, false, cond}
+use mathlib.Core.List.{List, []}
+use Prim.Native.Nat.{ℕ, suc, _+_, _*_, _≤_}
 use native.Mathlib.Omega.{arith}
-use borrow.Author.Tests.{ne-eqb}
-use lib.ListN.{length, getD, take, drop, length-drop}
-use lib.Seq.{getD-drop}
-use lib.Dec.{eqb}
+use lib.ListN.{length, getD, take, drop}
+use Rattle.rules.specs.Lists.{total}
 use Rattle.rules.specs.Digits.{digits}
-use Rattle.rules.specs.Operations.{Op, codes}
-use Rattle.rules.specs.Record.{part, cut}
-use Rattle.rules.specs.Checks.{endsInNoop, paddingRight}
-use Rattle.rules.proofs.Digits.{digits-turn, digits-end}
-use Rattle.rules.proofs.Sizes.{length-codes}
+use Rattle.rules.specs.Answer.{found}
+use Rattle.rules.specs.Operations.{operations}
+use Rattle.rules.specs.Record.{Record, NineAndEight, recordBy, recordSize, recordAt, cut}
+use Rattle.rules.specs.Checks.{recordRight, paddingRight, paddingFault}
+use Rattle.rules.specs.Functions.{arena}
+use Rattle.rules.proofs.Digits.{length-digits}
+use Rattle.rules.proofs.Runs.{fitted-length}
+use Rattle.rules.proofs.Sizes.{length-starts}
+use Rattle.rules.proofs.Slots.{slots}
+use Rattle.rules.proofs.Records.{Alike}
+use Rattle.claims.proofs.ReadThenChecked.{Laid, laid, laid-front, Sizes, record-right, ninth-is, bits-right, zeros-total, none-over}
+use Rattle.claims.proofs.WrittenThenRead.{differences-starts}
+use Rattle.op_batch.specs.Stores.{recordSet}
+use Rattle.op_batch.proofs.Stores.{stored-length, parts-after}
+use Rattle.checks.specs.Batch.{heldAt, Lies}
+use Rattle.unpacker.specs.Groups.{RightSizes}
+use Rattle.unpacker.proofs.Batch.{made, take-digits}
 
--- ---- the last operation of a group
+-- structure and padding do not look at numbers
+right-alike : (w : ℕ) (x r : Record) → Alike x r → recordRight w x ≡ recordRight w r
+unfolding recordRight
+right-alike w x r a = rw (a .starts, a .flags, a .count)
 
-last : (xs : List Op) (n : ℕ) → n < length xs → endsInNoop (take (suc n) xs) ≡ eqb (getD (codes xs) n 0) 0
-unfolding endsInNoop codes
-last [] n h = absurd (omega arith)
-last (x ∷ xs) zero h = refl
-last (x ∷ []) (suc n) h = absurd (omega arith)
-last (x ∷ y ∷ xs) (suc n) h = last (y ∷ xs) n (omega arith)
+module _ (w : ℕ) (t cs vals : List ℕ) (at b v f : ℕ) (m : w ≤ 8) (z : RightSizes w v) (vs : List ℕ) (end : ℕ)
+    (e : slots t b (digits 16 w v) [] (operations cs vals) at ≡ found vs end) (few : length vs ≤ w) (out run : List ℕ)
+    (o : out ≡ recordSet b (made v f vs) run) (room : recordSize * b + recordSize ≤ length run) where
+  abbrev ns : List ℕ
+  ns = digits 16 8 v
 
-codes-drop : (at : ℕ) (xs : List Op) → codes (drop at xs) ≡ drop at (codes xs)
-unfolding codes
-codes-drop zero xs = refl
-codes-drop (suc at) [] = refl
-codes-drop (suc at) (x ∷ xs) = codes-drop at xs
+  whole : NineAndEight (made v f vs)
+  unfolding recordBy
+  whole = record { starts = length-starts 0 ns ∙ ap suc (length-digits 16 8 v); flags = length-digits 2 8 f; numbers = fitted-length 8 vs }
 
-pub ends-none : (xs : List Op) (n at : ℕ) → n ≡ 0 → endsInNoop (part n xs at) ≡ false
-unfolding endsInNoop
-ends-none xs n at h = rw h
+  alike : Alike (recordAt out b) (made v f vs)
+  alike = rw o (parts-after b (made v f vs) run whole room)
 
-pub ends-last : (xs : List Op) (cs : List ℕ) (n at : ℕ) → codes xs ≡ cs → (n ≡ 0 → ⊥) → at + n ≤ length cs → endsInNoop (part n xs at) ≡ eqb (getD cs (at + n - 1) 0) 0
-ends-last xs cs zero at e h k = absurd (h refl)
-ends-last xs cs (suc n) at e h k =
-    let d : at + suc n - 1 ≡ at + n = omega arith in
-    rw (last (drop at xs) n (omega (arith, length-drop at xs, length-codes xs, ap length e)), codes-drop at xs, getD-drop at (codes xs) n 0, d, e)
+  sizes : Sizes w ns
+  sizes = record { high = zeros-total (drop w ns) (z .1); many = length-digits 16 8 v; small = none-over ns (z .0) }
 
--- ---- one flag
+  lain : Laid ns at vs end
+  lain = laid-front w ns at vs end (sizes .high) (laid t b (take w ns) [] (operations cs vals) at vs end (rw (take-digits w 8 v m) e))
 
-flag-clear : (m : ℕ) (g : List Op) (gs : List (List Op)) (fs : List ℕ) → paddingRight (take m (g ∷ gs)) (0 ∷ fs) ≡ paddingRight (take (m - 1) gs) fs
-unfolding paddingRight
-flag-clear zero g gs fs = refl
-flag-clear (suc m) g gs fs = let e : suc m - 1 ≡ m = omega arith in rw e
+  pub lies : length cs ≡ length vals → at + total ns ≤ length cs → Lies (arena cs vals out) b at
+  unfolding recordBy
+  lies equal inside =
+      record {
+        equal = equal;
+        whole = omega (arith, ap length o ∙ stored-length b (made v f vs) run);
+        fits = record { width = w; room = m; right = right-alike w (recordAt out b) (made v f vs) alike ∙ record-right w ns (digits 2 8 f) vs at end sizes (bits-right 8 f) lain few };
+        inside = omega (arith, ap (λ (l : List ℕ). getD l 8 0) (alike .starts), ninth-is w ns (digits 2 8 f) vs sizes);
+      }
 
-flag-set : (m f : ℕ) (g : List Op) (gs : List (List Op)) (fs : List ℕ) (b : Bool) → 0 < m → (f ≡ 0 → ⊥) → endsInNoop g ≡ b
-    → paddingRight (take m (g ∷ gs)) (f ∷ fs) ≡ b && paddingRight (take (m - 1) gs) fs
-unfolding paddingRight
-flag-set zero f g gs fs b l h e = absurd (omega arith)
-flag-set (suc m) f g gs fs b l h e = let d : suc m - 1 ≡ m = omega arith in rw (d, ne-eqb f 0 h, e)
+  abbrev pub right : Bool
+  right = paddingRight (take (length vs) (cut ns (operations cs vals) at)) (digits 2 8 f)
 
-flag-past : (m f : ℕ) (gs : List (List Op)) (fs : List ℕ) → m ≡ 0 → (f ≡ 0 → ⊥) → paddingRight (take m gs) (f ∷ fs) ≡ false
-unfolding paddingRight
-flag-past m f gs fs z h = rw (z, ne-eqb f 0 h)
+  fault : paddingFault (heldAt (arena cs vals out) b at) ≡ cond right 0 10
+  unfolding paddingFault recordBy
+  fault = rw (alike .starts, alike .flags, alike .count, differences-starts 0 ns)
 
--- ---- the walk
+  pub wrong : (k : ℕ) → k ≡ paddingFault (heldAt (arena cs vals out) b at) → (k ≡ 0 → ⊥) → (right ≡ false) × (k ≡ 10)
+  wrong k h n = go right (h ∙ fault)
+    where
+      go : (x : Bool) → k ≡ cond x 0 10 → (x ≡ false) × (k ≡ 10)
+      go true g = absurd (n g)
+      go false g = (refl, g)
 
-module _ (xs : List Op) (count : ℕ) where
-  -- whether the flags from group g on are right
-  abbrev pub rest : ℕ → ℕ → ℕ → ℕ → Bool
-  rest g left bits at = paddingRight (take (count - g) (cut (digits 16 (8 - g) left) xs at)) (digits 2 (8 - g) bits)
-
-  module _ (g left bits at : ℕ) where
-    abbrev pub next : Bool
-    next = rest (g + 1) (left / 16) (bits / 2) (at + left % 16)
-
-    pub turn-clear : g < 8 → bits % 2 ≡ 0 → rest g left bits at ≡ next
-    unfolding cut
-    turn-clear h e =
-        let d : count - g - 1 ≡ count - (g + 1) = omega arith in
-        rw (digits-turn 16 8 g left h, digits-turn 2 8 g bits h, e, ← d) (flag-clear (count - g) (part (left % 16) xs at) (cut (digits 16 (8 - (g + 1)) (left / 16)) xs (at + left % 16)) (digits 2 (8 - (g + 1)) (bits / 2)))
-
-    set-one : (b : Bool) → g < 8 → g < count → (bits % 2 ≡ 0 → ⊥) → endsInNoop (part (left % 16) xs at) ≡ b → rest g left bits at ≡ b && next
-    unfolding cut
-    set-one b h l e f =
-        let d : count - g - 1 ≡ count - (g + 1) = omega arith in
-        rw (digits-turn 16 8 g left h, digits-turn 2 8 g bits h, ← d) (flag-set (count - g) (bits % 2) (part (left % 16) xs at) (cut (digits 16 (8 - (g + 1)) (left / 16)) xs (at + left % 16)) (digits 2 (8 - (g + 1)) (bits / 2)) b (omega arith) e f)
-
-    pub turn-set : g < 8 → g < count → (bits % 2 ≡ 0 → ⊥) → endsInNoop (part (left % 16) xs at) ≡ true → rest g left bits at ≡ next
-    turn-set = set-one true
-
-    pub stop-set : g < 8 → g < count → (bits % 2 ≡ 0 → ⊥) → endsInNoop (part (left % 16) xs at) ≡ false → rest g left bits at ≡ false
-    stop-set = set-one false
-
-    pub stop-past : g < 8 → count ≤ g → (bits % 2 ≡ 0 → ⊥) → rest g left bits at ≡ false
-    stop-past h l e = rw (digits-turn 2 8 g bits h) (flag-past (count - g) (bits % 2) (cut (digits 16 (8 - g) left) xs at) (digits 2 (8 - (g + 1)) (bits / 2)) (omega arith) e)
-
-    pub done : 8 ≤ g → rest g left bits at ≡ true
-    unfolding paddingRight
-    done h = rw (digits-end 2 8 g bits h)
+  pub passes : (k : ℕ) → k ≡ paddingFault (heldAt (arena cs vals out) b at) → k ≡ 0 → right ≡ true
+  passes k h n = go right (sym n ∙ h ∙ fault)
+    where
+      go : (x : Bool) → _≡_ {A = ℕ} 0 (cond x 0 10) → x ≡ true
+      go true g = refl
+      go false g = absurd (omega arith)

@@ -1,17 +1,15 @@
 -- What the walks over one batch find and leave: cited by the contracts of private functions, and `Coded` and `RightSizes` by that of `decode_batch`.
 use mathlib.Core.Path.{_≡_}
-use mathlib.Core.Bool.{Bool, true}
+use mathlib.Core.Bool.{true}
 use mathlib.Core.List.{List, [], _∷_, _++_}
 use Prim.Native.Nat.{ℕ, _-_, _≤_, _<_}
 use lib.ListN.{length, getD, take, drop}
 use Rattle.rules.specs.Lists.{fitted, total}
 use Rattle.rules.specs.Digits.{digits}
 use Rattle.rules.specs.Answer.{good, refused, Read, found}
-use Rattle.rules.specs.Operations.{Op, codes}
-use Rattle.rules.specs.Record.{cut}
+use Rattle.rules.specs.Operations.{Op}
 use Rattle.rules.specs.Bytes.{upTo}
 use Rattle.rules.proofs.Slots.{slots}
-use Rattle.rules.specs.Checks.{paddingRight}
 use Rattle.wire.specs.declared.CountRead.{CountRead}
 use Rattle.wire.specs.declared.CountRead.the-variants as count
 
@@ -52,7 +50,3 @@ pub record Placed (w : ℕ) (t : List ℕ) (b : ℕ) (due gs : List ℕ) (g delt
 abbrev pub Placing : ℕ → List ℕ → ℕ → List ℕ → List ℕ → ℕ → ℕ → List ℕ → CountRead → Type 0
 Placing w t b due gs g deltas hs (count.Found left h) = Placed w t b due gs g deltas [] hs h left
 Placing w t b due gs g deltas hs (count.Refused n p) = (xs : List Op) (end : ℕ) → onward w t b xs end gs g deltas due ≡ refused n p
-
--- whether the flags of a batch are right, of operations with these opcodes
-abbrev pub PaddingRight : List ℕ → ℕ → ℕ → ℕ → ℕ → Bool → Type 0
-PaddingRight cs at deltas flags count r = (xs : List Op) → codes xs ≡ cs → r ≡ paddingRight (take count (cut (digits 16 8 deltas) xs at)) (digits 2 8 flags)

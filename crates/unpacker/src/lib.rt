@@ -13,7 +13,7 @@ ghost use Rattle.rules.specs.Block.{batchAt};
 ghost use Rattle.rules.proofs.Slots.{slots};
 ghost use Rattle.op_batch.specs.Stores.{recordSet};
 ghost use Rattle.wire.specs.Stages.{Staged};
-ghost use Rattle.unpacker.specs.Groups.{Coded, RightSizes, Placing, PaddingRight};
+ghost use Rattle.unpacker.specs.Groups.{Coded, RightSizes, Placing};
 use wire::CountRead;
 
 // The immediates of a group's operations, each into the next slot, which must be an empty group under the width; `deltas` has the sizes from the slot on.
@@ -114,39 +114,6 @@ fn decode_groups(
     }
 }
 
-// Whether each flagged group is under the count, non-empty, and ends in opcode 0. All eight flags are looked at, whatever the width.
-fn padding_right(codes: &[u8], at: usize, deltas: u64, flags: u8, count: usize) -> bool
-    requires { ⌜ at + total (digits 16 8 deltas) ≤ length (now codes) ⌝ }
-    ensures { λ r. ⌜ PaddingRight (now (codes .entry)) at deltas flags count r ⌝ }
-{
-    let mut left = deltas;
-    let mut bits = flags;
-    let mut from = at;
-    let mut g: usize = 0;
-    while g < 8 {
-        let n = (left % 16) as usize;
-        from += n;
-        left = left / 16;
-        if bits % 2 == 0 {
-            bits = bits / 2;
-            g += 1;
-            continue;
-        }
-        if count <= g {
-            return false;
-        }
-        if n == 0 {
-            return false;
-        }
-        if codes[from - 1] != 0 {
-            return false;
-        }
-        bits = bits / 2;
-        g += 1;
-    }
-    true
-}
-
 // How many operations a batch has, by its eight sizes.
 fn operations_in(deltas: u64) -> usize
     ensures { λ r. ⌜ r ≡ total (digits 16 8 deltas) ⌝ }
@@ -190,12 +157,10 @@ pub fn decode_batch(
     let CountRead::Found { value, next: _ } = r else {
         return r;
     };
-    if !padding_right(codes, at, deltas, flags, value as usize) {
-        return CountRead::Refused {
-            number: 10,
-            place: b,
-        };
-    }
     op_batch::store_packed(deltas, flags, &groups, value as u8, records, b);
+    let number = checks::batch_padding(codes, values, records, b, at);
+    if number != 0 {
+        return CountRead::Refused { number, place: b };
+    }
     r
 }

@@ -5,7 +5,6 @@ ghost use Prim.Native.Nat.{_+_, _/_, _^_, _≤_, _<_};
 ghost use lib.ListN.{length};
 ghost use lib.Seq.{sets};
 ghost use Rattle.rules.specs.Digits.{digits, number, leAt};
-ghost use Rattle.rules.specs.Record.{differences};
 ghost use Rattle.rules.specs.Bytes.{countAt, least, more, countBytes, opAt, valueAt, opBytes, batchCountAt, upTo};
 ghost use Rattle.operation.specs.Verdict.{op};
 ghost use Rattle.wire.specs.Replies.{countReadOf, opReadOf};

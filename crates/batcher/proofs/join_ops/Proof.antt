@@ -8,17 +8,17 @@ use borrow.Author.Needs.{needs}
 use Rattle.rules.specs.Functions.{arena}
 use Rattle.batcher.specs.Going.{Going}
 use Rattle.batcher.specs.Model.{takenWork}
-use Rattle.batcher.proofs.Held.{going-good, going-lengths}
+use Rattle.batcher.proofs.InHand.{going-good, going-lengths}
 use Rattle.batcher.proofs.Join.{joins-small, going-at, going-none, going-more}
 use Rattle.batcher.proofs.join_ops.Statement.{statement}
 use Rattle.batcher.proofs.join_ops.Tie as tie
 
 abbrev Inv-loop : tie.InvT-loop
-Inv-loop width work i table codes values out-codes₀ out-values₀ records₀ b t from end next₀ number₀ place₀ n₀ out-codes out-values records next number place n =
-    (n ≤ end) × (0 < n → getD codes (i + n - 1) 0 < 128) × Going width (arena out-codes₀ out-values₀ records₀) table codes values (i + n) (takenWork table codes work i n next number place) (arena out-codes out-values records)
+Inv-loop width work i table codes values out-codes₀ out-values₀ records₀ b t from end next₀ number₀ unit₀ n₀ out-codes out-values records next number unit n =
+    (n ≤ end) × (0 < n → getD codes (i + n - 1) 0 < 128) × Going width (arena out-codes₀ out-values₀ records₀) table codes values (i + n) (takenWork table codes work i n next number unit) (arena out-codes out-values records)
 
 abbrev μ-loop : tie.MeasureT-loop
-μ-loop width work i table codes values out-codes₀ out-values₀ records₀ b t from end next₀ number₀ place₀ n₀ out-codes out-values records next number place n =
+μ-loop width work i table codes values out-codes₀ out-values₀ records₀ b t from end next₀ number₀ unit₀ n₀ out-codes out-values records next number unit n =
     end - n
 
 cast-t : tie.Need-cast-t Inv-loop μ-loop
@@ -34,7 +34,7 @@ returns : tie.Need-returns Inv-loop μ-loop
 returns c = ((omega arith, omega (arith, c .before .before .before .before .before .before .before .before .before .before .before .pre .0)), c .before .before .before .before .before .before .before .before .before .before .before .pre .1)
 
 most-requires : tie.Need-most-requires Inv-loop μ-loop
-most-requires c κs = (going-good (c .before .before .before .before .before .before .before .before .before .before .before .pre .1) .room, c .before .before .before .before .before .before .before .before .before .before .before .pre .0 .3)
+most-requires c κs = (going-good (c .before .before .before .before .before .before .before .before .before .before .before .pre .1) .few, c .before .before .before .before .before .before .before .before .before .before .before .pre .0 .3)
 
 loop-holds : tie.Need-loop-holds Inv-loop μ-loop
 loop-holds c = (omega arith, λ h. absurd (omega arith), going-none (c .before .before .before .before .before .before .before .before .before .before .before .before .args .work) (c .before .before .before .before .before .before .before .before .before .before .before .before .args .i) (c .before .before .before .before .before .before .before .before .before .before .before .before .pre .1))
@@ -106,8 +106,8 @@ add-number : tie.Need-add-number Inv-loop μ-loop
 add-number c =
     rw (c .wide .ensures .0) (omega (arith, joined-fits _ _ (joins-small (c .before .before .before .before .before .before .slots .ensures (omega arith))) (going-good (c .before .before .before .before .before .before .before .before .before .before .loop .inv .2)) (omega (arith, c .before .before .before .before .before .before .before .before .before .before .before .most .ensures, c .before .before .before .before .before .before .before .before .before .loop-test .taken))))
 
-mul-place : tie.Need-mul-place Inv-loop μ-loop
-mul-place c = omega (arith, joined-fits _ _ (joins-small (c .before .before .before .before .before .before .slots .ensures (omega arith))) (going-good (c .before .before .before .before .before .before .before .before .before .before .loop .inv .2)) (omega (arith, c .before .before .before .before .before .before .before .before .before .before .before .most .ensures, c .before .before .before .before .before .before .before .before .before .loop-test .taken)))
+mul-unit : tie.Need-mul-unit Inv-loop μ-loop
+mul-unit c = omega (arith, joined-fits _ _ (joins-small (c .before .before .before .before .before .before .slots .ensures (omega arith))) (going-good (c .before .before .before .before .before .before .before .before .before .before .loop .inv .2)) (omega (arith, c .before .before .before .before .before .before .before .before .before .before .before .most .ensures, c .before .before .before .before .before .before .before .before .before .loop-test .taken)))
 
 add-next : tie.Need-add-next Inv-loop μ-loop
 add-next c = omega (arith, c .before .before .before .before .before .before .slots .ensures (omega arith) .slot, c .before .before .before .before .before .before .before .before .before .before .before .before .before .before .before .before .before .before .before .before .before .before .before .pre .0)
@@ -127,7 +127,7 @@ loop-again c =
       omega (arith, c .before .before .before .before .before .before .before .before .before .loop-test .taken),
       λ h. rw e (joins-small j),
       rw (c .wide .ensures .0)
-          (going-more (a .work) (a .i) (l .n) (l .next) (l .number) (l .place) (l .inv .2) (c .before .before .before .before .before .before .before .before .before .before .before .before .before .before .before .before .before .before .before .before .before .before .before .pre .0 .4) (c .before .before .before .before .before .before .before .before .before .before .before .before .before .before .before .before .before .before .before .before .before .before .before .pre .0 .5) (c .before .before .before .before .before .before .before .before .before .before .before .before .before .before .before .before .before .before .before .before .before .before .before .pre .0 .0) j (omega arith) (omega (arith, c .before .before .before .before .before .before .before .before .before .before .before .most .ensures, c .before .before .before .before .before .before .before .before .before .loop-test .taken)) (omega (arith, c .before .before .before .before .before .before .before .before .before .before .before .most .ensures, c .before .before .before .before .before .before .before .before .before .loop-test .taken)) (omega (arith, c .before .before .before .before .before .before .before .before .before .before .before .before .before .before .before .before .before .before .before .before .before .before .before .pre .0, c .before .before .before .before .before .before .before .before .before .before .before .most .ensures, c .before .before .before .before .before .before .before .before .before .loop-test .taken)) (c .before .before .before .keep .ensures)),
+          (going-more (a .work) (a .i) (l .n) (l .next) (l .number) (l .unit) (l .inv .2) (c .before .before .before .before .before .before .before .before .before .before .before .before .before .before .before .before .before .before .before .before .before .before .before .pre .0 .4) (c .before .before .before .before .before .before .before .before .before .before .before .before .before .before .before .before .before .before .before .before .before .before .before .pre .0 .5) (c .before .before .before .before .before .before .before .before .before .before .before .before .before .before .before .before .before .before .before .before .before .before .before .pre .0 .0) j (omega arith) (omega (arith, c .before .before .before .before .before .before .before .before .before .before .before .most .ensures, c .before .before .before .before .before .before .before .before .before .loop-test .taken)) (omega (arith, c .before .before .before .before .before .before .before .before .before .before .before .most .ensures, c .before .before .before .before .before .before .before .before .before .loop-test .taken)) (omega (arith, c .before .before .before .before .before .before .before .before .before .before .before .before .before .before .before .before .before .before .before .before .before .before .before .pre .0, c .before .before .before .before .before .before .before .before .before .before .before .most .ensures, c .before .before .before .before .before .before .before .before .before .loop-test .taken)) (c .before .before .before .keep .ensures)),
     )
 
 gather-requires-2 : tie.Need-gather-requires-2 Inv-loop μ-loop
@@ -180,7 +180,7 @@ join-ops-spec =
     wide-requires
     mul-number
     add-number
-    mul-place
+    mul-unit
     add-next
     add-n
     loop-less

@@ -4,16 +4,16 @@ use native.Mathlib.Omega.{arith}
 use borrow.Author.Needs.{needs}
 use lib.ListN.{length}
 use Rattle.rules.specs.Record.{recordAt}
-use Rattle.commitment.proofs.Slots.{place-first, Walking, walk-done, walk-room, walk-over, walk-stop, walk-next}
+use Rattle.commitment.proofs.Slots.{unit-first, Walking, walk-done, walk-room, walk-over, walk-stop, walk-next}
 use Rattle.commitment.proofs.walk_group.Statement.{statement}
 use Rattle.commitment.proofs.walk_group.Tie as tie
 
 abbrev Inv-loop : tie.InvT-loop
-Inv-loop table codes values records b g from to number₀ place₀ next₀ i₀ number place next i =
-    Walking table codes values (recordAt records b .numbers) g from to number place next i × (length values * 8 < 2 ^ 63)
+Inv-loop table codes values records b g from to number₀ unit₀ next₀ i₀ number unit next i =
+    Walking table codes values (recordAt records b .numbers) g from to number unit next i × (length values * 8 < 2 ^ 63)
 
 abbrev μ-loop : tie.MeasureT-loop
-μ-loop table codes values records b g from to number₀ place₀ next₀ i₀ number place next i = to - i
+μ-loop table codes values records b g from to number₀ unit₀ next₀ i₀ number unit next i = to - i
 
 loop-holds : tie.Need-loop-holds Inv-loop μ-loop
 loop-holds c =
@@ -26,7 +26,7 @@ loop-holds c =
         few = p .3;
         here = omega arith;
         low = omega arith;
-        place = place-first (s .args .from);
+        unit = unit-first (s .args .from);
         below = omega arith;
         number = omega arith;
         slots = refl;
@@ -75,8 +75,8 @@ add-number c =
     let l = c .before .before .before .before .before .before .before .before .loop in
     omega (arith, walk-room _ _ _ _ _ _ _ _ _ _ _ (l .inv .0) (omega arith) (c .wide .result) (omega arith))
 
-mul-place : tie.Need-mul-place Inv-loop μ-loop
-mul-place c =
+mul-unit : tie.Need-mul-unit Inv-loop μ-loop
+mul-unit c =
     let l = c .before .before .before .before .before .before .before .before .loop in
     omega (arith, walk-room _ _ _ _ _ _ _ _ _ _ _ (l .inv .0) (omega arith) (c .wide .result) (omega arith))
 
@@ -118,7 +118,7 @@ walk-group-spec =
     wide-requires
     mul-number
     add-number
-    mul-place
+    mul-unit
     add-i
     loop-less
     loop-again

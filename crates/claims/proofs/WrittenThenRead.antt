@@ -24,7 +24,7 @@ use Rattle.claims.proofs.Shape.{RightGroup, Follow}
 use Rattle.rules.proofs.Runs.{fitted-length, zeros-fitted}
 use Rattle.claims.proofs.Stands.{Stands, here, first-of, rest-of, stands-fits}
 use Rattle.claims.proofs.Row.{row-back}
-use Rattle.claims.proofs.Bytes.{digits-number, count-back, ops-back, batchCount-stands}
+use Rattle.claims.proofs.ItemsWrittenThenRead.{digits-number, count-back, ops-back, batchCount-stands}
 use Rattle.rules.proofs.Digits.{length-digits, leAt-back}
 use Rattle.rules.proofs.Operations.{Admissible}
 use Rattle.rules.proofs.Sizes.{length-nibbles, length-flags}

@@ -25,7 +25,7 @@ use Rattle.rules.proofs.Runs.{fitted-length}
 use Rattle.rules.proofs.Operations.{to-admissible, true-left, true-right}
 use Rattle.claims.proofs.Found.{clash, passed, came, Found, stages}
 use Rattle.claims.proofs.Row.{row-made}
-use Rattle.claims.proofs.Back.{number-small, all-fitted}
+use Rattle.claims.proofs.WrittenThenRead.{number-small, all-fitted}
 use Rattle.rules.proofs.Sizes.{length-codes, length-starts}
 use Rattle.rules.proofs.Records.{Sized}
 

@@ -20,14 +20,14 @@ use Rattle.rules.specs.Checks.{paddingRight}
 use Rattle.rules.specs.Functions.{decoded}
 use Rattle.claims.proofs.Stands.{Stands, Taken, join, none, single, and-then, stands-fits, taken-fits}
 use Rattle.rules.proofs.Sizes.{more-0, more-1, more-2}
-use Rattle.claims.proofs.Bytes.{number-digits}
+use Rattle.claims.proofs.ItemsWrittenThenRead.{number-digits}
 use Rattle.rules.proofs.Digits.{length-digits}
 use Rattle.rules.proofs.Answer.{item, settle, no-fault}
 use Rattle.rules.proofs.Answer as L
 use Rattle.claims.proofs.Found.{passed, came, Found, stages}
 use Rattle.claims.proofs.Row.{row-taken}
 use Rattle.rules.proofs.Slots.{batchByBatch, batches-is}
-use Rattle.claims.proofs.Back.{sizesOf, differences-starts}
+use Rattle.claims.proofs.WrittenThenRead.{sizesOf, differences-starts}
 
 module _ (s : List ℕ) (bytes : (i : ℕ) → getD s i 0 < 256) where
   -- ---- numbers

@@ -21,10 +21,10 @@ use Rattle.rules.specs.Functions.{Arena, blockIn, paddingChecked, commitmentChe
 use Rattle.rules.specs.Open.{document}
 use Rattle.rules.proofs.Operations.{true-left, true-right, true-both, to-admissible}
 use Rattle.claims.specs.Settled.{foundCount, settled, settledBlock, Settled, Returns, Needed}
-use Rattle.claims.proofs.Back.{sizesOf, Wire, read-back}
+use Rattle.claims.proofs.WrittenThenRead.{sizesOf, Wire, read-back}
 use Rattle.claims.proofs.Arena.{roomed}
 use Rattle.claims.proofs.Demand3.{written-in}
-use Rattle.claims.proofs.Again.{laid, laid-front}
+use Rattle.claims.proofs.ReadThenChecked.{laid, laid-front}
 use Rattle.claims.proofs.Checked.{no-cond, group-right, Made, made, Facts, facts, no-padding-fault, limits, shaped-in}
 use Rattle.claims.proofs.Passes.{Right, here}
 use Rattle.claims.proofs.Lists.{all-map}

@@ -20,8 +20,8 @@ use Rattle.rules.proofs.Runs.{fitted-length, fitted-set}
 use Rattle.accumulator.specs.declared.OpBatchAccumulator.{OpBatchAccumulator}
 use Rattle.batcher.specs.declared.Work.{Work}
 use Rattle.accumulator.specs.Good.{recordGroups, Good}
-use Rattle.accumulator.specs.View.{accOf, written, drafted, recordWith}
-use Rattle.batcher.specs.Going.{Held, Going}
+use Rattle.accumulator.specs.View.{accOf, opsSoFar, drafted, recordWith}
+use Rattle.batcher.specs.Going.{InHand, Going}
 use Rattle.batcher.specs.declared.Batches.the-variants.{Done, Fault}
 use Rattle.batcher.specs.Batched.{listed, batchesIn, Batched}
 use Rattle.accumulator.specs.Model.{newAcc, fitsIn, readyAcc, addedAcc, addedRun, endedTotal, endedRun}
@@ -39,17 +39,17 @@ recordsOf bs = recordsBytes (map recordOf bs)
 
 module _ (f : Op → ℕ) (z : f noop ≡ 0) (n : ℕ) (t : List ℕ) where
   -- at the end of a batch nothing is stored
-  view-end : (bs : List (List Group)) (b : Batch) → fitted n (map f (paddedOf bs ++ written b)) ≡ fitted n (map f (paddedOf (bs ++ (ended t b ∷ [])) ++ written empty))
-  unfolding written empty inRow
+  view-end : (bs : List (List Group)) (b : Batch) → fitted n (map f (paddedOf bs ++ opsSoFar b)) ≡ fitted n (map f (paddedOf (bs ++ (ended t b ∷ [])) ++ opsSoFar empty))
+  unfolding opsSoFar empty inRow
   view-end bs b =
       sym (unseen-ended f z n (paddedOf bs) t b) ∙ ap (λ (l : List Op). fitted n (map f l)) (sym (padded-more bs (ended t b)) ∙ sym (append-nil (paddedOf (bs ++ (ended t b ∷ [])))))
 
   -- one operation is stored at the end
-  view-put : (x : Op) (q : List Op) (b : Batch) (k : ℕ) → k ≡ length q + length (written (ready t x b))
-      → set (fitted n (map f (q ++ written b))) k (f x) ≡ fitted n (map f (q ++ written (added t x b)))
+  view-put : (x : Op) (q : List Op) (b : Batch) (k : ℕ) → k ≡ length q + length (opsSoFar (ready t x b))
+      → set (fitted n (map f (q ++ opsSoFar b))) k (f x) ≡ fitted n (map f (q ++ opsSoFar (added t x b)))
   view-put x q b k e =
-      let l = map f (q ++ written (ready t x b)) in
-      let m : k ≡ length l = e ∙ sym (length-append q (written (ready t x b))) ∙ sym (length-map (q ++ written (ready t x b)) f) in
+      let l = map f (q ++ opsSoFar (ready t x b)) in
+      let m : k ≡ length l = e ∙ sym (length-append q (opsSoFar (ready t x b))) ∙ sym (length-map (q ++ opsSoFar (ready t x b)) f) in
       ap₂ (λ (r : List ℕ) (j : ℕ). set r j (f x)) (sym (unseen-ready f z n q t x b)) m ∙ fitted-set n l (f x) ∙ ap (fitted n) (sym (seen-added f z n q t x b))
 
 abbrev codeOf : Op → ℕ
@@ -70,7 +70,7 @@ draft-empty : (n : ℕ) (p : List ℕ) → fitted n (p ++ recordBytes (recordWit
 unfolding drafted empty
 draft-empty n p = run-empty n p
 
-module _ (w : ℕ) (e : Arena) (t : List ℕ) (d : rule.Work) (s : Work) (a : Arena) (h : Held w e t d s a) (wide : w ≤ recordGroups) where
+module _ (w : ℕ) (e : Arena) (t : List ℕ) (d : rule.Work) (s : Work) (a : Arena) (h : InHand w e t d s a) (wide : w ≤ recordGroups) where
   free : nextFree (d .current) ≤ recordGroups
   free = let f : nextFree (d .current) ≤ w = rw (acc-next t (d .current)) at (h .good .high) in omega arith
 
@@ -104,7 +104,7 @@ module _ (w : ℕ) (e : Arena) (t : List ℕ) (d : rule.Work) (s : Work) (a : Ar
       ∙ ap (fitted n) (sym (records-more (d .batches) (ended t (d .current))))
       ∙ sym (draft-empty n (recordsOf (d .batches ++ (ended t (d .current) ∷ []))))
 
-  held-end : 2 ≤ w → Held w e t (endBatch t d) (endedWork s) (arena (a .codes) (a .values) (endedWorkRun s (a .records)))
+  held-end : 2 ≤ w → InHand w e t (endBatch t d) (endedWork s) (arena (a .codes) (a .values) (endedWorkRun s (a .records)))
   unfolding endBatch endedWork more codes values
   held-end two =
       record {
@@ -129,9 +129,9 @@ module _ (w : ℕ) (e : Arena) (t : List ℕ) (d : rule.Work) (s : Work) (a : Ar
     abbrev putPlace : ℕ
     putPlace = s .base + addedAcc (x .code) (hasImmediate t x) (s .acc) .total - 1
 
-    put-place : putPlace ≡ length (paddedOf (d .batches)) + length (written (ready t x (d .current)))
+    put-place : putPlace ≡ length (paddedOf (d .batches)) + length (opsSoFar (ready t x (d .current)))
     put-place =
-        let k : addedAcc (x .code) (hasImmediate t x) (s .acc) .total ≡ length (written (added t x (d .current))) = ap (λ (a : OpBatchAccumulator). a .total) put-acc ∙ acc-total t (added t x (d .current)) in
+        let k : addedAcc (x .code) (hasImmediate t x) (s .acc) .total ≡ length (opsSoFar (added t x (d .current))) = ap (λ (a : OpBatchAccumulator). a .total) put-acc ∙ acc-total t (added t x (d .current)) in
         omega (arith, k, added-length t x (d .current), h .base)
 
     put-slot : hasImmediate t x ≡ true → nextFree (ready t x (d .current)) < recordGroups
@@ -147,7 +147,7 @@ module _ (w : ℕ) (e : Arena) (t : List ℕ) (d : rule.Work) (s : Work) (a : Ar
         (λ j. addedRun (hasImmediate t x) (x .value) (s .batches) (h .acc j) (h .records j))
         ∙ run-added (length (e .records)) (recordsOf (d .batches)) (s .batches) before t x (d .current) (omega (arith, closed-free (d .current), free)) put-slot
 
-    held-put : Held w e t (record { batches = d .batches; current = added t x (d .current) })
+    held-put : InHand w e t (record { batches = d .batches; current = added t x (d .current) })
         (record { acc = addedAcc (x .code) (hasImmediate t x) (s .acc); base = s .base; batches = s .batches })
         (arena (set (a .codes) putPlace (x .code)) (set (a .values) putPlace (x .value)) (addedRun (hasImmediate t x) (x .value) (s .batches) (s .acc) (a .records)))
     unfolding codes values
@@ -164,15 +164,15 @@ module _ (w : ℕ) (e : Arena) (t : List ℕ) (d : rule.Work) (s : Work) (a : Ar
 
   -- ---- room is made
 
-  held-room : 2 ≤ w → (x : Op) → Held w e t (room w t x d) (roomWork w (hasImmediate t x) s) (arena (a .codes) (a .values) (roomRun w (hasImmediate t x) s (a .records)))
+  held-room : 2 ≤ w → (x : Op) → InHand w e t (room w t x d) (roomWork w (hasImmediate t x) s) (arena (a .codes) (a .values) (roomRun w (hasImmediate t x) s (a .records)))
   unfolding room roomWork roomRun
   held-room two x =
       subst
-      (λ (k : Bool). Held w e t (cond (fits w t x (d .current)) d (endBatch t d)) (cond k s (endedWork s)) (arena (a .codes) (a .values) (cond k (a .records) (endedWorkRun s (a .records)))))
+      (λ (k : Bool). InHand w e t (cond (fits w t x (d .current)) d (endBatch t d)) (cond k s (endedWork s)) (arena (a .codes) (a .values) (cond k (a .records) (endedWorkRun s (a .records)))))
       (sym (ap (fitsIn w (hasImmediate t x)) (h .acc) ∙ acc-fits w t x (d .current)))
       (go (fits w t x (d .current)))
     where
-      go : (k : Bool) → Held w e t (cond k d (endBatch t d)) (cond k s (endedWork s)) (arena (a .codes) (a .values) (cond k (a .records) (endedWorkRun s (a .records))))
+      go : (k : Bool) → InHand w e t (cond k d (endBatch t d)) (cond k s (endedWork s)) (arena (a .codes) (a .values) (cond k (a .records) (endedWorkRun s (a .records))))
       go true = h
       go false = held-end two
 
@@ -193,8 +193,8 @@ steppedRuns w x i s a =
     (set (a .values) (lastPlace (steppedWork w (x .code) i s)) (x .value))
     (steppedRun w i (x .value) s (a .records))
 
-held-step : (w : ℕ) (e : Arena) (t : List ℕ) (d : rule.Work) (s : Work) (a : Arena) → Held w e t d s a → 2 ≤ w → w ≤ recordGroups → (x : Op) → x .code < 128
-    → Held w e t (step w t x d) (steppedWork w (x .code) (hasImmediate t x) s) (steppedRuns w x (hasImmediate t x) s a)
+held-step : (w : ℕ) (e : Arena) (t : List ℕ) (d : rule.Work) (s : Work) (a : Arena) → InHand w e t d s a → 2 ≤ w → w ≤ recordGroups → (x : Op) → x .code < 128
+    → InHand w e t (step w t x d) (steppedWork w (x .code) (hasImmediate t x) s) (steppedRuns w x (hasImmediate t x) s a)
 unfolding step steppedWork steppedRun
 held-step w e t d s a h two wide x hc =
     held-put w e t (room w t x d) (roomWork w (hasImmediate t x) s) (arena (a .codes) (a .values) (roomRun w (hasImmediate t x) s (a .records))) (held-room w e t d s a h wide two x) wide x hc (room-fits w two t x d)
@@ -202,7 +202,7 @@ held-step w e t d s a h two wide x hc =
 -- ---- the loop
 
 pub going-start : (w : ℕ) → 2 ≤ w → (t xs ys : List ℕ) (e : Arena) → e ≡ filled e noBlock → Going w e t xs ys 0 (record { acc = newAcc; base = 0; batches = 0 }) e
-unfolding filled noBlock start written empty codes values inRow
+unfolding filled noBlock start opsSoFar empty codes values inRow
 going-start w two t xs ys e z =
     record {
       work = start;
@@ -314,15 +314,15 @@ going-turn {w} {e} {t} {xs} {ys} {i} {s} {s′} {a} {a′} g two wide hx hy ht f
 
 -- ---- the end: what is held is what the driver promises
 
-written-none : (q : List Op) → q ++ written empty ≡ q
-unfolding written empty inRow
-written-none q = append-nil q
+so-far-none : (q : List Op) → q ++ opsSoFar empty ≡ q
+unfolding opsSoFar empty inRow
+so-far-none q = append-nil q
 
-done : (w : ℕ) (e : Arena) (t : List ℕ) (d : rule.Work) (s : Work) (a : Arena) → d .current ≡ empty → Held w e t d s a
+done : (w : ℕ) (e : Arena) (t : List ℕ) (d : rule.Work) (s : Work) (a : Arena) → d .current ≡ empty → InHand w e t d s a
     → (s .batches ≡ length (blockOf (d .batches) .records)) × (s .base ≡ length (blockOf (d .batches) .ops)) × (a ≡ filled e (blockOf (d .batches)))
 unfolding blockOf filled
 done w e t d s a c h =
-    let q = ap (λ (b : Batch). paddedOf (d .batches) ++ written b) c ∙ written-none (paddedOf (d .batches)) in
+    let q = ap (λ (b : Batch). paddedOf (d .batches) ++ opsSoFar b) c ∙ so-far-none (paddedOf (d .batches)) in
     let cs : a .codes ≡ fitted (length (e .codes)) (codes (paddedOf (d .batches))) = h .codes ∙ ap (λ (l : List Op). fitted (length (e .codes)) (codes l)) q in
     let vs : a .values ≡ fitted (length (e .values)) (values (paddedOf (d .batches))) = h .values ∙ ap (λ (l : List Op). fitted (length (e .values)) (values l)) q in
     let rs : a .records ≡ fitted (length (e .records)) (recordsOf (d .batches)) =
