@@ -66,6 +66,25 @@ pub handed-on : (d r : Answer Unit) (n p : ℕ) → verdictOf d ≡ Refused n p 
 handed-on (good u) r n p h = let z : _≡_ {A = ℕ} 0 1 = cc in absurd (omega arith)
 handed-on (refused m q) r n p h = refl
 
+-- the ways out of the padding check
+module _ (w : ℕ) (a : Arena) where
+  abbrev paddingStage : Answer Unit
+  paddingStage = refuseFirst 0 (paddingFaults (blockIn a)) (good tt)
+
+  padding-stages : paddingChecked w a ≡ andThen (structureChecked w a) paddingStage
+  unfolding paddingChecked
+  padding-stages = structure-then w a paddingStage
+
+  pub padding-unstructured : (n p : ℕ) → verdictOf (structureChecked w a) ≡ Refused n p → Refused n p ≡ verdictOf (paddingChecked w a)
+  padding-unstructured n p e = sym (ap verdictOf padding-stages ∙ handed-on (structureChecked w a) paddingStage n p e ∙ e)
+
+  pub padding-by-batches : structureChecked w a ≡ good tt → verdictOf paddingStage ≡ verdictOf (paddingChecked w a)
+  padding-by-batches g = sym (ap verdictOf (padding-stages ∙ went-on (structureChecked w a) paddingStage g))
+
+  -- an arena that passed it passed the structure check
+  pub padding-good : paddingChecked w a ≡ good tt → structureChecked w a ≡ good tt
+  padding-good h = first-good (structureChecked w a) paddingStage tt (sym padding-stages ∙ h)
+
 -- ---- structure
 
 -- every record passes the structure test, and their operations are those lent
@@ -114,13 +133,6 @@ module _ (w : ℕ) where
       let a = arena cs vs rs in
       let p = passed (not (within a)) 3 0 (refuseFirst 0 (structureFaults w (blockIn a)) (good tt)) tt h in
       (not-false (within a) (p .0), structured cs vs rs (good tt) tt (p .1) .0)
-
-  -- an arena that passed the padding check passed the structure check
-  pub padding-good : (a : Arena) → paddingChecked w a ≡ good tt → structureChecked w a ≡ good tt
-  unfolding paddingChecked
-  padding-good a h =
-      let r = refuseFirst 0 (paddingFaults (blockIn a)) (good tt) in
-      first-good (structureChecked w a) r tt (sym (structure-then w a r) ∙ h)
 
 pub all-fit : (w : ℕ) (cs vs rs : List ℕ) → w ≤ 8 → Records w cs vs rs → AllFit rs
 all-fit w cs vs rs h x b l = record { width = w; room = h; right = x .right b l }

@@ -24,11 +24,11 @@ module _ (cs vs : List ℕ) (e : length cs ≡ length vs) (i to : ℕ) (h : i < 
   unfolding codesNumber codes number
   number-turn = rw (span-turn i to cs vs h k e)
 
-  pub placed-turn : (t : List ℕ) → eqb (kindOf t (getD cs i 0)) 1 ≡ true → immediates t (span (operations cs vs) i to) ≡ getD vs i 0 ∷ immediates t (span (operations cs vs) (i + 1) to)
+  placed-turn : (t : List ℕ) → eqb (kindOf t (getD cs i 0)) 1 ≡ true → immediates t (span (operations cs vs) i to) ≡ getD vs i 0 ∷ immediates t (span (operations cs vs) (i + 1) to)
   unfolding immediates hasImmediate
   placed-turn t p = rw (span-turn i to cs vs h k e, p)
 
-  pub plain-turn : (t : List ℕ) → eqb (kindOf t (getD cs i 0)) 1 ≡ false → immediates t (span (operations cs vs) i to) ≡ immediates t (span (operations cs vs) (i + 1) to)
+  plain-turn : (t : List ℕ) → eqb (kindOf t (getD cs i 0)) 1 ≡ false → immediates t (span (operations cs vs) i to) ≡ immediates t (span (operations cs vs) (i + 1) to)
   unfolding immediates hasImmediate
   plain-turn t p = rw (span-turn i to cs vs h k e, p)
 
@@ -36,9 +36,42 @@ pub number-none : (i to : ℕ) (xs : List Op) → to ≤ i → codesNumber (span
 unfolding codesNumber codes number
 number-none i to xs h = rw (span-none i to xs h)
 
-pub immediates-none : (t : List ℕ) (i to : ℕ) (xs : List Op) → to ≤ i → immediates t (span xs i to) ≡ []
+immediates-none : (t : List ℕ) (i to : ℕ) (xs : List Op) → to ≤ i → immediates t (span xs i to) ≡ []
 unfolding immediates
 immediates-none t i to xs h = rw (span-none i to xs h)
+
+-- the walk came to the i-th operation, and n of those before it have an immediate
+pub record Counted (t cs vs : List ℕ) (from to n i : ℕ) : Type 0 where
+  pub equal : length cs ≡ length vs
+  pub inside : to ≤ length cs
+  pub apt : Apt t cs
+  pub here : (from ≤ i) × (n ≤ i - from)
+  pub total : n + length (immediates t (span (operations cs vs) i to)) ≡ length (immediates t (span (operations cs vs) from to))
+
+module _ (t cs vs : List ℕ) (from to n i : ℕ) (w : Counted t cs vs from to n i) where
+  pub counted-all : to ≤ i → n ≡ length (immediates t (span (operations cs vs) from to))
+  counted-all h = omega (arith, w .total, ap length (immediates-none t i to (operations cs vs) h))
+
+  module _ (h : i < to) where
+    pub counted-plain : eqb (kindOf t (getD cs i 0)) 1 ≡ false → Counted t cs vs from to n (i + 1)
+    counted-plain p =
+        record {
+          equal = w .equal;
+          inside = w .inside;
+          apt = w .apt;
+          here = omega (arith, w .here);
+          total = omega (arith, w .total, ap length (plain-turn cs vs (w .equal) i to h (w .inside) t p));
+        }
+
+    pub counted-placed : eqb (kindOf t (getD cs i 0)) 1 ≡ true → Counted t cs vs from to (n + 1) (i + 1)
+    counted-placed p =
+        record {
+          equal = w .equal;
+          inside = w .inside;
+          apt = w .apt;
+          here = omega (arith, w .here);
+          total = omega (arith, w .total, ap length (placed-turn cs vs (w .equal) i to h (w .inside) t p));
+        }
 
 -- the opcodes from one index up to another, as they are lent
 abbrev lent : List ℕ → ℕ → ℕ → List ℕ

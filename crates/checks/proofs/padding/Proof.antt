@@ -1,11 +1,7 @@
-use Rattle.checks.proofs.Passed.{was-good, structure-then, went-on, handed-on}
-use Rattle.operation.specs.Verdict.{verdictOf}
-use Rattle.rules.specs.Functions.{arena, blockIn, structureChecked, paddingChecked}
-use Rattle.rules.specs.Checks.{paddingFaults}
-use Rattle.rules.specs.Answer.{good, refuseFirst}
-use mathlib.Core.Path.{sym, ap, _∙_}
+use mathlib.Core.Path.{sym, _∙_}
 use native.Mathlib.Omega.{arith}
 use borrow.Author.Needs.{needs}
+use Rattle.checks.proofs.Passed.{was-good, padding-unstructured, padding-by-batches}
 use Rattle.checks.proofs.padding.Statement.{statement}
 use Rattle.checks.proofs.padding.Tie as tie
 
@@ -16,12 +12,10 @@ enum-known-v : tie.Need-enum-known-v
 enum-known-v c = search needs
 
 returns : tie.Need-returns
-unfolding paddingChecked
 returns c =
-    let a = c .before .before .before .before .before .before .before .args in
-    let n = arena (a .codes .now) (a .values .now) (a .records .now) in
-    let e = sym (c .before .before .before .structure .ensures) ∙ c .before .v .given .1 in
-    sym (ap verdictOf (structure-then 8 n (refuseFirst 0 (paddingFaults (blockIn n)) (good tt))) ∙ handed-on (structureChecked 8 n) _ _ _ e ∙ e)
+    let v = c .before in
+    let s = v .before .before in
+    padding-unstructured _ _ _ _ (sym (s .structure .ensures) ∙ v .v .given .1)
 
 enum-told : tie.Need-enum-told
 enum-told c = search needs
@@ -30,13 +24,10 @@ padding-fault-requires : tie.Need-padding-fault-requires
 padding-fault-requires c κs = record { width = 8; room = omega arith; passed = was-good _ (sym (c .before .before .structure .ensures) ∙ c .enum-told .given .1) }
 
 returns-2 : tie.Need-returns-2
-unfolding paddingChecked
 returns-2 c =
-    let a = c .before .before .before .before .before .before .before .args in
-    let n = arena (a .codes .now) (a .values .now) (a .records .now) in
-    let g = was-good (structureChecked 8 n) (sym (c .before .before .before .structure .ensures) ∙ c .before .enum-told .given .1) in
-    let r = refuseFirst 0 (paddingFaults (blockIn n)) (good tt) in
-    c .padding-fault .ensures ∙ sym (ap verdictOf (structure-then 8 n r ∙ went-on (structureChecked 8 n) r g))
+    let u = c .before in
+    let s = u .before .before in
+    c .padding-fault .ensures ∙ padding-by-batches _ _ (was-good _ (sym (s .structure .ensures) ∙ u .enum-told .given .1))
 
 pub padding-spec : {M : Type 1} → statement M
 padding-spec =

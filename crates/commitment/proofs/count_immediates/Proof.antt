@@ -1,31 +1,26 @@
-use mathlib.Core.Path.{_≡_, sym, ap, _∙_}
-use Prim.Native.Nat.{_+_, _-_, _≤_}
+use mathlib.Core.Path.{sym, _∙_}
+use Prim.Native.Nat.{_-_}
 use native.Mathlib.Omega.{arith}
 use borrow.Author.Needs.{needs}
 use borrow.Author.Tests.{not-true, not-false}
-use lib.ListN.{length}
-use Rattle.rules.specs.Operations.{operations}
-use Rattle.rules.specs.Record.{immediates}
-use Rattle.checks.specs.Batch.{span}
-use Rattle.commitment.proofs.Numbers.{placed-turn, plain-turn, immediates-none}
+use Rattle.commitment.proofs.Numbers.{Counted, counted-all, counted-plain, counted-placed}
 use Rattle.commitment.proofs.count_immediates.Statement.{statement}
 use Rattle.commitment.proofs.count_immediates.Tie as tie
 
 abbrev Inv-loop : tie.InvT-loop
-Inv-loop table codes values from to n₀ i₀ n i =
-    (from ≤ i) × (n ≤ i - from) × (n + length (immediates table (span (operations codes values) i to)) ≡ length (immediates table (span (operations codes values) from to)))
+Inv-loop table codes values from to n₀ i₀ n i = Counted table codes values from to n i
 
 abbrev μ-loop : tie.MeasureT-loop
 μ-loop table codes values from to n₀ i₀ n i = to - i
 
 loop-holds : tie.Need-loop-holds Inv-loop μ-loop
-loop-holds c = (omega arith, omega arith, omega arith)
+loop-holds c = let p = c .before .before .before .pre in record { equal = p .0; inside = p .1; apt = p .2; here = omega arith; total = omega arith }
 
 shared-slice-read-placed : tie.Need-shared-slice-read-placed Inv-loop μ-loop
 shared-slice-read-placed c = search needs
 
 placed-requires : tie.Need-placed-requires Inv-loop μ-loop
-placed-requires c κs = let p = c .before .before .before .before .before .before .pre .2 in (p .table, p .codes (c .before .before .loop .i) (omega arith))
+placed-requires c κs = let l = c .before .before .loop in (l .inv .apt .table, l .inv .apt .codes (l .i) (omega arith))
 
 add-i : tie.Need-add-i Inv-loop μ-loop
 add-i c = search needs
@@ -35,9 +30,9 @@ loop-less c = search needs
 
 loop-again : tie.Need-loop-again Inv-loop μ-loop
 loop-again c =
-    let a = c .before .before .before .before .before .before .before .before .args in
-    let l = c .before .before .before .before .loop in
-    (omega arith, omega arith, omega (arith, ap length (plain-turn (a .codes .now) (a .values .now) (c .before .before .before .before .before .before .before .before .pre .0) (l .i) (a .to) (omega arith) (omega arith) (a .table .now) (sym (c .before .placed .ensures) ∙ not-true _ (c .if1 .taken)))))
+    let p = c .before in
+    let l = p .before .before .before .loop in
+    counted-plain _ _ _ _ _ _ _ (l .inv) (omega arith) (sym (p .placed .ensures) ∙ not-true _ (c .if1 .taken))
 
 add-n : tie.Need-add-n Inv-loop μ-loop
 add-n c = search needs
@@ -50,15 +45,12 @@ loop-less-2 c = search needs
 
 loop-again-2 : tie.Need-loop-again-2 Inv-loop μ-loop
 loop-again-2 c =
-    let a = c .before .before .before .before .before .before .before .before .args in
-    let l = c .before .before .before .before .loop in
-    (omega arith, omega arith, omega (arith, ap length (placed-turn (a .codes .now) (a .values .now) (c .before .before .before .before .before .before .before .before .pre .0) (l .i) (a .to) (omega arith) (omega arith) (a .table .now) (sym (c .before .placed .ensures) ∙ not-false _ (c .if1 .left)))))
+    let p = c .before in
+    let l = p .before .before .before .loop in
+    counted-placed _ _ _ _ _ _ _ (l .inv) (omega arith) (sym (p .placed .ensures) ∙ not-false _ (c .if1 .left))
 
 returns : tie.Need-returns Inv-loop μ-loop
-returns c =
-    let a = c .before .before .before .before .before .args in
-    let l = c .before .loop in
-    omega (arith, ap length (immediates-none (a .table .now) (l .i) (a .to) (operations (a .codes .now) (a .values .now)) (omega arith)))
+returns c = let l = c .before .loop in counted-all _ _ _ _ _ _ _ (l .inv) (omega arith)
 
 pub count-immediates-spec : {M : Type 1} → statement M
 count-immediates-spec =
