@@ -96,12 +96,12 @@ slots-done n gs h = rw h
 -- ---- values against the numbers from the j-th on
 
 module _ (ns : List ℕ) (j v : ℕ) (vs : List ℕ) where
-  pub past : length ns ≤ j → begins (drop j ns) (v ∷ vs) ≡ false
+  past : length ns ≤ j → begins (drop j ns) (v ∷ vs) ≡ false
   unfolding begins
   past h = rw (drop-of-length-le ns {i = j} h)
 
   module _ (h : j < length ns) where
-    pub differs : (getD ns j 0 ≡ v → ⊥) → begins (drop j ns) (v ∷ vs) ≡ false
+    differs : (getD ns j 0 ≡ v → ⊥) → begins (drop j ns) (v ∷ vs) ≡ false
     unfolding begins
     differs d = rw (drop-cons ns j 0 h, ne-eqb (getD ns j 0) v d)
 
@@ -112,6 +112,53 @@ module _ (ns : List ℕ) (j v : ℕ) (vs : List ℕ) where
 pub all-agree : (ns : List ℕ) → begins ns [] ≡ true
 unfolding begins
 all-agree ns = refl
+
+-- the walk came to the i-th operation, and its immediate would belong in the j-th group
+pub record Agree (t cs vs ns : List ℕ) (g from to i j : ℕ) : Type 0 where
+  pub equal : length cs ≡ length vs
+  pub inside : to ≤ length cs
+  pub apt : Apt t cs
+  pub eight : length ns ≡ 8
+  pub low : j ≤ 8
+  pub same : begins (drop j ns) (immediates t (span (operations cs vs) i to)) ≡ begins (drop g ns) (immediates t (span (operations cs vs) from to))
+
+module _ (t cs vs ns : List ℕ) (g from to i j : ℕ) (a : Agree t cs vs ns g from to i j) where
+  pub agree-done : to ≤ i → true ≡ begins (drop g ns) (immediates t (span (operations cs vs) from to))
+  agree-done h = sym (ap (begins (drop j ns)) (immediates-none t i to (operations cs vs) h) ∙ all-agree (drop j ns)) ∙ a .same
+
+  module _ (h : i < to) where
+    pub agree-plain : eqb (kindOf t (getD cs i 0)) 1 ≡ false → Agree t cs vs ns g from to (i + 1) j
+    agree-plain k =
+        record {
+          equal = a .equal;
+          inside = a .inside;
+          apt = a .apt;
+          eight = a .eight;
+          low = a .low;
+          same = ap (begins (drop j ns)) (sym (plain-turn cs vs (a .equal) i to h (a .inside) t k)) ∙ a .same;
+        }
+
+    module _ (k : eqb (kindOf t (getD cs i 0)) 1 ≡ true) where
+      here : begins (drop j ns) (getD vs i 0 ∷ immediates t (span (operations cs vs) (i + 1) to)) ≡ begins (drop g ns) (immediates t (span (operations cs vs) from to))
+      here = ap (begins (drop j ns)) (sym (placed-turn cs vs (a .equal) i to h (a .inside) t k)) ∙ a .same
+
+      pub agree-past : 8 ≤ j → false ≡ begins (drop g ns) (immediates t (span (operations cs vs) from to))
+      agree-past l = sym (past ns j (getD vs i 0) _ (omega (arith, a .eight))) ∙ here
+
+      module _ (l : j < 8) (n : ℕ) (e : n ≡ getD ns j 0) where
+        pub agree-not : (n ≡ getD vs i 0 → ⊥) → false ≡ begins (drop g ns) (immediates t (span (operations cs vs) from to))
+        agree-not d = sym (differs ns j (getD vs i 0) _ (omega (arith, a .eight)) (λ z. d (e ∙ z))) ∙ here
+
+        pub agree-next : n ≡ getD vs i 0 → Agree t cs vs ns g from to (i + 1) (j + 1)
+        agree-next d =
+            record {
+              equal = a .equal;
+              inside = a .inside;
+              apt = a .apt;
+              eight = a .eight;
+              low = omega arith;
+              same = agrees ns j (getD vs i 0) _ (omega (arith, a .eight)) (sym e ∙ d) ∙ here;
+            }
 
 -- ---- group by group
 

@@ -21,11 +21,11 @@ use Rattle.commitment.proofs.Numbers.{number-turn, number-none, agrees,
 
 -- ---- one operation
 
-pub over-after : (t ns : List ℕ) (c v j : ℕ) → 128 ≤ c → opAfter t (op c v) ns j ≡ 9
+over-after : (t ns : List ℕ) (c v j : ℕ) → 128 ≤ c → opAfter t (op c v) ns j ≡ 9
 unfolding opAfter
 over-after t ns c v j h = rw (le-leb 128 c h)
 
-pub kind-after : (t ns : List ℕ) (c v j : ℕ) → length t ≡ 128 → c < 128 → opAfter t (op c v) ns j ≡ slotAfter (getD t c 0) v ns j
+kind-after : (t ns : List ℕ) (c v j : ℕ) → length t ≡ 128 → c < 128 → opAfter t (op c v) ns j ≡ slotAfter (getD t c 0) v ns j
 unfolding opAfter
 kind-after t ns c v j e h = rw (lt-leb 128 c h, kind-at t c (omega arith))
 
@@ -33,40 +33,88 @@ module _ (t cs vs ns : List ℕ) (e : length cs ≡ length vs) (i to j : ℕ) (h
   abbrev first : ℕ
   first = opAfter t (op (getD cs i 0) (getD vs i 0)) ns j
 
-  pub slots-turn : (n : ℕ) → n ≡ first → n ≤ 8 → slotsAfter t (span (operations cs vs) (i + 1) to) ns n ≡ slotsAfter t (span (operations cs vs) i to) ns j
+  slots-turn : (n : ℕ) → n ≡ first → n ≤ 8 → slotsAfter t (span (operations cs vs) (i + 1) to) ns n ≡ slotsAfter t (span (operations cs vs) i to) ns j
   unfolding slotsAfter
   slots-turn n d l = let m : first ≤ 8 = omega arith in rw (d, span-turn i to cs vs h k e, le-leb first 8 m)
 
-  pub slots-stop : 8 < first → slotsAfter t (span (operations cs vs) i to) ns j ≡ 9
+  slots-stop : 8 < first → slotsAfter t (span (operations cs vs) i to) ns j ≡ 9
   unfolding slotsAfter
   slots-stop l = rw (span-turn i to cs vs h k e, lt-leb first 8 l)
 
-pub slots-none : (t : List ℕ) (xs : List Op) (ns : List ℕ) (i to j : ℕ) → to ≤ i → slotsAfter t (span xs i to) ns j ≡ j
+slots-none : (t : List ℕ) (xs : List Op) (ns : List ℕ) (i to j : ℕ) → to ≤ i → slotsAfter t (span xs i to) ns j ≡ j
 unfolding slotsAfter
 slots-none t xs ns i to j h = rw (span-none i to xs h)
 
 -- ---- the number so far, and what the opcodes ahead add to it
 
 module _ (cs vs : List ℕ) (e : length cs ≡ length vs) (i to : ℕ) (h : i < to) (k : to ≤ length cs) where
-  pub sum-turn : (n p : ℕ) → n + getD cs i 0 * p + p * 128 * codesNumber (span (operations cs vs) (i + 1) to) ≡ n + p * codesNumber (span (operations cs vs) i to)
+  sum-turn : (n p : ℕ) → n + getD cs i 0 * p + p * 128 * codesNumber (span (operations cs vs) (i + 1) to) ≡ n + p * codesNumber (span (operations cs vs) i to)
   sum-turn n p =
       let r = codesNumber (span (operations cs vs) (i + 1) to) in
       rw (number-turn cs vs e i to h k) (omega (arith, mul-assoc p 128 r, mul-comm (getD cs i 0) p))
 
-pub sum-done : (n p s i to : ℕ) (xs : List Op) → n + p * codesNumber (span xs i to) ≡ s → to ≤ i → n ≡ s
+sum-done : (n p s i to : ℕ) (xs : List Op) → n + p * codesNumber (span xs i to) ≡ s → to ≤ i → n ≡ s
 sum-done n p s i to xs e h = let z : n ≡ n + p * 0 = omega arith in z ∙ ap (λ (k : ℕ). n + p * k) (sym (number-none i to xs h)) ∙ e
 
 pub unit-first : (from : ℕ) → 1 ≡ 128 ^ (from - from)
 unit-first from = let z : from - from ≡ 0 = omega arith in rw (z, pow-zero)
 
-pub unit-small : (p k : ℕ) → p ≡ 128 ^ k → k ≤ 8 → p ≤ 72057594037927936
+unit-small : (p k : ℕ) → p ≡ 128 ^ k → k ≤ 8 → p ≤ 72057594037927936
 unit-small p k e h = omega (arith, pow-le-pow-right {n = 128} (omega arith) {i = k} {j = 8} h)
 
-pub product-small : (c p : ℕ) → c < 128 → c * p ≤ 127 * p
+product-small : (c p : ℕ) → c < 128 → c * p ≤ 127 * p
 product-small c p h = mul-le-mul-right p (omega arith)
 
-pub place-next : (p i from : ℕ) → p ≡ 128 ^ (i - from) → from ≤ i → p * 128 ≡ 128 ^ (i + 1 - from)
-place-next p i from e h = let d : i + 1 - from ≡ suc (i - from) = omega arith in rw (d, pow-suc 128 (i - from), e)
+unit-next : (p i from : ℕ) → p ≡ 128 ^ (i - from) → from ≤ i → p * 128 ≡ 128 ^ (i + 1 - from)
+unit-next p i from e h = let d : i + 1 - from ≡ suc (i - from) = omega arith in rw (d, pow-suc 128 (i - from), e)
+
+-- ---- the walk came to the i-th operation: n is the number so far, p the next opcode's unit, and its immediate would belong in the j-th group
+
+pub record Walking (t cs vs ns : List ℕ) (g from to n p j i : ℕ) : Type 0 where
+  pub table : length t ≡ 128
+  pub equal : length cs ≡ length vs
+  pub inside : to ≤ length cs
+  pub few : to ≤ from + 9
+  pub here : (from ≤ i) × (i ≤ to)
+  pub low : j ≤ 8
+  pub unit : p ≡ 128 ^ (i - from)
+  pub below : n < p
+  pub number : n + p * codesNumber (span (operations cs vs) i to) ≡ codesNumber (span (operations cs vs) from to)
+  pub slots : slotsAfter t (span (operations cs vs) i to) ns j ≡ slotsAfter t (span (operations cs vs) from to) ns g
+
+module _ (t cs vs ns : List ℕ) (g from to n p j i : ℕ) (w : Walking t cs vs ns g from to n p j i) where
+  pub walk-done : to ≤ i → (j ≡ slotsAfter t (span (operations cs vs) from to) ns g) × (n ≡ codesNumber (span (operations cs vs) from to))
+  walk-done h = (sym (slots-none t (operations cs vs) ns i to j h) ∙ w .slots, sum-done n p _ i to (operations cs vs) (w .number) h)
+
+  module _ (h : i < to) where
+    -- no product or sum wraps
+    pub walk-room : (c : ℕ) → c < 128 → (p ≤ 72057594037927936) × (c * p ≤ 127 * p)
+    walk-room c l = (unit-small p (i - from) (w .unit) (omega (arith, w .few, w .here)), product-small c p l)
+
+    stopped : 8 < opAfter t (op (getD cs i 0) (getD vs i 0)) ns j → 9 ≡ slotsAfter t (span (operations cs vs) from to) ns g
+    stopped l = sym (slots-stop t cs vs ns (w .equal) i to j h (w .inside) l) ∙ w .slots
+
+    pub walk-over : 128 ≤ getD cs i 0 → 9 ≡ slotsAfter t (span (operations cs vs) from to) ns g
+    walk-over l = stopped (omega (arith, over-after t ns (getD cs i 0) (getD vs i 0) j l))
+
+    module _ (l : getD cs i 0 < 128) (k : ℕ) (e : k ≡ slotAfter (getD t (getD cs i 0) 0) (getD vs i 0) ns j) where
+      pub walk-stop : 8 < k → 9 ≡ slotsAfter t (span (operations cs vs) from to) ns g
+      walk-stop b = stopped (omega (arith, kind-after t ns (getD cs i 0) (getD vs i 0) j (w .table) l))
+
+      pub walk-next : k ≤ 8 → (c : ℕ) → c ≡ getD cs i 0 → Walking t cs vs ns g from to (n + c * p) (p * 128) k (i + 1)
+      walk-next b c d =
+          record {
+            table = w .table;
+            equal = w .equal;
+            inside = w .inside;
+            few = w .few;
+            here = omega (arith, w .here);
+            low = b;
+            unit = unit-next p i from (w .unit) (w .here .0);
+            below = omega (arith, w .below, product-small c p (omega arith));
+            number = ap (λ (m : ℕ). n + m * p + p * 128 * codesNumber (span (operations cs vs) (i + 1) to)) d ∙ sum-turn cs vs (w .equal) i to h (w .inside) n p ∙ w .number;
+            slots = slots-turn t cs vs ns (w .equal) i to j h (w .inside) k (e ∙ sym (kind-after t ns (getD cs i 0) (getD vs i 0) j (w .table) l)) b ∙ w .slots;
+          }
 
 -- ---- what a walk with no fault says of the operations
 

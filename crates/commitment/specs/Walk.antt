@@ -12,7 +12,8 @@ use Rattle.rules.specs.Checks.{ninth, commitmentFault, commitmentFaults}
 use Rattle.rules.specs.Functions.{Arena, blockIn}
 use Rattle.checks.specs.Batch.{heldAt}
 
--- the group after an operation's immediate, by the operation's kind and value and the groups' numbers, where the immediate belongs in the j-th
+-- the group after an operation's immediate, by the operation's kind and value and the eight groups' numbers, where the immediate belongs in the j-th; 9
+-- where something is not right. No width: the walk over the groups holds the slots to the count.
 unfoldable pub slotAfter : ℕ → ℕ → List ℕ → ℕ → ℕ
 slotAfter k v ns j =
     cond (eqb k 0) (cond (eqb v 0) j 9)

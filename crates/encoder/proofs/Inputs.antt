@@ -1,5 +1,5 @@
 -- What is looked at before the block's length, step by step; and what passed. Assumes nothing.
-use mathlib.Core.Path.{_≡_, refl, ap, _∙_}
+use mathlib.Core.Path.{_≡_, refl, sym, ap, _∙_}
 use mathlib.Core.Bool.{Bool, true, false, not, _||_}
 use mathlib.Core.List.{List, map}
 use Prim.Native.Nat.{ℕ, _+_, _/_, _≤_, _<_}
@@ -15,9 +15,12 @@ use Rattle.rules.specs.Block.{blockBytes}
 use Rattle.rules.specs.Checks.{structureFaults}
 use Rattle.rules.specs.Functions.{Arena, arena, blockIn, within, encoded}
 use Rattle.rules.proofs.Answer.{passed}
+use Rattle.operation.specs.declared.Verdict.{Verdict}
+use Rattle.operation.specs.declared.Verdict.the-variants.{Refused}
+use Rattle.operation.specs.Verdict.{verdictOf}
 use Rattle.checks.specs.Batch.{Apt}
 use Rattle.checks.proofs.Walk.{equal-lengths, few-codes, few-records}
-use Rattle.checks.proofs.Passed.{andThen, refuse-then, first-then, structureStage, admissibleStage, Records, structured, apt}
+use Rattle.checks.proofs.Passed.{andThen, refuse-then, first-then, went-on, handed-on, structureStage, admissibleStage, Records, structured, apt}
 use Rattle.encoder.specs.Parts.{inputsChecked}
 
 -- ---- the ways that the checks end
@@ -42,9 +45,16 @@ module _ (width : ℕ) (t : List ℕ) (a : Arena) (size at : ℕ) where
         unfolding inputsChecked
         inputs-1 h = rw (w, le-ltb 1048576 size s, g, lt-ltb size at h)
 
-        pub inputs-then : at ≤ size → inputsChecked width t a size at ≡ andThen (structureStage width a) (admissibleStage t a)
-        unfolding inputsChecked blockIn
-        inputs-then h = rw (w, le-ltb 1048576 size s, g, le-ltb size at h) (first-then 0 (structureFaults width (blockIn a)) (good tt) (admissibleStage t a))
+        module _ (i : at ≤ size) where
+          stages : inputsChecked width t a size at ≡ andThen (structureStage width a) (admissibleStage t a)
+          unfolding inputsChecked blockIn
+          stages = rw (w, le-ltb 1048576 size s, g, le-ltb size at i) (first-then 0 (structureFaults width (blockIn a)) (good tt) (admissibleStage t a))
+
+          pub inputs-15 : (v : Verdict) (n p : ℕ) → v ≡ verdictOf (structureStage width a) → v ≡ Refused n p → v ≡ verdictOf (inputsChecked width t a size at)
+          inputs-15 v n p e h = e ∙ sym (ap verdictOf stages ∙ handed-on (structureStage width a) (admissibleStage t a) n p (sym e ∙ h))
+
+          pub inputs-4 : structureStage width a ≡ good tt → verdictOf (admissibleStage t a) ≡ verdictOf (inputsChecked width t a size at)
+          inputs-4 h = sym (ap verdictOf (stages ∙ went-on (structureStage width a) (admissibleStage t a) h))
 
 -- ---- what passed
 

@@ -1,48 +1,38 @@
-use mathlib.Core.Path.{_≡_, refl, sym, ap, _∙_}
-use Prim.Native.Nat.{_+_, _-_, _/_}
+use mathlib.Core.Path.{sym, ap, _∙_}
+use Prim.Native.Nat.{_-_}
 use native.Mathlib.Omega.{arith}
 use borrow.Author.Needs.{needs}
-use lib.ListN.{length}
-use Rattle.rules.specs.Record.{recordSize}
 use Rattle.rules.specs.Checks.{commitmentFault, commitmentFaults}
-use Rattle.rules.specs.Functions.{arena}
 use Rattle.operation.specs.Verdict.{verdictOf}
-use Rattle.checks.proofs.Batches.{rest, rest-turn, rest-all, lies, faultFrom, turn, stop, done, begin}
+use Rattle.checks.specs.Batch.{Apt}
+use Rattle.checks.proofs.Batches.{Came, came-first, came-last, came-lies, came-stop, came-room, came-next}
 use Rattle.commitment.proofs.commitment_fault.Statement.{statement}
 use Rattle.commitment.proofs.commitment_fault.Tie as tie
 
 abbrev Inv-loop : tie.InvT-loop
-Inv-loop table codes values records n from₀ b₀ from b =
-    (n ≡ length records / recordSize) × (from + rest (length records / recordSize) records b ≡ length codes) × (faultFrom (commitmentFault table) (length records / recordSize) (arena codes values records) b from ≡ faultFrom (commitmentFault table) (length records / recordSize) (arena codes values records) 0 0)
+Inv-loop table codes values records n from₀ b₀ from b = Came (commitmentFault table) codes values records n b from × Apt table codes
 
 abbrev μ-loop : tie.MeasureT-loop
 μ-loop table codes values records n from₀ b₀ from b = n - b
 
 loop-holds : tie.Need-loop-holds Inv-loop μ-loop
-loop-holds c = let a = c .before .before .before .before .args in (refl, omega (arith, rest-all (a .codes .now) (a .values .now) (a .records .now) (c .before .before .before .before .pre .0)), refl)
+loop-holds c = let p = c .before .before .before .before .pre in (came-first _ _ _ _ (p .0), p .1)
 
 batch-commitment-requires : tie.Need-batch-commitment-requires Inv-loop μ-loop
-batch-commitment-requires c κs =
-    let a = c .before .before .before .before .before .before .args in
-    let l = c .before .loop in
-    (lies (a .codes .now) (a .values .now) (a .records .now) (c .before .before .before .before .before .before .pre .0) (l .b) (l .from) (omega arith) (l .inv .1), c .before .before .before .before .before .before .pre .1)
+batch-commitment-requires c κs = let l = c .before .loop in (came-lies _ _ _ _ _ _ _ (l .inv .0) (omega arith), l .inv .1)
 
 returns : tie.Need-returns Inv-loop μ-loop
 unfolding commitmentFaults
 returns c =
-    let a = c .before .before .before .before .before .before .before .before .args in
-    let l = c .before .before .before .loop in
-    let n = arena (a .codes .now) (a .values .now) (a .records .now) in
-    let f = commitmentFault (a .table .now) in
-    ap verdictOf (sym (stop f _ n (l .b) (l .from) (omega arith) _ (c .before .batch-commitment .ensures) (c .if1 .taken)) ∙ l .inv .2 ∙ begin f n)
+    let r = c .before in
+    let l = r .before .before .loop in
+    ap verdictOf (came-stop _ _ _ _ _ _ _ (l .inv .0) (omega arith) _ (r .batch-commitment .ensures) (c .if1 .taken))
 
 start-requires : tie.Need-start-requires Inv-loop μ-loop
 start-requires c κs = omega arith
 
 add-from : tie.Need-add-from Inv-loop μ-loop
-add-from c =
-    let s = c .before .before .before .before .before .before .before .before .before .args .records .now in
-    omega (arith, rest-turn (length s / recordSize) s (c .before .before .before .before .loop .b) (omega arith))
+add-from c = let l = c .before .before .before .before .loop in omega (arith, came-room _ _ _ _ _ _ _ (l .inv .0) (omega arith) _ (c .start .ensures .0))
 
 add-b : tie.Need-add-b Inv-loop μ-loop
 add-b c = search needs
@@ -52,19 +42,14 @@ loop-less c = search needs
 
 loop-again : tie.Need-loop-again Inv-loop μ-loop
 loop-again c =
-    let a = c .before .before .before .before .before .before .before .before .before .args in
-    let l = c .before .before .before .before .loop in
-    let n = arena (a .codes .now) (a .values .now) (a .records .now) in
-    (l .inv .0, omega (arith, rest-turn (length (a .records .now) / recordSize) (a .records .now) (l .b) (omega arith)), rw (c .start .ensures .0) (turn (commitmentFault (a .table .now)) _ n (l .b) (l .from) (omega arith) (sym (c .before .before .batch-commitment .ensures) ∙ c .before .if1 .left)) ∙ l .inv .2)
+    let i = c .before in
+    let r = i .before in
+    let l = r .before .before .loop in
+    (came-next _ _ _ _ _ _ _ (l .inv .0) (omega arith) _ (c .start .ensures .0) (sym (r .batch-commitment .ensures) ∙ i .if1 .left), l .inv .1)
 
 returns-2 : tie.Need-returns-2 Inv-loop μ-loop
 unfolding commitmentFaults
-returns-2 c =
-    let a = c .before .before .before .before .before .before .args in
-    let l = c .before .loop in
-    let n = arena (a .codes .now) (a .values .now) (a .records .now) in
-    let f = commitmentFault (a .table .now) in
-    ap verdictOf (sym (done f _ n (l .b) (l .from) (omega arith)) ∙ l .inv .2 ∙ begin f n)
+returns-2 c = let l = c .before .loop in ap verdictOf (came-last _ _ _ _ _ _ _ (l .inv .0) (omega arith) .1)
 
 pub commitment-fault-spec : {M : Type 1} → statement M
 commitment-fault-spec =

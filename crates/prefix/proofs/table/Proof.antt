@@ -1,7 +1,6 @@
 use mathlib.Core.Path.{sym, _∙_}
 use native.Mathlib.Omega.{arith}
 use borrow.Author.Needs.{needs}
-use Rattle.rules.specs.Functions.{arena, paddingChecked}
 use Rattle.checks.proofs.Walk.{few-records}
 use Rattle.checks.proofs.Passed.{was-good, checked, padding-good, all-fit}
 use Rattle.prefix.proofs.Entries.{refused-way, no-room, made}
@@ -22,20 +21,22 @@ same-length c = search needs
 
 returns : tie.Need-returns
 returns c =
-    let a = c .before .before .before .before .before .before .before .before .before .before .before .before .args in
-    let n = arena (a .codes .now) (a .values .now) (a .records .now) in
-    refused-way (a .padded) 8 n (a .out .now) _ _ _ (sym (c .before .before .before .before .before .before .before .padding .ensures) ∙ c .before .before .before .before .before .v .given .1) (c .before .before .zero-words .ensures)
+    let z = c .before .before in
+    let v = z .before .before .before in
+    let p = v .before .before in
+    let s = p .before .before .before .before .before in
+    let a = s .args in
+    refused-way (a .padded) _ _ (a .out .now) _ _ _ (sym (p .padding .ensures) ∙ v .v .given .1) (z .zero-words .ensures)
 
 enum-told : tie.Need-enum-told
 enum-told c = search needs
 
 fill-requires : tie.Need-fill-requires
 fill-requires c κs =
-    let a = c .before .before .before .before .before .before .before .before .args in
-    let n = arena (a .codes .now) (a .values .now) (a .records .now) in
-    let g = was-good (paddingChecked 8 n) (sym (c .before .before .before .padding .ensures) ∙ c .before .enum-told .given .1) in
-    let k = checked 8 (a .codes .now) (a .values .now) (a .records .now) (padding-good 8 n g) in
-    (few-records (a .codes .now) (a .values .now) (a .records .now) (k .0), all-fit 8 _ _ _ (omega arith) (k .1))
+    let u = c .before in
+    let p = u .before .before in
+    let k = checked _ _ _ _ (padding-good _ _ (was-good _ (sym (p .padding .ensures) ∙ u .enum-told .given .1))) in
+    (few-records _ _ _ (k .0), all-fit _ _ _ _ (omega arith) (k .1))
 
 zero-words-requires-2 : tie.Need-zero-words-requires-2
 zero-words-requires-2 c κs = search needs
@@ -45,11 +46,15 @@ same-length-2 c = search needs
 
 returns-2 : tie.Need-returns-2
 returns-2 c =
-    let a = c .before .before .before .before .before .before .before .before .before .before .before .before .before .before .before .before .args in
-    let n = arena (a .codes .now) (a .values .now) (a .records .now) in
-    let g = was-good (paddingChecked 8 n) (sym (c .before .before .before .before .before .before .before .before .before .before .before .padding .ensures) ∙ c .before .before .before .before .before .before .before .before .before .enum-told .given .1) in
-    let l = c .before .before .before .before .before .before .before .fill .kept .1 .1 .0 in
-    no-room (a .padded) 8 n (a .out .now) g _ _ (c .before .before .before .before .before .before .before .fill .ensures) _ (omega (arith, c .before .before .before .before .if1 .taken)) l (c .before .before .zero-words2 .ensures)
+    let z = c .before .before in
+    let i = z .before .before in
+    let f = i .before .before .before in
+    let u = f .before .before in
+    let p = u .before .before in
+    let s = p .before .before .before .before .before in
+    let a = s .args in
+    let g = was-good _ (sym (p .padding .ensures) ∙ u .enum-told .given .1) in
+    no-room (a .padded) _ _ (a .out .now) g _ _ (f .fill .ensures) _ (omega (arith, i .if1 .taken)) (f .fill .kept .1 .1 .0) (z .zero-words2 .ensures)
 
 zero-words-requires-3 : tie.Need-zero-words-requires-3
 zero-words-requires-3 c κs = search needs
@@ -59,11 +64,15 @@ same-length-3 c = search needs
 
 returns-3 : tie.Need-returns-3
 returns-3 c =
-    let a = c .before .before .before .before .before .before .before .before .before .before .before .before .before .before .before .before .args in
-    let n = arena (a .codes .now) (a .values .now) (a .records .now) in
-    let g = was-good (paddingChecked 8 n) (sym (c .before .before .before .before .before .before .before .before .before .before .before .padding .ensures) ∙ c .before .before .before .before .before .before .before .before .before .enum-told .given .1) in
-    let l = c .before .before .before .before .before .before .before .fill .kept .1 .1 .0 in
-    made (a .padded) 8 n (a .out .now) g _ _ (c .before .before .before .before .before .before .before .fill .ensures) _ (omega (arith, c .before .before .before .before .if1 .left)) l (c .before .before .zero-words3 .ensures)
+    let z = c .before .before in
+    let i = z .before .before in
+    let f = i .before .before .before in
+    let u = f .before .before in
+    let p = u .before .before in
+    let s = p .before .before .before .before .before in
+    let a = s .args in
+    let g = was-good _ (sym (p .padding .ensures) ∙ u .enum-told .given .1) in
+    made (a .padded) _ _ (a .out .now) g _ _ (f .fill .ensures) _ (omega (arith, i .if1 .left)) (f .fill .kept .1 .1 .0) (z .zero-words3 .ensures)
 
 pub table-spec : {M : Type 1} → statement M
 table-spec =
