@@ -2,7 +2,7 @@
 use mathlib.Core.Path.{_≡_, refl, sym, ap, _∙_}
 use mathlib.Core.List.{List, [], _∷_, map}
 use mathlib.Core.Bool.{Bool, true, false, cond, not}
-use Prim.Native.Nat.{ℕ, zero, suc, _+_, _-_, _*_, _/_, _%_, _≤_}
+use Prim.Native.Nat.{ℕ, zero, suc, _+_, _-_, _/_, _%_, _≤_}
 use native.Mathlib.Omega.{arith}
 use borrow.Author.Tests.{leb-true, eqb-true, not-false}
 use lib.ListN.{length, getD, take, drop}
@@ -10,7 +10,7 @@ use lib.Dec.{leb, eqb}
 use Rattle.rules.specs.Lists.{total, All}
 use Rattle.rules.specs.Answer.{Answer, good, refuseFirst}
 use Rattle.rules.specs.Operations.{goodTable, opFault, admissible, Op}
-use Rattle.rules.specs.Record.{Record, Block, startsFrom, differences, recordAt, recordsFrom, recordsIn, codesNumber, immediates, NineAndEight, recordSize}
+use Rattle.rules.specs.Record.{Record, Block, startsFrom, differences, recordsFrom, recordsIn, codesNumber, immediates, NineAndEight, recordSize}
 use Rattle.rules.specs.Bytes.{upTo}
 use Rattle.rules.specs.Checks.{ninth, startsRight, recordRight, structureFaults, held, paddingFault, paddingFaults, commitmentFault, commitmentFaults, groupsFault, placingFault, begins}
 use Rattle.rules.specs.Functions.{Arena, blockIn, within, paddingChecked, commitmentChecked}
@@ -18,8 +18,8 @@ use Rattle.rules.proofs.Answer.{clash, passed, first-append}
 use Rattle.rules.proofs.Operations.{true-left, true-right, length-operations}
 use Rattle.rules.proofs.Slots.{total-split, or-first}
 use Rattle.claims.proofs.ReadThenChecked.{start-at, take-total}
-use Rattle.rules.proofs.Sizes.{length-bytesAt, length-wordsAt}
 use Rattle.claims.proofs.Lists.{all-map}
+use Rattle.rules.proofs.Records.{loaded}
 
 pub no-cond : (b : Bool) (n : ℕ) → cond b 0 (suc n) ≡ 0 → b ≡ true
 no-cond true n h = refl
@@ -154,11 +154,11 @@ no-padding-fault w a h = first-none paddingFault 0 (held (blockIn a)) _ tt (stru
 -- ---- records as they lie in a run
 
 shaped-from : (k : ℕ) (s : List ℕ) (b : ℕ) → All NineAndEight (recordsFrom k s b) × (length (recordsFrom k s b) ≡ k)
-unfolding recordsFrom recordAt
+unfolding recordsFrom
 shaped-from zero s b = (tt, refl)
 shaped-from (suc k) s b =
     let ih = shaped-from k s (b + 1) in
-    ((record { starts = length-bytesAt 9 s (recordSize * b); flags = length-bytesAt 8 s (recordSize * b + 9); numbers = length-wordsAt 8 s (recordSize * b + 17) }, ih .0), ap suc (ih .1))
+    ((loaded s b, ih .0), ap suc (ih .1))
 
 pub limits : (a : Arena) → within a ≡ true → (length (blockIn a .ops) ≤ 65535) × (length (blockIn a .records) ≤ 16384)
 unfolding within blockIn recordsIn

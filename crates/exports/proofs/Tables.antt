@@ -50,7 +50,7 @@ module _ (padded : Bool) (a : Arena) where
   longest w s =
       let h = not-false (within a) w in
       let checked : structureChecked 8 a ≡ good tt = rw h s in
-      omega (arith, by-marks padded, all-marked a checked, few-operations a h)
+      omega (arith, by-marks padded, all-marked 8 (omega arith) a checked, few-operations a h)
 
   ltb-min : (k m : ℕ) → m ≤ 65536 → ltb (min k 65536) m ≡ ltb k m
   ltb-min k m h = go (ltb k m) refl

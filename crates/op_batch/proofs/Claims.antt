@@ -12,7 +12,7 @@ use Rattle.op_batch.specs.Claims.{Fits, GroupLookups}
 use Rattle.op_batch.proofs.Right.{Sound, sound, rise}
 use Rattle.op_batch.proofs.Places.{group-turn, group-stop, group-end}
 
-module _ (r : Record) (i : ℕ) (l : length (r .starts) ≡ 9) (x : Sound 8 r) where
+module _ (w : ℕ) (r : Record) (i : ℕ) (l : length (r .starts) ≡ 9) (x : Sound w r) where
   abbrev from : ℕ → Option Place
   from g = groupFrom g (drop g (r .starts)) i
 
@@ -23,7 +23,7 @@ module _ (r : Record) (i : ℕ) (l : length (r .starts) ≡ 9) (x : Sound 8 r) w
   up zero g h = let e : g + 0 ≡ g = omega arith in rw e (omega arith)
   up (suc k) g h =
       let e : g + suc k ≡ g + k + 1 = omega arith in
-      rw e (omega (arith, up k g (omega arith), rise 8 r x l (g + k) (omega arith)))
+      rw e (omega (arith, up k g (omega arith), rise w r x l (g + k) (omega arith)))
 
   -- what fits is met on the way, and nothing before it
   met : (p : Place) → Fits r i p → (k g : ℕ) → g + k ≡ p .group → from g ≡ some p
@@ -53,13 +53,13 @@ module _ (r : Record) (i : ℕ) (l : length (r .starts) ≡ 9) (x : Sound 8 r) w
 
 pub group-lookups : GroupLookups
 unfolding groupOf
-group-lookups r i l e =
-    let x = sound 8 r e in
-    let one : i < ninth r → (p : Place) × ((groupFrom 0 (r .starts) i ≡ some p) × Fits r i p) = λ n. one-from r i l x 8 0 (omega arith) (omega (arith, x .first)) n in
+group-lookups w r i l e =
+    let x = sound w r e in
+    let one : i < ninth r → (p : Place) × ((groupFrom 0 (r .starts) i ≡ some p) × Fits r i p) = λ n. one-from w r i l x 8 0 (omega arith) (omega (arith, x .first)) n in
     record {
-      fits = λ p h. split i (ninth r) (λ n. let q = one n in rw (same (q .0) p (sym (q .1 .0) ∙ h)) at (q .1 .1)) (λ n. absurd (differ p (sym (none-from r i l x 8 0 (omega arith) n) ∙ h)));
-      only = λ p f. met r i l x p f (p .group) 0 (omega arith);
-      past = none-from r i l x 8 0 (omega arith);
+      fits = λ p h. split i (ninth r) (λ n. let q = one n in rw (same (q .0) p (sym (q .1 .0) ∙ h)) at (q .1 .1)) (λ n. absurd (differ p (sym (none-from w r i l x 8 0 (omega arith) n) ∙ h)));
+      only = λ p f. met w r i l x p f (p .group) 0 (omega arith);
+      past = none-from w r i l x 8 0 (omega arith);
       found = λ n. let q = one n in (q .0, q .1 .0);
     }
   where

@@ -11,12 +11,12 @@ use lib.Seq.{drop-cons}
 use lib.Dec.{leb, eqb}
 use Rattle.rules.specs.Lists.{every}
 use Rattle.rules.specs.Digits.{number, leAt}
-use Rattle.rules.specs.Record.{Record, bytesAt, recordAt, recordSize}
+use Rattle.rules.specs.Record.{Record, bytesAt, recordAt, recordSize, flagsPlace, numbersPlace}
 use Rattle.rules.specs.Checks.{ninth, startsRight, recordRight}
 use Rattle.rules.proofs.Digits.{split}
 use Rattle.rules.proofs.Operations.{true-left, true-right}
-use Rattle.rules.proofs.Sizes.{length-bytesAt, length-wordsAt}
 use Rattle.rules.proofs.Loads.{byte, word}
+use Rattle.rules.proofs.Records.{loaded}
 
 every-at : (test : ℕ → Bool) (xs : List ℕ) (i : ℕ) → every test xs ≡ true → i < length xs → test (getD xs i 0) ≡ true
 unfolding every
@@ -107,29 +107,26 @@ as-number (suc k) s at = ap (λ (n : ℕ). getD s at 0 + 256 * n) (as-number k s
 
 module _ (s : List ℕ) (b : ℕ) where
   pub starts-length : length (recordAt s b .starts) ≡ 9
-  unfolding recordAt
-  starts-length = length-bytesAt 9 s (recordSize * b)
+  starts-length = loaded s b .starts
 
   pub flags-length : length (recordAt s b .flags) ≡ 8
-  unfolding recordAt
-  flags-length = length-bytesAt 8 s (recordSize * b + 9)
+  flags-length = loaded s b .flags
 
   pub numbers-length : length (recordAt s b .numbers) ≡ 8
-  unfolding recordAt
-  numbers-length = length-wordsAt 8 s (recordSize * b + 17)
+  numbers-length = loaded s b .numbers
 
   pub start-at : (g : ℕ) → g < 9 → getD (recordAt s b .starts) g 0 ≡ getD s (recordSize * b + g) 0
   unfolding recordAt
   start-at g h = byte 9 s (recordSize * b) g h
 
-  pub flag-at : (g : ℕ) → g < 8 → getD (recordAt s b .flags) g 0 ≡ getD s (recordSize * b + 9 + g) 0
+  pub flag-at : (g : ℕ) → g < 8 → getD (recordAt s b .flags) g 0 ≡ getD s (recordSize * b + flagsPlace + g) 0
   unfolding recordAt
-  flag-at g h = byte 8 s (recordSize * b + 9) g h
+  flag-at g h = byte 8 s (recordSize * b + flagsPlace) g h
 
-  pub flags-at : number 256 (recordAt s b .flags) ≡ leAt 8 s (recordSize * b + 9)
+  pub flags-at : number 256 (recordAt s b .flags) ≡ leAt 8 s (recordSize * b + flagsPlace)
   unfolding recordAt
-  flags-at = as-number 8 s (recordSize * b + 9)
+  flags-at = as-number 8 s (recordSize * b + flagsPlace)
 
-  pub number-at : (g : ℕ) → g < 8 → getD (recordAt s b .numbers) g 0 ≡ leAt 8 s (recordSize * b + 17 + 8 * g)
+  pub number-at : (g : ℕ) → g < 8 → getD (recordAt s b .numbers) g 0 ≡ leAt 8 s (recordSize * b + numbersPlace + 8 * g)
   unfolding recordAt
-  number-at g h = word 8 s (recordSize * b + 17) g h
+  number-at g h = word 8 s (recordSize * b + numbersPlace) g h

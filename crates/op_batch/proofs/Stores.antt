@@ -9,7 +9,7 @@ use lib.ListN.{length, getD, take, drop, set, replicate, length-append, length-r
 use lib.Seq.{sets, length-sets, sets-eq, getD-set-other, length-take-le}
 use Rattle.rules.specs.Lists.{fitted, inRow}
 use Rattle.rules.specs.Digits.{digits, leAt, leBytes}
-use Rattle.rules.specs.Record.{Record, NineAndEight, startsFrom, recordSize, wordBytes, recordBytes, bytesAt, wordsAt, recordAt}
+use Rattle.rules.specs.Record.{Record, NineAndEight, startsFrom, recordSize, wordBytes, recordBytes, bytesAt, wordsAt, recordAt, flagsPlace, numbersPlace, countPlace}
 use Rattle.rules.proofs.Digits.{split, length-leBytes, length-digits}
 use Rattle.rules.proofs.Records.{Sized, Alike, record-length, parts-back, record-back}
 use Rattle.rules.proofs.Runs.{sets-past, sets-front, sets-over, sets-fitted, sets-next}
@@ -45,9 +45,9 @@ record-same s s′ b h =
     let past : (k i : ℕ) → k + i < recordSize → getD s (recordSize * b + k + i) 0 ≡ getD s′ (recordSize * b + k + i) 0 = λ k i l. (let e : recordSize * b + k + i ≡ recordSize * b + (k + i) = omega arith in rw e (h (k + i) l)) in
     rw (
       bytes-same 9 s s′ (recordSize * b) (λ i l. h i (omega arith)),
-      bytes-same 8 s s′ (recordSize * b + 9) (λ i l. past 9 i (omega arith)),
-      words-same 8 s s′ (recordSize * b + 17) (λ i l. past 17 i (omega arith)),
-      h 81 (omega arith),
+      bytes-same 8 s s′ (recordSize * b + flagsPlace) (λ i l. past flagsPlace i (omega arith)),
+      words-same 8 s s′ (recordSize * b + numbersPlace) (λ i l. past numbersPlace i (omega arith)),
+      h countPlace (omega arith),
     )
 
 -- what a store leaves alone
@@ -132,7 +132,7 @@ module _ (n : ℕ) (p : List ℕ) (b : ℕ) (at : length p ≡ recordSize * b) (
   flag-set g v h =
       let s = w .starts in
       let f = w .flags in
-      part2 n (r .flags) (set (r .flags) g v) g (recordSize * b + 9 + g) (v ∷ []) refl (omega arith) p (r .starts) (wordBytes (r .numbers) ++ (r .count ∷ [])) (omega arith)
+      part2 n (r .flags) (set (r .flags) g v) g (recordSize * b + flagsPlace + g) (v ∷ []) refl (omega arith) p (r .starts) (wordBytes (r .numbers) ++ (r .count ∷ [])) (omega arith)
 
   pub number-set : (g v : ℕ) → g < 8 → numberSet b g v (fitted n (p ++ recordBytes r)) ≡ fitted n (p ++ recordBytes (withNumber g v r))
   unfolding numberSet recordBytes
@@ -141,14 +141,14 @@ module _ (n : ℕ) (p : List ℕ) (b : ℕ) (at : length p ≡ recordSize * b) (
       let f = w .flags in
       let k = w .numbers in
       let l = length-leBytes 8 v in
-      part3 n (wordBytes (r .numbers)) (wordBytes (set (r .numbers) g v)) (8 * g) (recordSize * b + 17 + 8 * g) (leBytes 8 v) (words-set (r .numbers) g v (omega arith)) (omega (arith, words r w)) p (r .starts) (r .flags) (r .count ∷ []) (omega arith)
+      part3 n (wordBytes (r .numbers)) (wordBytes (set (r .numbers) g v)) (8 * g) (recordSize * b + numbersPlace + 8 * g) (leBytes 8 v) (words-set (r .numbers) g v (omega arith)) (omega (arith, words r w)) p (r .starts) (r .flags) (r .count ∷ []) (omega arith)
 
   pub count-set : (v : ℕ) → countSet b v (fitted n (p ++ recordBytes r)) ≡ fitted n (p ++ recordBytes (withCount v r))
   unfolding countSet recordBytes
   count-set v =
       let s = w .starts in
       let f = w .flags in
-      part4 n (r .count ∷ []) (v ∷ []) 0 (recordSize * b + 81) (v ∷ []) refl (omega arith) p (r .starts) (r .flags) (wordBytes (r .numbers)) [] (omega (arith, words r w))
+      part4 n (r .count ∷ []) (v ∷ []) 0 (recordSize * b + countPlace) (v ∷ []) refl (omega arith) p (r .starts) (r .flags) (wordBytes (r .numbers)) [] (omega (arith, words r w))
 
 -- ---- a record by its packed forms
 
@@ -159,12 +159,12 @@ module _ (v f : ℕ) (ns : List ℕ) (c : ℕ) (n : length ns ≡ 8) where
 
   -- its four parts, stored one after the other
   pub packed-stored : (l : List ℕ) (b : ℕ)
-      → set (sets (sets (sets l (recordSize * b) (startsFrom 0 (digits 16 8 v))) (recordSize * b + 9) (digits 2 8 f)) (recordSize * b + 17) (wordBytes ns)) (recordSize * b + 81) c ≡ recordSet b (packed v f ns c) l
+      → set (sets (sets (sets l (recordSize * b) (startsFrom 0 (digits 16 8 v))) (recordSize * b + flagsPlace) (digits 2 8 f)) (recordSize * b + numbersPlace) (wordBytes ns)) (recordSize * b + countPlace) c ≡ recordSet b (packed v f ns c) l
   unfolding recordSet recordBytes packed
   packed-stored l b =
       let at = recordSize * b in
       let starts : length (startsFrom 0 (digits 16 8 v)) ≡ 9 = length-starts 0 (digits 16 8 v) ∙ ap suc (length-digits 16 8 v) in
       let words : length (wordBytes ns) ≡ 64 = length-words ns ∙ omega arith in
-      sets-next (sets (sets l at (startsFrom 0 (digits 16 8 v))) (at + 9) (digits 2 8 f)) (at + 17) (wordBytes ns) (at + 81) (c ∷ []) (omega (arith, words))
-      ∙ sets-next (sets l at (startsFrom 0 (digits 16 8 v))) (at + 9) (digits 2 8 f) (at + 17) (wordBytes ns ++ (c ∷ [])) (omega (arith, length-digits 2 8 f))
-      ∙ sets-next l at (startsFrom 0 (digits 16 8 v)) (at + 9) (digits 2 8 f ++ (wordBytes ns ++ (c ∷ []))) (omega (arith, starts))
+      sets-next (sets (sets l at (startsFrom 0 (digits 16 8 v))) (at + flagsPlace) (digits 2 8 f)) (at + numbersPlace) (wordBytes ns) (at + countPlace) (c ∷ []) (omega (arith, words))
+      ∙ sets-next (sets l at (startsFrom 0 (digits 16 8 v))) (at + flagsPlace) (digits 2 8 f) (at + numbersPlace) (wordBytes ns ++ (c ∷ [])) (omega (arith, length-digits 2 8 f))
+      ∙ sets-next l at (startsFrom 0 (digits 16 8 v)) (at + flagsPlace) (digits 2 8 f ++ (wordBytes ns ++ (c ∷ []))) (omega (arith, starts))

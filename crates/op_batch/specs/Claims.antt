@@ -21,4 +21,4 @@ pub record OnlyGroup (r : Record) (i : ℕ) : Type 0 where
   pub found : i < ninth r → (p : Place) × (groupOf r i ≡ some p)
 
 abbrev pub GroupLookups : Type 0
-GroupLookups = (r : Record) (i : ℕ) → length (r .starts) ≡ 9 → recordRight 8 r ≡ true → OnlyGroup r i
+GroupLookups = (w : ℕ) (r : Record) (i : ℕ) → length (r .starts) ≡ 9 → recordRight w r ≡ true → OnlyGroup r i

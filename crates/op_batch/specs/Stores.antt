@@ -4,7 +4,7 @@ use Prim.Native.Nat.{ℕ, _+_, _-_, _*_}
 use lib.ListN.{set, replicate}
 use lib.Seq.{sets}
 use Rattle.rules.specs.Digits.{digits, leBytes}
-use Rattle.rules.specs.Record.{Record, startsFrom, recordSize, recordBytes}
+use Rattle.rules.specs.Record.{Record, startsFrom, recordSize, recordBytes, flagsPlace, numbersPlace, countPlace}
 
 -- ---- in the run
 
@@ -16,13 +16,13 @@ unfoldable pub startsSet : ℕ → ℕ → ℕ → List ℕ → List ℕ
 startsSet b g v s = sets s (recordSize * b + g) (replicate (9 - g) v)
 
 unfoldable pub flagSet : ℕ → ℕ → ℕ → List ℕ → List ℕ
-flagSet b g v s = set s (recordSize * b + 9 + g) v
+flagSet b g v s = set s (recordSize * b + flagsPlace + g) v
 
 unfoldable pub numberSet : ℕ → ℕ → ℕ → List ℕ → List ℕ
-numberSet b g v s = sets s (recordSize * b + 17 + 8 * g) (leBytes 8 v)
+numberSet b g v s = sets s (recordSize * b + numbersPlace + 8 * g) (leBytes 8 v)
 
 unfoldable pub countSet : ℕ → ℕ → List ℕ → List ℕ
-countSet b v s = set s (recordSize * b + 81) v
+countSet b v s = set s (recordSize * b + countPlace) v
 
 unfoldable pub recordSet : ℕ → Record → List ℕ → List ℕ
 recordSet b r s = sets s (recordSize * b) (recordBytes r)

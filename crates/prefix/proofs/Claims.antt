@@ -174,16 +174,13 @@ marks-all (suc k) s b h =
     let more = marks-all k s (b + 1) (λ j l. let e : b + 1 + j ≡ b + suc j = omega arith in rw e (h (suc j) (omega arith))) in
     omega (arith, length-append (marksAt r 0) (marks (recordsFrom k s (b + 1))), one, x .sound .first, more)
 
-marked : (w : ℕ) → w ≤ 8 → (a : Arena) → structureChecked w a ≡ good tt → length (marks (blockIn a .records)) ≡ length (a .codes)
+pub all-marked : AllMarked
 unfolding blockIn recordsIn
-marked w room a h =
+all-marked w room a h =
     let k = checked w (a .codes) (a .values) (a .records) h in
     marks-all (length (a .records) / recordSize) (a .records) 0 (λ j l. rw (zero-add j) (all-fit w (a .codes) (a .values) (a .records) room (k .1) j l))
     ∙ k .1 .sum
     ∙ length-operations (a .codes) (a .values) (equal-lengths (a .codes) (a .values) (a .records) (k .0))
-
-pub all-marked : AllMarked
-all-marked = marked 8 (omega arith)
 
 -- ---- what the two functions left
 
@@ -232,5 +229,5 @@ pub tables-left : TablesLeft
 tables-left a rawRun rawRun′ paddedRun paddedRun′ n m h k =
     let r = was-left rawTable 8 a rawRun rawRun′ n h in
     let p = was-left paddedTable 8 a paddedRun paddedRun′ m k in
-    let few : length (marks (blockIn a .records)) ≤ largest = omega (arith, all-marked a (r .0), few-codes (a .codes) (a .values) (a .records) (checked 8 (a .codes) (a .values) (a .records) (r .0) .0)) in
+    let few : length (marks (blockIn a .records)) ≤ largest = omega (arith, all-marked 8 (omega arith) a (r .0), few-codes (a .codes) (a .values) (a .records) (checked 8 (a .codes) (a .values) (a .records) (r .0) .0)) in
     rw (r .1, p .1) (tables-lead (blockIn a) few)

@@ -50,7 +50,7 @@ TablesLead = (b : Block) → length (marks (b .records)) ≤ largest → Leads b
 
 -- and every block that passes the structure check is one: each of its operations has a mark
 abbrev pub AllMarked : Type 0
-AllMarked = (a : Arena) → structureChecked 8 a ≡ good tt → length (marks (blockIn a .records)) ≡ length (a .codes)
+AllMarked = (w : ℕ) → w ≤ 8 → (a : Arena) → structureChecked w a ≡ good tt → length (marks (blockIn a .records)) ≡ length (a .codes)
 
 -- From contract to contract: of the two functions nothing is known but what they ensure, `Answered`. What they left in the lent runs, cut at the entries
 -- that they replied, leads there and back.

@@ -7,9 +7,9 @@ use lib.ListN.{length, getD, length-append}
 use lib.Seq.{append-snoc, getD-append-seam}
 use Rattle.rules.specs.Lists.{inRow, All}
 use Rattle.rules.specs.Digits.{leAt, leBytes}
-use Rattle.rules.specs.Record.{Record, NineAndEight, recordSize, wordBytes, recordBytes, recordsBytes, bytesAt, wordsAt, recordAt, recordsFrom, recordsIn}
+use Rattle.rules.specs.Record.{Record, NineAndEight, recordSize, wordBytes, recordBytes, recordsBytes, bytesAt, wordsAt, recordAt, recordsFrom, recordsIn, flagsPlace, numbersPlace, countPlace}
 use Rattle.rules.proofs.Digits.{leAt-back, length-leBytes}
-use Rattle.rules.proofs.Sizes.{length-words}
+use Rattle.rules.proofs.Sizes.{length-words, length-bytesAt, length-wordsAt}
 
 bytes-back : (xs p q : List ℕ) → bytesAt (length xs) (p ++ (xs ++ q)) (length p) ≡ xs
 unfolding bytesAt
@@ -70,13 +70,13 @@ module _ (p q : List ℕ) (r : Record) (b : ℕ) (e : length p ≡ recordSize * 
   at-count : all ≡ (((p ++ s) ++ f) ++ w) ++ (r .count ∷ q)
   at-count = at-numbers ∙ sym (append-assoc ((p ++ s) ++ f) w (c ++ q))
 
-  to-flags : length (p ++ s) ≡ recordSize * b + 9
+  to-flags : length (p ++ s) ≡ recordSize * b + flagsPlace
   to-flags = length-append p s ∙ ap₂ (λ (x y : ℕ). x + y) e (h .starts)
 
-  to-numbers : length ((p ++ s) ++ f) ≡ recordSize * b + 17
+  to-numbers : length ((p ++ s) ++ f) ≡ recordSize * b + numbersPlace
   to-numbers = omega (arith, length-append (p ++ s) f, to-flags, h .flags)
 
-  to-count : length (((p ++ s) ++ f) ++ w) ≡ recordSize * b + 81
+  to-count : length (((p ++ s) ++ f) ++ w) ≡ recordSize * b + countPlace
   to-count = omega (arith, length-append ((p ++ s) ++ f) w, to-numbers, length-words (r .numbers), h .numbers)
 
   pub parts-back : Alike (recordAt (p ++ (recordBytes r ++ q)) b) r
@@ -92,8 +92,13 @@ module _ (p q : List ℕ) (r : Record) (b : ℕ) (e : length p ≡ recordSize * 
   unfolding recordAt recordBytes
   record-back small =
       let parts = parts-back in
-      let numbers : wordsAt 8 all (recordSize * b + 17) ≡ r .numbers = (λ j. wordsAt (sym (h .numbers) j) (at-numbers j) (sym to-numbers j)) ∙ words-back (r .numbers) ((p ++ s) ++ f) (c ++ q) small in
+      let numbers : wordsAt 8 all (recordSize * b + numbersPlace) ≡ r .numbers = (λ j. wordsAt (sym (h .numbers) j) (at-numbers j) (sym to-numbers j)) ∙ words-back (r .numbers) ((p ++ s) ++ f) (c ++ q) small in
       λ j. record { starts = parts .starts j; flags = parts .flags j; numbers = numbers j; count = parts .count j }
+
+-- what is loaded has so many of each
+pub loaded : (s : List ℕ) (b : ℕ) → NineAndEight (recordAt s b)
+unfolding recordAt
+loaded s b = record { starts = length-bytesAt 9 s (recordSize * b); flags = length-bytesAt 8 s (recordSize * b + flagsPlace); numbers = length-wordsAt 8 s (recordSize * b + numbersPlace) }
 
 pub record-length : (r : Record) → NineAndEight r → length (recordBytes r) ≡ recordSize
 unfolding recordBytes

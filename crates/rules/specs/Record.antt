@@ -101,6 +101,16 @@ noBlock = record { ops = []; records = [] }
 abbrev pub recordSize : ℕ
 recordSize = 82
 
+-- where in a record its flags, its numbers and its count begin
+abbrev pub flagsPlace : ℕ
+flagsPlace = 9
+
+abbrev pub numbersPlace : ℕ
+numbersPlace = 17
+
+abbrev pub countPlace : ℕ
+countPlace = 81
+
 abbrev pub wordBytes : List ℕ → List ℕ
 wordBytes = inRow (leBytes 8)
 
@@ -124,9 +134,9 @@ unfoldable pub recordAt : List ℕ → ℕ → Record
 recordAt s b =
     record {
       starts = bytesAt 9 s (recordSize * b);
-      flags = bytesAt 8 s (recordSize * b + 9);
-      numbers = wordsAt 8 s (recordSize * b + 17);
-      count = getD s (recordSize * b + 81) 0;
+      flags = bytesAt 8 s (recordSize * b + flagsPlace);
+      numbers = wordsAt 8 s (recordSize * b + numbersPlace);
+      count = getD s (recordSize * b + countPlace) 0;
     }
 
 -- k records from the b-th on, and all whole records of a run

@@ -2,7 +2,7 @@ use mathlib.Core.Path.{refl}
 use Prim.Native.Nat.{_+_, _*_}
 use native.Mathlib.Omega.{arith}
 use borrow.Author.Needs.{needs}
-use Rattle.rules.specs.Record.{recordAt, recordSize}
+use Rattle.rules.specs.Record.{recordAt, recordSize, countPlace}
 use Rattle.op_batch.proofs.count.Statement.{statement}
 use Rattle.op_batch.proofs.count.Tie as tie
 
@@ -16,11 +16,11 @@ shared-slice-read-result : tie.Need-shared-slice-read-result
 shared-slice-read-result c = search needs
 
 cast-result : tie.Need-cast-result
-cast-result c = omega (arith, c .shared-slice-known .given (recordSize * c .before .args .b + 81))
+cast-result c = omega (arith, c .shared-slice-known .given (recordSize * c .before .args .b + countPlace))
 
 returns : tie.Need-returns
 unfolding recordAt
-returns c = (refl, omega (arith, c .shared-slice-known .given (recordSize * c .before .args .b + 81)))
+returns c = (refl, omega (arith, c .shared-slice-known .given (recordSize * c .before .args .b + countPlace)))
 
 pub count-spec : {M : Type 1} → statement M
 count-spec = tie.close (tie.spec mul-at add-at shared-slice-read-result cast-result returns)

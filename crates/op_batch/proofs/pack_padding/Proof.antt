@@ -8,7 +8,7 @@ use Prim.Native.Nat.{ℕ, _+_, _*_, _-_, _^_, _≤_, _<_}
 use lib.ListN.{getD}
 use lib.Dec.{leb}
 use Rattle.rules.specs.Digits.{number}
-use Rattle.rules.specs.Record.{bytesAt, recordAt, recordSize}
+use Rattle.rules.specs.Record.{bytesAt, recordAt, recordSize, flagsPlace}
 use Rattle.op_batch.proofs.Packing.{power-turn, power-most, bytes-back, every-at}
 use Rattle.op_batch.proofs.pack_padding.Statement.{statement}
 use Rattle.op_batch.proofs.pack_padding.Tie as tie
@@ -48,7 +48,7 @@ unfolding recordAt
 add-v-2 c =
     let l = c .before .before .loop in
     let a = c .before .before .before .args in
-    let f = leb-true (getD (now (a .records)) (recordSize * a .b + 9 + (l .i - 1)) 0) 1 (every-at (λ (f : ℕ). leb f 1) 8 (now (a .records)) (recordSize * a .b + 9) (c .before .before .before .pre .1) (l .i - 1) (omega arith)) in
+    let f = leb-true (getD (now (a .records)) (recordSize * a .b + flagsPlace + (l .i - 1)) 0) 1 (every-at (λ (f : ℕ). leb f 1) 8 (now (a .records)) (recordSize * a .b + flagsPlace) (c .before .before .before .pre .1) (l .i - 1) (omega arith)) in
     omega (arith, power-turn 2 8 (l .i) (omega arith) (omega arith), power-most 2 8 8 (l .i - 1) (omega arith) (omega arith))
 
 loop-less : tie.Need-loop-less Inv-loop μ-loop
@@ -59,10 +59,10 @@ unfolding recordAt
 loop-again c =
     let l = c .before .before .loop in
     let a = c .before .before .before .args in
-    let f = leb-true (getD (now (a .records)) (recordSize * a .b + 9 + (l .i - 1)) 0) 1 (every-at (λ (f : ℕ). leb f 1) 8 (now (a .records)) (recordSize * a .b + 9) (c .before .before .before .pre .1) (l .i - 1) (omega arith)) in (
+    let f = leb-true (getD (now (a .records)) (recordSize * a .b + flagsPlace + (l .i - 1)) 0) 1 (every-at (λ (f : ℕ). leb f 1) 8 (now (a .records)) (recordSize * a .b + flagsPlace) (c .before .before .before .pre .1) (l .i - 1) (omega arith)) in (
       omega arith,
       omega (arith, power-turn 2 8 (l .i) (omega arith) (omega arith)),
-      omega (arith, bytes-back 2 8 (now (a .records)) (recordSize * a .b + 9) (l .i) (omega arith) (omega arith)),
+      omega (arith, bytes-back 2 8 (now (a .records)) (recordSize * a .b + flagsPlace) (l .i) (omega arith) (omega arith)),
     )
 
 returns : tie.Need-returns Inv-loop μ-loop
