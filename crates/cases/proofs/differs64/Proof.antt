@@ -1,8 +1,8 @@
 use Prim.Native.Nat.{_-_, _≤_}
 use borrow.Author.Needs.{needs}
 use lib.ListN.{length}
-use Rattle.replay.proofs.differs8.Statement.{statement}
-use Rattle.replay.proofs.differs8.Tie as tie
+use Rattle.cases.proofs.differs64.Statement.{statement}
+use Rattle.cases.proofs.differs64.Tie as tie
 
 abbrev Inv-loop : tie.InvT-loop
 Inv-loop s from given ours x₀ i₀ x i = i ≤ length ours
@@ -16,11 +16,11 @@ loop-holds c = search needs
 item-requires : tie.Need-item-requires Inv-loop μ-loop
 item-requires c κs = search needs
 
-shared-slice-read-wide : tie.Need-shared-slice-read-wide Inv-loop μ-loop
-shared-slice-read-wide c = search needs
+mul-if1 : tie.Need-mul-if1 Inv-loop μ-loop
+mul-if1 c = search needs
 
-wide-requires : tie.Need-wide-requires Inv-loop μ-loop
-wide-requires c κs = search needs
+shared-slice-read-if1 : tie.Need-shared-slice-read-if1 Inv-loop μ-loop
+shared-slice-read-if1 c = search needs
 
 returns : tie.Need-returns Inv-loop μ-loop
 returns c = search needs
@@ -37,16 +37,16 @@ loop-again c = search needs
 returns-2 : tie.Need-returns-2 Inv-loop μ-loop
 returns-2 c = search needs
 
-pub differs8-spec : {M : Type 1} → statement M
-differs8-spec =
+pub differs64-spec : {M : Type 1} → statement M
+differs64-spec =
     tie.close
     (tie.spec
     Inv-loop
     μ-loop
     loop-holds
     item-requires
-    shared-slice-read-wide
-    wide-requires
+    mul-if1
+    shared-slice-read-if1
     returns
     add-i
     loop-less

@@ -2,8 +2,8 @@ use mathlib.Core.Path.{_≡_}
 use Prim.Native.Nat.{_-_}
 use borrow.Author.Needs.{needs}
 use lib.ListN.{length}
-use Rattle.replay.proofs.fill64.Statement.{statement}
-use Rattle.replay.proofs.fill64.Tie as tie
+use Rattle.cases.proofs.fill64.Statement.{statement}
+use Rattle.cases.proofs.fill64.Tie as tie
 
 abbrev Inv-loop : tie.InvT-loop
 Inv-loop out₀ from to v i₀ out i = length out ≡ length out₀

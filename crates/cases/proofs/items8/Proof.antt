@@ -2,8 +2,8 @@ use mathlib.Core.Path.{_≡_}
 use Prim.Native.Nat.{_-_, _≤_}
 use borrow.Author.Needs.{needs}
 use lib.ListN.{length}
-use Rattle.replay.proofs.items8.Statement.{statement}
-use Rattle.replay.proofs.items8.Tie as tie
+use Rattle.cases.proofs.items8.Statement.{statement}
+use Rattle.cases.proofs.items8.Tie as tie
 
 abbrev Inv-loop : tie.InvT-loop
 Inv-loop s from n out₀ at₀ last₀ i₀ out at last i = (i ≤ n) × (length out ≡ length out₀)

@@ -1,7 +1,7 @@
 use Prim.Native.Nat.{_-_, _≤_}
 use borrow.Author.Needs.{needs}
-use Rattle.replay.proofs.skip.Statement.{statement}
-use Rattle.replay.proofs.skip.Tie as tie
+use Rattle.cases.proofs.skip.Statement.{statement}
+use Rattle.cases.proofs.skip.Tie as tie
 
 abbrev Inv-loop : tie.InvT-loop
 Inv-loop s from n at₀ i₀ at i = i ≤ n

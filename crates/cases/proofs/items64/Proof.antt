@@ -1,21 +1,24 @@
 use mathlib.Core.Path.{_≡_}
-use Prim.Native.Nat.{_-_}
+use Prim.Native.Nat.{_-_, _≤_}
 use borrow.Author.Needs.{needs}
 use lib.ListN.{length}
-use Rattle.replay.proofs.fill8.Statement.{statement}
-use Rattle.replay.proofs.fill8.Tie as tie
+use Rattle.cases.proofs.items64.Statement.{statement}
+use Rattle.cases.proofs.items64.Tie as tie
 
 abbrev Inv-loop : tie.InvT-loop
-Inv-loop out₀ from to v i₀ out i = length out ≡ length out₀
+Inv-loop s from n out₀ at₀ last₀ i₀ out at last i = (i ≤ n) × (length out ≡ length out₀)
 
 abbrev μ-loop : tie.MeasureT-loop
-μ-loop out₀ from to v i₀ out i = to - i
+μ-loop s from n out₀ at₀ last₀ i₀ out at last i = n - i
 
 loop-holds : tie.Need-loop-holds Inv-loop μ-loop
 loop-holds c = search needs
 
-store8-requires : tie.Need-store8-requires Inv-loop μ-loop
-store8-requires c κs = search needs
+number-requires : tie.Need-number-requires Inv-loop μ-loop
+number-requires c κs = search needs
+
+store64-requires : tie.Need-store64-requires Inv-loop μ-loop
+store64-requires c κs = search needs
 
 add-i : tie.Need-add-i Inv-loop μ-loop
 add-i c = search needs
@@ -32,14 +35,15 @@ same-length c = search needs
 returns : tie.Need-returns Inv-loop μ-loop
 returns c = search needs
 
-pub fill8-spec : {M : Type 1} → statement M
-fill8-spec =
+pub items64-spec : {M : Type 1} → statement M
+items64-spec =
     tie.close
     (tie.spec
     Inv-loop
     μ-loop
     loop-holds
-    store8-requires
+    number-requires
+    store64-requires
     add-i
     loop-less
     loop-again
