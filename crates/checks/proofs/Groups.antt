@@ -1,17 +1,17 @@
 -- The groups of one batch, one after the other. Assumes nothing.
-use mathlib.Core.Path.{_≡_, refl, sym}
+use mathlib.Core.Path.{_≡_, sym}
 use mathlib.Core.List.{List, [], _∷_}
-use Prim.Native.Nat.{ℕ, zero, suc, _+_, _-_, _≤_, _<_}
+use Prim.Native.Nat.{ℕ, suc, _+_, _-_, _≤_, _<_}
 use native.Mathlib.Nat.{add-zero, sub-zero}
 use native.Mathlib.Numerals.{add-one}
 use native.Mathlib.Omega.{arith}
-use lib.ListN.{length, getD, take, drop}
+use lib.ListN.{length, getD, take}
 use lib.Seq.{drop-cons}
 use Rattle.rules.specs.Operations.{Op, operations}
 use Rattle.rules.specs.Record.{Record, differences, recordAt, cut, part}
 use Rattle.rules.specs.Checks.{ninth}
 use Rattle.rules.specs.Functions.{Arena}
-use Rattle.rules.proofs.Operations.{op, operations-turn}
+use Rattle.rules.proofs.Operations.{op, operations-turn, drop-operations}
 use Rattle.op_batch.proofs.Right.{Sound, sound, starts-length, flags-length, numbers-length, rise, below-ninth}
 use Rattle.checks.specs.Batch.{Fits, Lies, groupsFrom, under, span}
 
@@ -46,17 +46,6 @@ pub lying : (a : Arena) (b from : ℕ) → Lies a b from → Lying (recordAt (a 
 lying a b from x = record { laid = laid (a .records) b (x .fits); equal = x .equal; inside = x .inside }
 
 -- ---- parts of the operations
-
-pub drop-operations : (i : ℕ) (cs vs : List ℕ) → drop i (operations cs vs) ≡ operations (drop i cs) (drop i vs)
-unfolding operations
-drop-operations zero cs vs = refl
-drop-operations (suc i) [] vs = refl
-drop-operations (suc i) (c ∷ cs) [] = sym (empty (drop i cs))
-  where
-    empty : (ds : List ℕ) → operations ds [] ≡ []
-    empty [] = refl
-    empty (d ∷ ds) = refl
-drop-operations (suc i) (c ∷ cs) (v ∷ vs) = drop-operations i cs vs
 
 pub part-turn : (n i : ℕ) (cs vs : List ℕ) → i < length cs → length cs ≡ length vs
     → part (suc n) (operations cs vs) i ≡ op (getD cs i 0) (getD vs i 0) ∷ part n (operations cs vs) (i + 1)

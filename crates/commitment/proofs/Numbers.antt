@@ -13,9 +13,9 @@ use Rattle.rules.specs.Digits.{number}
 use Rattle.rules.specs.Operations.{Op, operations, codes, kindOf, hasImmediate}
 use Rattle.rules.specs.Record.{Record, differences, codesNumber, cut, immediates}
 use Rattle.rules.specs.Checks.{placingFault, begins, orElse, groupsFault, emptyZero}
-use Rattle.rules.proofs.Operations.{op}
+use Rattle.rules.proofs.Operations.{op, drop-operations}
 use Rattle.checks.specs.Batch.{Apt, under, span}
-use Rattle.checks.proofs.Groups.{Lying, drop-operations, span-turn, span-none, under-start, under-turn, under-none, in-order, within-codes, bounds}
+use Rattle.checks.proofs.Groups.{Lying, span-turn, span-none, under-start, under-turn, under-none, in-order, within-codes, bounds}
 
 -- ---- the operations of a group, one after the other
 

@@ -1,5 +1,5 @@
 -- Laws of operations and their table. Assumes nothing.
-use mathlib.Core.Path.{_≡_, refl, ap}
+use mathlib.Core.Path.{_≡_, refl, sym, ap}
 use mathlib.Core.Bool.{Bool, true, false, cond, _&&_}
 use mathlib.Core.List.{List, [], _∷_}
 use Prim.Native.Nat.{ℕ, zero, suc, _+_, _≤_, _<_}
@@ -7,11 +7,12 @@ use native.Mathlib.Nat.{le-of-suc-le-suc, not-suc-le-zero}
 use native.Mathlib.Numerals.{add-one}
 use native.Mathlib.Omega.{arith}
 use borrow.Author.Tests.{ltb-true, eqb-true}
-use lib.ListN.{length, getD, drop, drop-of-length-le}
+use lib.ListN.{length, getD, take, drop, drop-of-length-le}
 use lib.Seq.{drop-cons}
 use lib.Dec.{leb, ltb, eqb}
 use Rattle.rules.specs.Lists.{every}
 use Rattle.rules.specs.Operations.{Op, operations, codes, values, kindOf, goodTable, noop, assigned, valued, hasImmediate, field, valueRight, admissible, opFault}
+use Rattle.rules.specs.Record.{part}
 
 -- ---- tests
 
@@ -130,3 +131,41 @@ admitted t x h = to-admissible t x (go (admissible t x) h)
     go : (b : Bool) → _≡_ {A = ℕ} (cond b 0 4) 0 → b ≡ true
     go true k = refl
     go false k = absurd (omega arith)
+
+-- ---- the operations of two runs, and of parts of them
+
+pub codes-operations : (cs vs : List ℕ) → length cs ≡ length vs → codes (operations cs vs) ≡ cs
+unfolding operations codes
+codes-operations [] vs h = refl
+codes-operations (c ∷ cs) [] h = absurd (omega arith)
+codes-operations (c ∷ cs) (v ∷ vs) h = ap (λ (l : List ℕ). c ∷ l) (codes-operations cs vs (omega arith))
+
+pub values-operations : (cs vs : List ℕ) → length cs ≡ length vs → values (operations cs vs) ≡ vs
+unfolding operations values
+values-operations [] [] h = refl
+values-operations [] (v ∷ vs) h = absurd (omega arith)
+values-operations (c ∷ cs) [] h = absurd (omega arith)
+values-operations (c ∷ cs) (v ∷ vs) h = ap (λ (l : List ℕ). v ∷ l) (values-operations cs vs (omega arith))
+
+nothing : (cs : List ℕ) → operations cs [] ≡ []
+unfolding operations
+nothing [] = refl
+nothing (c ∷ cs) = refl
+
+pub drop-operations : (at : ℕ) (cs vs : List ℕ) → drop at (operations cs vs) ≡ operations (drop at cs) (drop at vs)
+unfolding operations
+drop-operations zero cs vs = refl
+drop-operations (suc at) [] vs = refl
+drop-operations (suc at) (c ∷ cs) [] = sym (nothing (drop at cs))
+drop-operations (suc at) (c ∷ cs) (v ∷ vs) = drop-operations at cs vs
+
+take-operations : (n : ℕ) (cs vs : List ℕ) → take n (operations cs vs) ≡ operations (take n cs) (take n vs)
+unfolding operations
+take-operations zero cs vs = refl
+take-operations (suc n) [] vs = refl
+take-operations (suc n) (c ∷ cs) [] = refl
+take-operations (suc n) (c ∷ cs) (v ∷ vs) = ap (λ (l : List Op). op c v ∷ l) (take-operations n cs vs)
+
+-- the operations of parts of two runs
+pub part-operations : (n at : ℕ) (cs vs : List ℕ) → part n (operations cs vs) at ≡ operations (take n (drop at cs)) (take n (drop at vs))
+part-operations n at cs vs = rw (drop-operations at cs vs) (take-operations n (drop at cs) (drop at vs))

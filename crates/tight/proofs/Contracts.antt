@@ -26,8 +26,8 @@ use Rattle.encoder.specs.Replies.{Encodes, encodedOf}
 use Rattle.decoder.specs.declared.Decoded.{Decoded}
 use Rattle.decoder.specs.declared.Decoded.the-variants as decoding
 use Rattle.decoder.specs.Replies.{Decodes, decodedOf}
-use Rattle.unpacker.proofs.Operations.{codes-operations, values-operations}
 use Rattle.tight.specs.Contracts.{cutAt, Holds, size, FromDecode, FromBuild, blockFor, Contracts}
+use Rattle.rules.proofs.Operations.{codes-operations, values-operations}
 
 -- runs that hold a block's totals have room for it
 roomy : (b : Block) (a : Arena) → Holds (length (b .records)) (length (b .ops)) a → roomFor b (roomIn a) ≡ true

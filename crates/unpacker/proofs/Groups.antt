@@ -18,11 +18,10 @@ use Rattle.rules.specs.Operations.{Op, operations, hasImmediate}
 use Rattle.rules.specs.Record.{codesNumber, part, immediates}
 use Rattle.rules.specs.Bytes.{upTo}
 use Rattle.rules.proofs.Slots.{emptyBefore, slots}
-use Rattle.rules.proofs.Operations.{kind-at, operations-turn, operations-end, true-left, true-right}
+use Rattle.rules.proofs.Operations.{kind-at, operations-turn, operations-end, true-left, true-right, codes-operations, part-operations}
 use Rattle.rules.proofs.Runs.{fitted-set, fitted-length}
 use Rattle.rules.proofs.Digits.{digits-turn, digits-end}
 use Rattle.unpacker.specs.Groups.{Coded, glue, behind, onward, Placed}
-use Rattle.unpacker.proofs.Operations.{codes-operations, part-operations}
 
 -- ---- immediates of the operations of two runs, from the i-th on
 

@@ -1,4 +1,3 @@
-pub mod Operations
 pub mod Groups
 pub mod Batch
 pub mod Padding

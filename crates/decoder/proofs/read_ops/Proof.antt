@@ -8,10 +8,9 @@ use lib.ListN.{length, take, length-set}
 use lib.Seq.{length-take-le}
 use Rattle.rules.specs.Operations.{operations}
 use Rattle.rules.specs.Bytes.{opAt, opsAt}
-use Rattle.rules.proofs.Operations.{length-operations}
+use Rattle.rules.proofs.Operations.{length-operations, codes-operations, values-operations}
 use Rattle.wire.specs.Stages.{handOp}
 use Rattle.wire.proofs.Stages.{onto, onto-nil, op-found, op-lost}
-use Rattle.unpacker.proofs.Operations.{codes-operations, values-operations}
 use Rattle.decoder.proofs.Ops.{turn, stop, done}
 use Rattle.decoder.proofs.read_ops.Statement.{statement}
 use Rattle.decoder.proofs.read_ops.Tie as tie
