@@ -30,154 +30,45 @@ commitment-in-below t =
     (falls 5 commitment-in-kinds.ps _<_ μ-commitment-in t)
     commitment-in.Pre
 
-commitment-in-slice-relend-prefix-commitment-through :
-    (t : ℕ) → commitment-in-lts.Need-slice-relend-prefix-commitment-through (
-      commitment-through-reads.Asked,
-      commitment-through-reads.Learnt,
-      middle-room-reads.Asked,
-      middle-room-reads.Learnt,
-      commitment-in-below t,
-      commitment-in.Post,
-      commitment-large-reads.Asked,
-      commitment-large-reads.Learnt,
-    ) (commitment-in-at t) commitment-in.Post
+-- what the functions that it calls ask and learn, itself below t
+abbrev commitment-in-calls : ℕ → commitment-in-lts.Claims
+commitment-in-calls t = (commitment-through-reads.Asked, commitment-through-reads.Learnt, middle-room-reads.Asked, middle-room-reads.Learnt, commitment-in-below t, commitment-in.Post, commitment-large-reads.Asked, commitment-large-reads.Learnt)
+
+commitment-in-slice-relend-prefix-commitment-through : (t : ℕ) → commitment-in-lts.Need-slice-relend-prefix-commitment-through (commitment-in-calls t) (commitment-in-at t) commitment-in.Post
 commitment-in-slice-relend-prefix-commitment-through t c = search needs
 
-commitment-in-slice-aggregate-commitment-through :
-    (t : ℕ) → commitment-in-lts.Need-slice-aggregate-commitment-through (
-      commitment-through-reads.Asked,
-      commitment-through-reads.Learnt,
-      middle-room-reads.Asked,
-      middle-room-reads.Learnt,
-      commitment-in-below t,
-      commitment-in.Post,
-      commitment-large-reads.Asked,
-      commitment-large-reads.Learnt,
-    ) (commitment-in-at t) commitment-in.Post
+commitment-in-slice-aggregate-commitment-through : (t : ℕ) → commitment-in-lts.Need-slice-aggregate-commitment-through (commitment-in-calls t) (commitment-in-at t) commitment-in.Post
 commitment-in-slice-aggregate-commitment-through t c = front _ _ _ refl (omega arith)
 
-commitment-in-commitment-through-requires :
-    (t : ℕ) → commitment-in-lts.Need-commitment-through-requires (
-      commitment-through-reads.Asked,
-      commitment-through-reads.Learnt,
-      middle-room-reads.Asked,
-      middle-room-reads.Learnt,
-      commitment-in-below t,
-      commitment-in.Post,
-      commitment-large-reads.Asked,
-      commitment-large-reads.Learnt,
-    ) (commitment-in-at t) commitment-in.Post
+commitment-in-commitment-through-requires : (t : ℕ) → commitment-in-lts.Need-commitment-through-requires (commitment-in-calls t) (commitment-in-at t) commitment-in.Post
 commitment-in-commitment-through-requires t c κs = sym (front _ _ _ refl (omega arith))
 
-commitment-in-same-length : (t : ℕ) → commitment-in-lts.Need-same-length (
-  commitment-through-reads.Asked,
-  commitment-through-reads.Learnt,
-  middle-room-reads.Asked,
-  middle-room-reads.Learnt,
-  commitment-in-below t,
-  commitment-in.Post,
-  commitment-large-reads.Asked,
-  commitment-large-reads.Learnt,
-) (commitment-in-at t) commitment-in.Post
+commitment-in-same-length : (t : ℕ) → commitment-in-lts.Need-same-length (commitment-in-calls t) (commitment-in-at t) commitment-in.Post
 commitment-in-same-length t c = search needs
 
-commitment-in-returns : (t : ℕ) → commitment-in-lts.Need-returns (
-  commitment-through-reads.Asked,
-  commitment-through-reads.Learnt,
-  middle-room-reads.Asked,
-  middle-room-reads.Learnt,
-  commitment-in-below t,
-  commitment-in.Post,
-  commitment-large-reads.Asked,
-  commitment-large-reads.Learnt,
-) (commitment-in-at t) commitment-in.Post
+commitment-in-returns : (t : ℕ) → commitment-in-lts.Need-returns (commitment-in-calls t) (commitment-in-at t) commitment-in.Post
 commitment-in-returns t c = c .before .before .commitment-through .ensures
 
-commitment-in-middle-room-requires : (t : ℕ) → commitment-in-lts.Need-middle-room-requires (
-  commitment-through-reads.Asked,
-  commitment-through-reads.Learnt,
-  middle-room-reads.Asked,
-  middle-room-reads.Learnt,
-  commitment-in-below t,
-  commitment-in.Post,
-  commitment-large-reads.Asked,
-  commitment-large-reads.Learnt,
-) (commitment-in-at t) commitment-in.Post
+commitment-in-middle-room-requires : (t : ℕ) → commitment-in-lts.Need-middle-room-requires (commitment-in-calls t) (commitment-in-at t) commitment-in.Post
 commitment-in-middle-room-requires t c κs = search needs
 
-commitment-in-slice-aggregate-commitment-in :
-    (t : ℕ) → commitment-in-lts.Need-slice-aggregate-commitment-in (
-      commitment-through-reads.Asked,
-      commitment-through-reads.Learnt,
-      middle-room-reads.Asked,
-      middle-room-reads.Learnt,
-      commitment-in-below t,
-      commitment-in.Post,
-      commitment-large-reads.Asked,
-      commitment-large-reads.Learnt,
-    ) (commitment-in-at t) commitment-in.Post
+commitment-in-slice-aggregate-commitment-in : (t : ℕ) → commitment-in-lts.Need-slice-aggregate-commitment-in (commitment-in-calls t) (commitment-in-at t) commitment-in.Post
 commitment-in-slice-aggregate-commitment-in t c = search needs
 
-commitment-in-commitment-in-requires : (t : ℕ) → commitment-in-lts.Need-commitment-in-requires (
-  commitment-through-reads.Asked,
-  commitment-through-reads.Learnt,
-  middle-room-reads.Asked,
-  middle-room-reads.Learnt,
-  commitment-in-below t,
-  commitment-in.Post,
-  commitment-large-reads.Asked,
-  commitment-large-reads.Learnt,
-) (commitment-in-at t) commitment-in.Post
+commitment-in-commitment-in-requires : (t : ℕ) → commitment-in-lts.Need-commitment-in-requires (commitment-in-calls t) (commitment-in-at t) commitment-in.Post
 commitment-in-commitment-in-requires t c κs = (omega (arith, c .before .before .before .before .before .before .before .before .before .pre .0, c .before .middle-room .ensures), c .before .before .before .before .before .before .before .before .before .pre .1)
 
-commitment-in-returns-2 : (t : ℕ) → commitment-in-lts.Need-returns-2 (
-  commitment-through-reads.Asked,
-  commitment-through-reads.Learnt,
-  middle-room-reads.Asked,
-  middle-room-reads.Learnt,
-  commitment-in-below t,
-  commitment-in.Post,
-  commitment-large-reads.Asked,
-  commitment-large-reads.Learnt,
-) (commitment-in-at t) commitment-in.Post
+commitment-in-returns-2 : (t : ℕ) → commitment-in-lts.Need-returns-2 (commitment-in-calls t) (commitment-in-at t) commitment-in.Post
 commitment-in-returns-2 t c = c .before .commitment-in .ensures
 
-commitment-in-commitment-large-requires :
-    (t : ℕ) → commitment-in-lts.Need-commitment-large-requires (
-      commitment-through-reads.Asked,
-      commitment-through-reads.Learnt,
-      middle-room-reads.Asked,
-      middle-room-reads.Learnt,
-      commitment-in-below t,
-      commitment-in.Post,
-      commitment-large-reads.Asked,
-      commitment-large-reads.Learnt,
-    ) (commitment-in-at t) commitment-in.Post
+commitment-in-commitment-large-requires : (t : ℕ) → commitment-in-lts.Need-commitment-large-requires (commitment-in-calls t) (commitment-in-at t) commitment-in.Post
 commitment-in-commitment-large-requires t c κs = c .before .before .before .before .before .before .before .pre .1
 
-commitment-in-returns-3 : (t : ℕ) → commitment-in-lts.Need-returns-3 (
-  commitment-through-reads.Asked,
-  commitment-through-reads.Learnt,
-  middle-room-reads.Asked,
-  middle-room-reads.Learnt,
-  commitment-in-below t,
-  commitment-in.Post,
-  commitment-large-reads.Asked,
-  commitment-large-reads.Learnt,
-) (commitment-in-at t) commitment-in.Post
+commitment-in-returns-3 : (t : ℕ) → commitment-in-lts.Need-returns-3 (commitment-in-calls t) (commitment-in-at t) commitment-in.Post
 commitment-in-returns-3 t c = c .commitment-large .ensures
 
 pub +commitment-in-spec : {M : Type 1} → statement M
-+commitment-in-spec = close μ-commitment-in λ t. commitment-in-lts.spec (
-  commitment-through-reads.Asked,
-  commitment-through-reads.Learnt,
-  middle-room-reads.Asked,
-  middle-room-reads.Learnt,
-  commitment-in-below t,
-  commitment-in.Post,
-  commitment-large-reads.Asked,
-  commitment-large-reads.Learnt,
-)
++commitment-in-spec = close μ-commitment-in λ t. commitment-in-lts.spec (commitment-in-calls t)
     (commitment-in-at t)
     commitment-in.Post
     (commitment-in-slice-relend-prefix-commitment-through t)

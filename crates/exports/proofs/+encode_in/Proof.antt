@@ -25,187 +25,54 @@ abbrev encode-in-below : ℕ → In 6 encode-in-kinds.ps
 encode-in-below t =
     and 6 encode-in-kinds.ps (falls 6 encode-in-kinds.ps _<_ μ-encode-in t) encode-in.Pre
 
-encode-in-slice-relend-prefix-encode-through :
-    (t : ℕ) → encode-in-lts.Need-slice-relend-prefix-encode-through (
-      encode-through-reads.Asked,
-      encode-through-reads.Learnt,
-      middle-room-reads.Asked,
-      middle-room-reads.Learnt,
-      encode-in-below t,
-      encode-in.Post,
-      encode-large-reads.Asked,
-      encode-large-reads.Learnt,
-    ) (encode-in-at t) encode-in.Post
+-- what the functions that it calls ask and learn, itself below t
+abbrev encode-in-calls : ℕ → encode-in-lts.Claims
+encode-in-calls t = (encode-through-reads.Asked, encode-through-reads.Learnt, middle-room-reads.Asked, middle-room-reads.Learnt, encode-in-below t, encode-in.Post, encode-large-reads.Asked, encode-large-reads.Learnt)
+
+encode-in-slice-relend-prefix-encode-through : (t : ℕ) → encode-in-lts.Need-slice-relend-prefix-encode-through (encode-in-calls t) (encode-in-at t) encode-in.Post
 encode-in-slice-relend-prefix-encode-through t c = search needs
 
-encode-in-slice-aggregate-encode-through :
-    (t : ℕ) → encode-in-lts.Need-slice-aggregate-encode-through (
-      encode-through-reads.Asked,
-      encode-through-reads.Learnt,
-      middle-room-reads.Asked,
-      middle-room-reads.Learnt,
-      encode-in-below t,
-      encode-in.Post,
-      encode-large-reads.Asked,
-      encode-large-reads.Learnt,
-    ) (encode-in-at t) encode-in.Post
+encode-in-slice-aggregate-encode-through : (t : ℕ) → encode-in-lts.Need-slice-aggregate-encode-through (encode-in-calls t) (encode-in-at t) encode-in.Post
 encode-in-slice-aggregate-encode-through t c = front _ _ _ refl (omega arith)
 
-encode-in-encode-through-requires : (t : ℕ) → encode-in-lts.Need-encode-through-requires (
-  encode-through-reads.Asked,
-  encode-through-reads.Learnt,
-  middle-room-reads.Asked,
-  middle-room-reads.Learnt,
-  encode-in-below t,
-  encode-in.Post,
-  encode-large-reads.Asked,
-  encode-large-reads.Learnt,
-) (encode-in-at t) encode-in.Post
+encode-in-encode-through-requires : (t : ℕ) → encode-in-lts.Need-encode-through-requires (encode-in-calls t) (encode-in-at t) encode-in.Post
 encode-in-encode-through-requires t c κs = sym (front _ _ _ refl (omega arith))
 
-encode-in-same-length : (t : ℕ) → encode-in-lts.Need-same-length (
-  encode-through-reads.Asked,
-  encode-through-reads.Learnt,
-  middle-room-reads.Asked,
-  middle-room-reads.Learnt,
-  encode-in-below t,
-  encode-in.Post,
-  encode-large-reads.Asked,
-  encode-large-reads.Learnt,
-) (encode-in-at t) encode-in.Post
+encode-in-same-length : (t : ℕ) → encode-in-lts.Need-same-length (encode-in-calls t) (encode-in-at t) encode-in.Post
 encode-in-same-length t c = search needs
 
-encode-in-same-length-2 : (t : ℕ) → encode-in-lts.Need-same-length-2 (
-  encode-through-reads.Asked,
-  encode-through-reads.Learnt,
-  middle-room-reads.Asked,
-  middle-room-reads.Learnt,
-  encode-in-below t,
-  encode-in.Post,
-  encode-large-reads.Asked,
-  encode-large-reads.Learnt,
-) (encode-in-at t) encode-in.Post
+encode-in-same-length-2 : (t : ℕ) → encode-in-lts.Need-same-length-2 (encode-in-calls t) (encode-in-at t) encode-in.Post
 encode-in-same-length-2 t c = search needs
 
-encode-in-returns : (t : ℕ) → encode-in-lts.Need-returns (
-  encode-through-reads.Asked,
-  encode-through-reads.Learnt,
-  middle-room-reads.Asked,
-  middle-room-reads.Learnt,
-  encode-in-below t,
-  encode-in.Post,
-  encode-large-reads.Asked,
-  encode-large-reads.Learnt,
-) (encode-in-at t) encode-in.Post
+encode-in-returns : (t : ℕ) → encode-in-lts.Need-returns (encode-in-calls t) (encode-in-at t) encode-in.Post
 encode-in-returns t c = c .before .before .before .before .encode-through .ensures
 
-encode-in-middle-room-requires : (t : ℕ) → encode-in-lts.Need-middle-room-requires (
-  encode-through-reads.Asked,
-  encode-through-reads.Learnt,
-  middle-room-reads.Asked,
-  middle-room-reads.Learnt,
-  encode-in-below t,
-  encode-in.Post,
-  encode-large-reads.Asked,
-  encode-large-reads.Learnt,
-) (encode-in-at t) encode-in.Post
+encode-in-middle-room-requires : (t : ℕ) → encode-in-lts.Need-middle-room-requires (encode-in-calls t) (encode-in-at t) encode-in.Post
 encode-in-middle-room-requires t c κs = search needs
 
-encode-in-slice-aggregate-encode-in : (t : ℕ) → encode-in-lts.Need-slice-aggregate-encode-in (
-  encode-through-reads.Asked,
-  encode-through-reads.Learnt,
-  middle-room-reads.Asked,
-  middle-room-reads.Learnt,
-  encode-in-below t,
-  encode-in.Post,
-  encode-large-reads.Asked,
-  encode-large-reads.Learnt,
-) (encode-in-at t) encode-in.Post
+encode-in-slice-aggregate-encode-in : (t : ℕ) → encode-in-lts.Need-slice-aggregate-encode-in (encode-in-calls t) (encode-in-at t) encode-in.Post
 encode-in-slice-aggregate-encode-in t c = search needs
 
-encode-in-encode-in-requires : (t : ℕ) → encode-in-lts.Need-encode-in-requires (
-  encode-through-reads.Asked,
-  encode-through-reads.Learnt,
-  middle-room-reads.Asked,
-  middle-room-reads.Learnt,
-  encode-in-below t,
-  encode-in.Post,
-  encode-large-reads.Asked,
-  encode-large-reads.Learnt,
-) (encode-in-at t) encode-in.Post
+encode-in-encode-in-requires : (t : ℕ) → encode-in-lts.Need-encode-in-requires (encode-in-calls t) (encode-in-at t) encode-in.Post
 encode-in-encode-in-requires t c κs = (omega (arith, c .before .before .before .before .before .before .before .before .before .before .before .pre .0, c .before .before .middle-room .ensures), c .before .before .before .before .before .before .before .before .before .before .before .pre .1)
 
-encode-in-same-length-3 : (t : ℕ) → encode-in-lts.Need-same-length-3 (
-  encode-through-reads.Asked,
-  encode-through-reads.Learnt,
-  middle-room-reads.Asked,
-  middle-room-reads.Learnt,
-  encode-in-below t,
-  encode-in.Post,
-  encode-large-reads.Asked,
-  encode-large-reads.Learnt,
-) (encode-in-at t) encode-in.Post
+encode-in-same-length-3 : (t : ℕ) → encode-in-lts.Need-same-length-3 (encode-in-calls t) (encode-in-at t) encode-in.Post
 encode-in-same-length-3 t c = search needs
 
-encode-in-returns-2 : (t : ℕ) → encode-in-lts.Need-returns-2 (
-  encode-through-reads.Asked,
-  encode-through-reads.Learnt,
-  middle-room-reads.Asked,
-  middle-room-reads.Learnt,
-  encode-in-below t,
-  encode-in.Post,
-  encode-large-reads.Asked,
-  encode-large-reads.Learnt,
-) (encode-in-at t) encode-in.Post
+encode-in-returns-2 : (t : ℕ) → encode-in-lts.Need-returns-2 (encode-in-calls t) (encode-in-at t) encode-in.Post
 encode-in-returns-2 t c = c .before .before .before .encode-in .ensures
 
-encode-in-encode-large-requires : (t : ℕ) → encode-in-lts.Need-encode-large-requires (
-  encode-through-reads.Asked,
-  encode-through-reads.Learnt,
-  middle-room-reads.Asked,
-  middle-room-reads.Learnt,
-  encode-in-below t,
-  encode-in.Post,
-  encode-large-reads.Asked,
-  encode-large-reads.Learnt,
-) (encode-in-at t) encode-in.Post
+encode-in-encode-large-requires : (t : ℕ) → encode-in-lts.Need-encode-large-requires (encode-in-calls t) (encode-in-at t) encode-in.Post
 encode-in-encode-large-requires t c κs = c .before .before .before .before .before .before .before .before .before .pre .1
 
-encode-in-same-length-4 : (t : ℕ) → encode-in-lts.Need-same-length-4 (
-  encode-through-reads.Asked,
-  encode-through-reads.Learnt,
-  middle-room-reads.Asked,
-  middle-room-reads.Learnt,
-  encode-in-below t,
-  encode-in.Post,
-  encode-large-reads.Asked,
-  encode-large-reads.Learnt,
-) (encode-in-at t) encode-in.Post
+encode-in-same-length-4 : (t : ℕ) → encode-in-lts.Need-same-length-4 (encode-in-calls t) (encode-in-at t) encode-in.Post
 encode-in-same-length-4 t c = search needs
 
-encode-in-returns-3 : (t : ℕ) → encode-in-lts.Need-returns-3 (
-  encode-through-reads.Asked,
-  encode-through-reads.Learnt,
-  middle-room-reads.Asked,
-  middle-room-reads.Learnt,
-  encode-in-below t,
-  encode-in.Post,
-  encode-large-reads.Asked,
-  encode-large-reads.Learnt,
-) (encode-in-at t) encode-in.Post
+encode-in-returns-3 : (t : ℕ) → encode-in-lts.Need-returns-3 (encode-in-calls t) (encode-in-at t) encode-in.Post
 encode-in-returns-3 t c = c .before .before .encode-large .ensures
 
 pub +encode-in-spec : {M : Type 1} → statement M
-+encode-in-spec = close μ-encode-in λ t. encode-in-lts.spec (
-  encode-through-reads.Asked,
-  encode-through-reads.Learnt,
-  middle-room-reads.Asked,
-  middle-room-reads.Learnt,
-  encode-in-below t,
-  encode-in.Post,
-  encode-large-reads.Asked,
-  encode-large-reads.Learnt,
-)
++encode-in-spec = close μ-encode-in λ t. encode-in-lts.spec (encode-in-calls t)
     (encode-in-at t)
     encode-in.Post
     (encode-in-slice-relend-prefix-encode-through t)
