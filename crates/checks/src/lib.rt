@@ -71,7 +71,7 @@ pub fn structure(codes: &[u8], values: &[u64], records: &[u8]) -> Verdict
 
 // ---- padding
 
-// One batch: a flagged group is under the count, holds operations and ends in opcode 0. The decoder asks it of each record that it has made.
+// One batch: a flagged group under the count holds operations and ends in opcode 0. The decoder asks it of each record that it has made.
 pub fn batch_padding(codes: &[u8], values: &[u64], records: &[u8], b: usize, from: usize) -> u8
     requires { ⌜ Lies (arena (now codes) (now values) (now records)) b from ⌝ }
     ensures { λ r. ⌜ r ≡ paddingFault (heldAt (arena (now (codes .entry)) (now (values .entry)) (now (records .entry))) b from) ⌝ }
@@ -86,7 +86,7 @@ pub fn batch_padding(codes: &[u8], values: &[u64], records: &[u8], b: usize, fro
             continue;
         }
         if count <= g {
-            return 10; // a flag from the count on
+            return 0; // flags from the count on are kept unread (M-100)
         }
         let end = op_batch::start(records, b, g + 1);
         if op_batch::start(records, b, g) == end {

@@ -58,10 +58,11 @@ endsInNoop [] = false
 endsInNoop (x ∷ []) = eqb (x .code) 0
 endsInNoop (x ∷ y ∷ xs) = endsInNoop (y ∷ xs)
 
--- "a flagged group under the count is non-empty and ends in opcode 0, and no flag is set from the count on", for the groups under the count
+-- "a flagged group under the count is non-empty and ends in opcode 0, and no flag is set from the count on" (document 01). M-100: "keep such a bit unread",
+-- one "set for a group at or above the group count"; "Refusal 10 now covers only empty or non-Noop flagged groups." For the groups under the count and all flags.
 unfoldable pub paddingRight : List (List Op) → List ℕ → Bool
-paddingRight gs [] = true
-paddingRight [] (f ∷ fs) = eqb f 0 && paddingRight [] fs
+paddingRight [] fs = true
+paddingRight (g ∷ gs) [] = true
 paddingRight (g ∷ gs) (f ∷ fs) = cond (eqb f 0) true (endsInNoop g) && paddingRight gs fs
 
 unfoldable pub paddingFault : Held → ℕ

@@ -282,9 +282,6 @@ pub record OfReading : Type 0 where
   pub noop-before-end : read (laid 2 (0 ∷ 2 ∷ []) 1 (low 2) (1 ∷ [])) 0 ≡ refused 10 0
   pub empty-flagged : read (laid 1 (2 ∷ []) 1 (low 0x10) (1 ∷ [])) 0 ≡ refused 10 0
   pub immediate-flagged : read (laid 2 (push ++ (0 ∷ [])) 1 (low 2) (2 ∷ [])) 0 ≡ refused 10 0
-  pub flag-at-count : read (laid 1 (2 ∷ []) 1 (low 1) (0x02 ∷ [])) 0 ≡ refused 10 0
-  pub flag-last : read (laid 1 (2 ∷ []) 1 (low 1) (0x80 ∷ [])) 0 ≡ refused 10 0
-  pub flag-of-none : read (laid 0 [] 1 (low 0) (1 ∷ [])) 0 ≡ refused 10 0
   pub flag-later : read (laid 3 (2 ∷ 2 ∷ 2 ∷ []) 2 (low 2 ++ low 1) (0 ∷ 1 ∷ [])) 0 ≡ refused 10 1
   pub flag-third : read (laid 4 (2 ∷ 2 ∷ 2 ∷ 2 ∷ []) 3 (low 2 ++ (low 1 ++ low 1)) (0 ∷ 0 ∷ 1 ∷ [])) 0 ≡ refused 10 2
   pub flag-right-later : read (laid 3 (2 ∷ 2 ∷ 0 ∷ []) 2 (low 1 ++ low 0x11) (0 ∷ 0x02 ∷ [])) 0 ≡ found (block (op 2 0 ∷ op 2 0 ∷ op 0 0 ∷ []) (single ∷ is (0 ∷ 1 ∷ replicate 7 2) (0 ∷ 1 ∷ zeros 6) (2 ∷ zeros 7) 2 ∷ [])) 18
@@ -334,8 +331,6 @@ pub record OfChecks : Type 0 where
   pub noop-not-last : padding (block (op 0 0 ∷ op 2 0 ∷ []) (is (0 ∷ replicate 8 2) (1 ∷ zeros 7) (256 ∷ zeros 7) 1 ∷ [])) ≡ refused 10 0
   pub noop-last : padding (block (op 2 0 ∷ op 0 0 ∷ []) (is (0 ∷ replicate 8 2) (1 ∷ zeros 7) (2 ∷ zeros 7) 1 ∷ [])) ≡ good tt
   pub empty-flagged : padding (block (twos 1) (is (0 ∷ 0 ∷ replicate 7 1) (1 ∷ zeros 7) (0 ∷ 2 ∷ zeros 6) 2 ∷ [])) ≡ refused 10 0
-  pub flag-at-count : padding (block (twos 1) (flagged (0 ∷ 1 ∷ zeros 6) ∷ [])) ≡ refused 10 0
-  pub flag-last : padding (block (twos 1) (flagged (zeros 7 ++ (1 ∷ [])) ∷ [])) ≡ refused 10 0
   pub padding-later : padding (block (twos 2) (single ∷ flagged (1 ∷ zeros 7) ∷ [])) ≡ refused 10 1
   -- commitment
   pub number-wrong : commitment (block (twos 1) (numbered (3 ∷ zeros 7) 1 ∷ [])) ≡ refused 16 0
@@ -545,6 +540,67 @@ pub record OfOutputs : Type 0 where
   pub encode-leaves : written (replicate 24 7) 3 (encoded 8 tableT (lent p1) 24 3) ≡ replicate 3 7 ++ (p2 ++ (7 ∷ []))
   pub encode-refused : written (replicate 22 7) 3 (encoded 8 tableT (lent p1) 22 3) ≡ replicate 22 7
 
+-- ---- M-100: "The padding check and the decoder now keep such a bit unread, the encoder writes it back, and the tables go on ignoring it."
+
+-- a batch of no operations, and one of an operation of opcode 1 and a Noop, with these flags
+abbrev pub bare-flagged : List ℕ → Record
+bare-flagged fs = is (zeros 9) fs (zeros 8) 0
+
+abbrev pub p1flagged : List ℕ → Block
+p1flagged fs = block (p1 .ops) (is (0 ∷ replicate 8 2) fs (1 ∷ 5 ∷ zeros 6) 2 ∷ [])
+
+-- P1's flag, and all from the count on
+abbrev pub above : List ℕ
+above = 1 ∷ 0 ∷ replicate 6 1
+
+pub record OfKept : Type 0 where
+  -- read, and written again: a batch without groups, the first bit from the count on, the last one, all of them
+  pub of-none :
+      (read (0x01 ∷ 0x01 ∷ 0 ∷ 0 ∷ 0 ∷ 0 ∷ 0 ∷ 0 ∷ 0 ∷ 0x01 ∷ []) 0 ≡ found (block [] (bare-flagged (1 ∷ zeros 7) ∷ [])) 10)
+      × (write (block [] (bare-flagged (1 ∷ zeros 7) ∷ [])) ≡ good (0x01 ∷ 0x01 ∷ 0 ∷ 0 ∷ 0 ∷ 0 ∷ 0 ∷ 0 ∷ 0 ∷ 0x01 ∷ []))
+  pub at-count :
+      (read (laid 1 (2 ∷ []) 1 (low 1) (0x02 ∷ [])) 0 ≡ found (block (twos 1) (flagged (0 ∷ 1 ∷ zeros 6) ∷ [])) 11)
+      × (write (block (twos 1) (flagged (0 ∷ 1 ∷ zeros 6) ∷ [])) ≡ good (laid 1 (2 ∷ []) 1 (low 1) (0x02 ∷ [])))
+  pub last :
+      (read (laid 1 (2 ∷ []) 1 (low 1) (0x80 ∷ [])) 0 ≡ found (block (twos 1) (flagged (zeros 7 ++ (1 ∷ [])) ∷ [])) 11)
+      × (write (block (twos 1) (flagged (zeros 7 ++ (1 ∷ [])) ∷ [])) ≡ good (laid 1 (2 ∷ []) 1 (low 1) (0x80 ∷ [])))
+  pub all-above :
+      (read (laid 2 (push ++ (0 ∷ [])) 1 (low 2) (0xfd ∷ [])) 0 ≡ found (p1flagged above) 20)
+      × (write (p1flagged above) ≡ good (laid 2 (push ++ (0 ∷ [])) 1 (low 2) (0xfd ∷ [])))
+  -- in two batches, each its own
+  pub in-two :
+      (read (laid 2 (2 ∷ 2 ∷ []) 2 (low 1 ++ low 1) (0x02 ∷ 0x10 ∷ [])) 0 ≡ found (block (twos 2) (flagged (0 ∷ 1 ∷ zeros 6) ∷ flagged (zeros 4 ++ (1 ∷ zeros 3)) ∷ [])) 17)
+      × (write (block (twos 2) (flagged (0 ∷ 1 ∷ zeros 6) ∷ flagged (zeros 4 ++ (1 ∷ zeros 3)) ∷ [])) ≡ good (laid 2 (2 ∷ 2 ∷ []) 2 (low 1 ++ low 1) (0x02 ∷ 0x10 ∷ [])))
+  -- what comes later is looked for: 11; the same batch's flags under the count; the next batch
+  pub then-11 : read (0x03 ∷ 0x02 ∷ 0x01 ∷ 0 ∷ 0 ∷ 0 ∷ 0 ∷ 0 ∷ 0 ∷ 0 ∷ 0x01 ∷ []) 0 ≡ refused 11 0
+  pub then-10 : read (laid 1 (2 ∷ []) 1 (low 1) (0x03 ∷ [])) 0 ≡ refused 10 0
+  pub then-7 : read (laid 1 (2 ∷ []) 2 (low 1 ++ low 1) (0x02 ∷ 0 ∷ [])) 0 ≡ refused 7 1
+  pub then-10-later : read (laid 2 (2 ∷ 2 ∷ []) 2 (low 1 ++ low 1) (0x02 ∷ 0x01 ∷ [])) 0 ≡ refused 10 1
+  -- the last group under the count: it has an immediate, or an operation that is no Noop; and an empty one before it
+  pub slot-under : read (laid 2 (push ++ (0 ∷ [])) 1 (low 2) (0xff ∷ [])) 0 ≡ refused 10 0
+  pub group-under : read (laid 2 (2 ∷ 2 ∷ []) 1 (low 0x11) (0x06 ∷ [])) 0 ≡ refused 10 0
+  pub empty-under : read (laid 2 (2 ∷ 2 ∷ []) 1 (0x01 ∷ 0x01 ∷ 0 ∷ 0 ∷ []) (0x0a ∷ [])) 0 ≡ refused 10 0
+  -- at a width of 4, from the count up to the width
+  pub width-kept : decoded 4 tableT (laid 1 (2 ∷ []) 1 (low 1) (0x0e ∷ [])) 0 ample ≡ found (block (twos 1) (flagged (0 ∷ 1 ∷ 1 ∷ 1 ∷ zeros 4) ∷ [])) 11
+  -- the padding check
+  pub check-of-none : padding (block [] (bare-flagged (replicate 8 1) ∷ [])) ≡ good tt
+  pub check-at-count : padding (block (twos 1) (flagged (0 ∷ 1 ∷ zeros 6) ∷ [])) ≡ good tt
+  pub check-last : padding (block (twos 1) (flagged (zeros 7 ++ (1 ∷ [])) ∷ [])) ≡ good tt
+  pub check-all-above : (structure (p1flagged above) ≡ good tt) × (padding (p1flagged above) ≡ good tt) × (commitment (p1flagged above) ≡ good tt)
+  pub check-under : padding (p1flagged (replicate 8 1)) ≡ refused 10 0
+  pub check-empty-under : padding (block (twos 1) (is (0 ∷ replicate 8 1) (0 ∷ 1 ∷ zeros 6) (2 ∷ zeros 7) 2 ∷ [])) ≡ refused 10 0
+  pub check-later : padding (block (twos 2) (flagged (0 ∷ 1 ∷ zeros 6) ∷ flagged (1 ∷ 1 ∷ zeros 6) ∷ [])) ≡ refused 10 1
+  -- a flag is 0 or 1 there too
+  pub flag-two : (structure (block [] (bare-flagged (2 ∷ zeros 7) ∷ [])) ≡ refused 15 0) × (padding (block [] (bare-flagged (2 ∷ zeros 7) ∷ [])) ≡ refused 15 0)
+  -- the tables and the lookups are those of P1
+  pub raw-table : rawTabled 8 (lent (p1flagged above)) 2 ≡ good (0 ∷ 1 ∷ [])
+  pub padded-table : paddedTabled 8 (lent (p1flagged above)) 3 ≡ good (0 ∷ 0 ∷ 1 ∷ [])
+  pub no-table : rawTabled 8 (lent (block [] (bare-flagged (replicate 8 1) ∷ []))) 1 ≡ good (0 ∷ [])
+  pub group : groupLookup 8 (is (0 ∷ replicate 8 2) above (1 ∷ 5 ∷ zeros 6) 2) 1 ≡ good (some (record { group = 0; place = 1 }))
+  pub next : nextLookup 8 (is (0 ∷ replicate 8 2) above (1 ∷ 5 ∷ zeros 6) 2) 0 ≡ good none
+  -- "Batches we build still have those bits clear"
+  pub built-clear : build (op 1 5 ∷ []) ≡ good (p1flagged (1 ∷ zeros 7))
+
 -- ---- "Numbers to check": "proved of the rules, together as a single table under one claim"
 
 pub record Numbers : Type 0 where
@@ -580,6 +636,7 @@ pub record Numbers : Type 0 where
   pub lookups : OfLookups
   pub orders : OfOrders
   pub outputs : OfOutputs
+  pub kept : OfKept
 
 pub numbers : Numbers
 unfolding document
@@ -727,9 +784,6 @@ numbers =
         noop-before-end = refl;
         empty-flagged = refl;
         immediate-flagged = refl;
-        flag-at-count = refl;
-        flag-last = refl;
-        flag-of-none = refl;
         flag-later = refl;
         flag-third = refl;
         flag-right-later = refl;
@@ -772,8 +826,6 @@ numbers =
         noop-not-last = refl;
         noop-last = refl;
         empty-flagged = refl;
-        flag-at-count = refl;
-        flag-last = refl;
         padding-later = refl;
         number-wrong = refl;
         number-less = refl;
@@ -928,5 +980,34 @@ numbers =
         bytes-used = (refl, refl);
         encode-leaves = refl;
         encode-refused = refl;
+      };
+      kept = record {
+        of-none = (refl, refl);
+        at-count = (refl, refl);
+        last = (refl, refl);
+        all-above = (refl, refl);
+        in-two = (refl, refl);
+        then-11 = refl;
+        then-10 = refl;
+        then-7 = refl;
+        then-10-later = refl;
+        slot-under = refl;
+        group-under = refl;
+        empty-under = refl;
+        width-kept = refl;
+        check-of-none = refl;
+        check-at-count = refl;
+        check-last = refl;
+        check-all-above = (refl, refl, refl);
+        check-under = refl;
+        check-empty-under = refl;
+        check-later = refl;
+        flag-two = (refl, refl);
+        raw-table = refl;
+        padded-table = refl;
+        no-table = refl;
+        group = refl;
+        next = refl;
+        built-clear = refl;
       };
     }
