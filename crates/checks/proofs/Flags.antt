@@ -40,33 +40,33 @@ ends (suc n) i cs vs h e =
 unfoldable pub padLeft : Record → List Op → ℕ → ℕ → Bool
 padLeft r xs from g = paddingRight (under r xs from g) (drop g (r .flags))
 
-same : (b : Bool) → cond b true false ≡ b
-same true = refl
-same false = refl
+-- none is looked at from the count on
+pub over : (r : Record) (xs : List Op) (from g : ℕ) → r .count ≤ g → padLeft r xs from g ≡ true
+unfolding padLeft paddingRight
+over r xs from g k = rw (under-none r xs from g k)
 
 module _ (r : Record) (cs vs : List ℕ) (from : ℕ) (x : Lying r cs vs from) (g : ℕ) (h : g < 8) where
-  step : padLeft r (operations cs vs) from g
-      ≡ cond (eqb (getD (r .flags) g 0) 0) true (ltb g (r .count) && endsInNoop (group r (operations cs vs) from g)) && padLeft r (operations cs vs) from (g + 1)
+  -- under the count
+  step : g < r .count → padLeft r (operations cs vs) from g
+      ≡ cond (eqb (getD (r .flags) g 0) 0) true (endsInNoop (group r (operations cs vs) from g)) && padLeft r (operations cs vs) from (g + 1)
   unfolding padLeft paddingRight
-  step =
+  step k =
       let f : drop g (r .flags) ≡ getD (r .flags) g 0 ∷ drop (g + 1) (r .flags) = rw (add-one g) (drop-cons (r .flags) g 0 (omega (arith, x .laid .flags))) in
-      split g (r .count)
-      (λ k. rw (under-turn r cs vs from x g k, f, lt-ltb g (r .count) k))
-      (λ k. rw (under-none r (operations cs vs) from g k, under-none r (operations cs vs) from (g + 1) (omega arith), f, le-ltb g (r .count) k, same (eqb (getD (r .flags) g 0) 0)))
+      rw (under-turn r cs vs from x g k, f)
 
   pub plain : getD (r .flags) g 0 ≡ 0 → padLeft r (operations cs vs) from (g + 1) ≡ padLeft r (operations cs vs) from g
-  plain e = sym (step ∙ rw (eq-eqb (getD (r .flags) g 0) 0 e))
+  plain e =
+      split g (r .count)
+      (λ k. sym (step k ∙ rw (eq-eqb (getD (r .flags) g 0) 0 e)))
+      (λ k. over r (operations cs vs) from (g + 1) (omega arith) ∙ sym (over r (operations cs vs) from g k))
 
   -- a set flag
   module _ (f : getD (r .flags) g 0 ≡ 0 → ⊥) where
-    pub over : r .count ≤ g → padLeft r (operations cs vs) from g ≡ false
-    over k = step ∙ rw (ne-eqb (getD (r .flags) g 0) 0 f, le-ltb g (r .count) k)
-
     -- of a group under the count, from one operation up to another
     module _ (k : g < r .count) (start end : ℕ) (a : start ≡ getD (r .starts) g 0) (z : end ≡ getD (r .starts) (g + 1) 0) where
       pub empty : start ≡ end → padLeft r (operations cs vs) from g ≡ false
       unfolding endsInNoop
-      empty e = step ∙ rw (ne-eqb (getD (r .flags) g 0) 0 f, lt-ltb g (r .count) k, span-none (from + getD (r .starts) g 0) (from + getD (r .starts) (g + 1) 0) (operations cs vs) (omega arith))
+      empty e = step k ∙ rw (ne-eqb (getD (r .flags) g 0) 0 f, span-none (from + getD (r .starts) g 0) (from + getD (r .starts) (g + 1) 0) (operations cs vs) (omega arith))
 
       module _ (n : start ≡ end → ⊥) where
         last : endsInNoop (group r (operations cs vs) from g) ≡ eqb (getD cs (from + end - 1) 0) 0
@@ -80,20 +80,16 @@ module _ (r : Record) (cs vs : List ℕ) (from : ℕ) (x : Lying r cs vs from) (
             ∙ ap (λ (k : ℕ). eqb (getD cs k 0) 0) (omega arith)
 
         pub other : (getD cs (from + end - 1) 0 ≡ 0 → ⊥) → padLeft r (operations cs vs) from g ≡ false
-        other c = step ∙ rw (ne-eqb (getD (r .flags) g 0) 0 f, lt-ltb g (r .count) k, last, ne-eqb (getD cs (from + end - 1) 0) 0 c)
+        other c = step k ∙ rw (ne-eqb (getD (r .flags) g 0) 0 f, last, ne-eqb (getD cs (from + end - 1) 0) 0 c)
 
         pub noop : getD cs (from + end - 1) 0 ≡ 0 → padLeft r (operations cs vs) from (g + 1) ≡ padLeft r (operations cs vs) from g
-        noop c = sym (step ∙ rw (ne-eqb (getD (r .flags) g 0) 0 f, lt-ltb g (r .count) k, last, eq-eqb (getD cs (from + end - 1) 0) 0 c))
-
-padded : (r : Record) (cs vs : List ℕ) (from : ℕ) (x : Lying r cs vs from) (g : ℕ) → 8 ≤ g → padLeft r (operations cs vs) from g ≡ true
-unfolding padLeft paddingRight
-padded r cs vs from x g h = rw (drop-of-length-le (r .flags) {i = g} (omega (arith, x .laid .flags)))
+        noop c = sym (step k ∙ rw (ne-eqb (getD (r .flags) g 0) 0 f, last, eq-eqb (getD cs (from + end - 1) 0) 0 c))
 
 -- ---- where no flag is ahead
 
 module _ (r : Record) (cs vs : List ℕ) (from : ℕ) (x : Lying r cs vs from) where
   unflagged : (k g : ℕ) → g + k ≡ 8 → number 256 (drop g (r .flags)) ≡ 0 → padLeft r (operations cs vs) from g ≡ true
-  unflagged zero g h e = padded r cs vs from x g (omega arith)
+  unflagged zero g h e = over r (operations cs vs) from g (omega (arith, x .laid .count))
   unflagged (suc k) g h e = let a = flags-ahead (x .laid .width) r (x .laid .sound) (x .laid .flags) g (omega arith) in sym (plain r cs vs from x g (omega arith) (omega arith)) ∙ unflagged k (g + 1) (omega arith) (omega arith)
 
   pub no-flags : (g left : ℕ) → g ≤ 8 → left ≡ number 256 (drop g (r .flags)) → left ≡ 0 → padLeft r (operations cs vs) from g ≡ true

@@ -61,14 +61,9 @@ loop-again c =
 
 returns : tie.Need-returns Inv-loop μ-loop
 returns c =
-    let i = c .before in
-    let f = i .before in
-    let t = f .before in
-    let l = t .before .loop in
+    let l = c .before .before .before .before .loop in
     let v = l .inv in
-    let x = v .0 in
-    let h = flagged _ _ (x .laid .sound) (x .laid .flags) (l .g) (l .left) (v .4) (t .loop-test .taken) in
-    faulty _ _ _ _ x (l .g) (v .3) (over _ _ _ _ x (l .g) h (λ z. i .if1 .left (f .flag .ensures ∙ z)) (omega arith))
+    faultless _ _ _ _ (v .0) (l .g) (v .3) (over _ _ _ (l .g) (omega arith))
 
 add-start : tie.Need-add-start Inv-loop μ-loop
 add-start c = search needs
