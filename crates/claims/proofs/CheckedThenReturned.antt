@@ -6,7 +6,7 @@ use Prim.Native.Nat.{ℕ, zero, suc, _+_, _≤_, _<_}
 use native.Mathlib.Nat.{add-zero, zero-add}
 use native.Mathlib.Omega.{arith}
 use borrow.Author.Tests.{le-ltb, leb-true, eqb-true}
-use lib.ListN.{length, getD, take, drop, length-take, length-append, length-map}
+use lib.ListN.{length, getD, take, drop, length-take, length-append, length-map, drop-of-length-le}
 use lib.Seq.{take-all}
 use lib.Dec.{leb, eqb}
 use Rattle.rules.specs.Lists.{fitted, total, every, All}
@@ -24,7 +24,7 @@ use Rattle.claims.specs.Settled.{foundCount, settled, settledBlock, Sett
 use Rattle.claims.proofs.WrittenThenRead.{sizesOf, Wire, read-back}
 use Rattle.claims.proofs.Arena.{roomed}
 use Rattle.claims.proofs.Demand3.{written-in}
-use Rattle.claims.proofs.ReadThenChecked.{laid, laid-front}
+use Rattle.claims.proofs.ReadThenChecked.{laid, Clear, at-most}
 use Rattle.claims.proofs.Checked.{no-cond, group-right, Made, made, Facts, facts, no-padding-fault, limits, shaped-in}
 use Rattle.claims.proofs.Passes.{Right, here}
 use Rattle.claims.proofs.Lists.{all-map}
@@ -113,30 +113,16 @@ module _ (t : List ℕ) (b : ℕ) where
 
 -- ---- flags
 
-take-none : (j : ℕ) → take {A = List Op} j [] ≡ []
-take-none zero = refl
-take-none (suc j) = refl
-
-flag-none : (b : Bool) → cond b true false ≡ true → b ≡ true
-flag-none true h = refl
-flag-none false h = h
-
--- groups that are empty from some place on may be left out, or more of them taken in
-other-groups : (ns : List ℕ) (xs : List Op) (at j c : ℕ) (fs : List ℕ) → total (drop j ns) ≡ 0 → paddingRight (take c (cut ns xs at)) fs ≡ true → paddingRight (take j (cut ns xs at)) fs ≡ true
-unfolding cut total paddingRight endsInNoop
-other-groups ns xs at j c [] z h = refl
-other-groups [] xs at j c (f ∷ fs) z h = rw (take-none j) (rw (take-none c) at h)
-other-groups (n ∷ ns) xs at zero zero (f ∷ fs) z h = h
-other-groups (zero ∷ ns) xs at zero (suc c) (f ∷ fs) z h =
-    let one = cond (eqb f 0) true false in
-    let rest = paddingRight (take c (cut ns xs (at + 0))) fs in
-    true-both (eqb f 0) (paddingRight [] fs) (flag-none (eqb f 0) (true-left one rest h)) (other-groups ns xs (at + 0) 0 c fs (omega arith) (true-right one rest h))
-other-groups (suc n ∷ ns) xs at zero (suc c) (f ∷ fs) z h = absurd (omega arith)
-other-groups (n ∷ ns) xs at (suc j) zero (f ∷ fs) z h = rw (true-left (eqb f 0) _ h) (other-groups ns xs (at + n) j 0 fs z (true-right (eqb f 0) _ h))
-other-groups (n ∷ ns) xs at (suc j) (suc c) (f ∷ fs) z h =
-    let one = cond (eqb f 0) true (endsInNoop (part n xs at)) in
-    let rest = paddingRight (take c (cut ns xs (at + n))) fs in
-    true-both one (paddingRight (take j (cut ns xs (at + n))) fs) (true-left one rest h) (other-groups ns xs (at + n) j c fs z (true-right one rest h))
+-- what is right of more groups is right of fewer
+fewer-groups : (j c : ℕ) (gs : List (List Op)) (fs : List ℕ) → j ≤ c → paddingRight (take c gs) fs ≡ true → paddingRight (take j gs) fs ≡ true
+unfolding paddingRight
+fewer-groups zero c gs fs l h = refl
+fewer-groups (suc j) zero gs fs l h = absurd (omega arith)
+fewer-groups (suc j) (suc c) [] fs l h = refl
+fewer-groups (suc j) (suc c) (g ∷ gs) [] l h = refl
+fewer-groups (suc j) (suc c) (g ∷ gs) (f ∷ fs) l h =
+    let one = cond (eqb f 0) true (endsInNoop g) in
+    true-both one (paddingRight (take j gs) fs) (true-left one _ h) (fewer-groups j c gs fs (omega arith) (true-right one _ h))
 
 -- ---- a batch
 
@@ -151,6 +137,7 @@ module _ (w : ℕ) (w8 : w ≤ 8) (t : List ℕ) (xs : List Op) where
   -- what the checks say of a batch whose operations begin at a place
   record Checked (at : ℕ) (r : Record) : Type 0 where
     made : Made w r
+    clear : Clear w r
     inside : at + ninth r ≤ length xs
     padding : paddingFault (here r xs at) ≡ 0
     commitment : commitmentFault t (here r xs at) ≡ 0
@@ -186,8 +173,8 @@ module _ (w : ℕ) (w8 : w ≤ 8) (t : List ℕ) (xs : List Op) where
         let few = m .few in
         let none = rest-zero (r .count) w ns few (m .rest) in
         let e = walk w few in
-        let l = laid-front w ns at vs (at + total ns) none (laid t b (take w ns) [] xs at vs (at + total ns) e) in
-        let p = other-groups ns xs at (length vs) (r .count) (r .flags) (l .rest) (no-cond _ 9 (h .padding)) in
+        let under = laid t b (take (r .count) ns) [] xs at vs (at + total ns) (walk (r .count) (omega arith)) .short in
+        let p = fewer-groups (length vs) (r .count) (cut ns xs at) (r .flags) (omega (arith, length-take (r .count) ns)) (no-cond _ 9 (h .padding)) in
         batch-is w t xs at b ns (r .flags) none ∙ rw (le-ltb (length xs) (at + total ns) inside, e, p, m .sum, counts)
 
   abbrev Batches : ℕ → List Record → Type 0
@@ -207,22 +194,7 @@ module _ (w : ℕ) (w8 : w ≤ 8) (t : List ℕ) (xs : List Op) where
   zeros-all [] h = tt
   zeros-all (n ∷ ns) h = (omega arith, zeros-all ns (omega arith))
 
-  no-flags : (gs : List (List Op)) (fs : List ℕ) (k : ℕ) → length gs ≤ k → paddingRight gs fs ≡ true → All (λ f. f ≤ 0) (drop k fs)
-  unfolding paddingRight
-  no-flags gs [] zero l h = tt
-  no-flags gs [] (suc k) l h = tt
-  no-flags [] (f ∷ fs) zero l h = (let z = eqb-true f 0 (true-left (eqb f 0) _ h) in omega arith, no-flags [] fs zero l (true-right (eqb f 0) _ h))
-  no-flags [] (f ∷ fs) (suc k) l h = no-flags [] fs k (omega arith) (true-right (eqb f 0) _ h)
-  no-flags (g ∷ gs) (f ∷ fs) zero l h = absurd (omega arith)
-  no-flags (g ∷ gs) (f ∷ fs) (suc k) l h = no-flags gs fs k (omega arith) (true-right (cond (eqb f 0) true (endsInNoop g)) _ h)
-
-  bits-below : (fs : List ℕ) → upTo 1 fs ≡ true → All (λ f. f < 2) fs
-  unfolding every
-  bits-below [] h = tt
-  bits-below (f ∷ fs) h = (let z = leb-true f 1 (true-left (leb f 1) (upTo 1 fs) h) in omega arith, bits-below fs (true-right (leb f 1) (upTo 1 fs) h))
-
   on-wire : (at : ℕ) (r : Record) → Checked at r → Wire w w8 r
-  unfolding paddingFault
   on-wire at r h =
       let m = h .made in
       let few = m .few in
@@ -230,10 +202,10 @@ module _ (w : ℕ) (w8 : w ≤ 8) (t : List ℕ) (xs : List Op) where
       record {
         sizes = m .small;
         eight = m .many;
-        flags = bits-below (r .flags) (m .bits);
+        flags = all-map (λ f k. omega (arith, k)) (r .flags) (at-most 1 (r .flags) (m .bits));
         bits = m .shaped .flags;
         high = zeros-all (drop w ns) (rest-zero (r .count) w ns few (m .rest));
-        clear = no-flags (take (r .count) (cut ns xs at)) (r .flags) w (omega (arith, length-take (r .count) (cut ns xs at))) (no-cond _ 9 (h .padding));
+        clear = at-most 0 (drop w (r .flags)) (h .clear);
       }
 
   on-wires : (rs : List Record) (at : ℕ) → Batches at rs → All (Wire w w8) rs
@@ -241,12 +213,12 @@ module _ (w : ℕ) (w8 : w ≤ 8) (t : List ℕ) (xs : List Op) where
   on-wires (r ∷ rs) at h = (on-wire at r (h .0), on-wires rs (at + ninth r) (h .1))
 
 module _ (w : ℕ) (w8 : w ≤ 8) (t : List ℕ) (xs : List Op) where
-  gather : (rs : List Record) (at : ℕ) → All NineAndEight rs → All (λ r. recordRight w r ≡ true) rs → All (λ h. paddingFault h ≡ 0) (heldFrom rs xs at) → All (λ h. commitmentFault t h ≡ 0) (heldFrom rs xs at)
+  gather : (rs : List Record) (at : ℕ) → All NineAndEight rs → All (λ r. recordRight w r ≡ true) rs → All (Clear w) rs → All (λ h. paddingFault h ≡ 0) (heldFrom rs xs at) → All (λ h. commitmentFault t h ≡ 0) (heldFrom rs xs at)
       → at + total (map ninth rs) ≤ length xs → Batches w w8 t xs at rs
   unfolding heldFrom total
-  gather [] at z r p c l = tt
-  gather (x ∷ rs) at z r p c l =
-      (record { made = made w w8 x (z .0) (r .0); inside = omega arith; padding = p .0; commitment = c .0 }, gather rs (at + ninth x) (z .1) (r .1) (p .1) (c .1) (omega arith))
+  gather [] at z r n p c l = tt
+  gather (x ∷ rs) at z r n p c l =
+      (record { made = made w w8 x (z .0) (r .0); clear = n .0; inside = omega arith; padding = p .0; commitment = c .0 }, gather rs (at + ninth x) (z .1) (r .1) (n .1) (p .1) (c .1) (omega arith))
 
 -- ---- settled or not
 
@@ -304,13 +276,13 @@ module _ (w : ℕ) (w8 : w ≤ 8) (t : List ℕ) (xs : List Op) where
 
 -- ---- the theorem
 
-module _ (w : ℕ) (w8 : w ≤ 8) (t : List ℕ) (a : Arena) (f : Facts w t a) (p : All (λ h. paddingFault h ≡ 0) (held (blockIn a))) where
+module _ (w : ℕ) (w8 : w ≤ 8) (t : List ℕ) (a : Arena) (f : Facts w t a) (n : All (Clear w) (blockIn a .records)) (p : All (λ h. paddingFault h ≡ 0) (held (blockIn a))) where
   abbrev b : Block
   b = blockIn a
 
   batches : Batches w w8 t (b .ops) 0 (b .records)
   unfolding held
-  batches = gather w w8 t (b .ops) (b .records) 0 (shaped-in a) (f .right) p (f .commitment) (let s = f .sum in omega arith)
+  batches = gather w w8 t (b .ops) (b .records) 0 (shaped-in a) (f .right) n p (f .commitment) (let s = f .sum in omega arith)
 
   read : batchesAt w t (b .ops) (map sizesOf (b .records)) (map (λ r. r .flags) (b .records)) ≡ found (map (settled t) (held b)) (length (b .ops))
   unfolding held
@@ -332,8 +304,17 @@ module _ (w : ℕ) (w8 : w ≤ 8) (t : List ℕ) (a : Arena) (f : Facts w t a) (
         only = λ h. all-only w w8 t (b .ops) (b .records) 0 batches (ap (λ (x : Block). x .records) h);
       }
 
-pub returns : (w : ℕ) (w8 : w ≤ 8) (t : List ℕ) (a : Arena) → paddingChecked w a ≡ good tt → commitmentChecked w t a ≡ good tt → Returns w t a
-returns w w8 t a p c = returned w w8 t a (facts w t a c) (no-padding-fault w a p)
+-- no flag stands from the width on: with flags at and above the count kept, this is asked for where the width is under 8
+pub returns-clear : (w : ℕ) (w8 : w ≤ 8) (t : List ℕ) (a : Arena) → All (Clear w) (blockIn a .records) → paddingChecked w a ≡ good tt → commitmentChecked w t a ≡ good tt → Returns w t a
+returns-clear w w8 t a n p c = returned w w8 t a (facts w t a c) n (no-padding-fault w a p)
+
+-- a record has eight flags
+clear-8 : (r : Record) → NineAndEight r → Clear 8 r
+unfolding every
+clear-8 r h = rw (drop-of-length-le (r .flags) {i = 8} (omega (arith, h .flags)))
+
+pub returns : (t : List ℕ) (a : Arena) → paddingChecked 8 a ≡ good tt → commitmentChecked 8 t a ≡ good tt → Returns 8 t a
+returns t a = returns-clear 8 (omega arith) t a (all-map clear-8 (blockIn a .records) (shaped-in a))
 
 pub needed : Needed
 unfolding document settled settledBlock

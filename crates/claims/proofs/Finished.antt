@@ -23,7 +23,7 @@ use Rattle.claims.proofs.Arena.{block-in}
 use Rattle.claims.proofs.ReadThenWritten.{block-taken}
 use Rattle.claims.proofs.ReadThenChecked.{Encodable, encodable, had-room}
 use Rattle.claims.proofs.Passes.{decode-passes}
-use Rattle.claims.proofs.CheckedThenReturned.{returns}
+use Rattle.claims.proofs.CheckedThenReturned.{returns-clear}
 
 most-fits : (b : Block) → length (b .ops) ≤ 65535 → length (b .records) ≤ 16384 → roomFor b most ≡ true
 unfolding roomFor
@@ -46,7 +46,7 @@ module _ (w : ℕ) (w8 : w ≤ 8) (t : List ℕ) where
     able = encodable w t s at room blk end h
 
     returned : Returns w t (lent blk)
-    returned = let p = decode-passes w t s at room blk end h in returns w w8 t (lent blk) (p .padding) (p .commitment)
+    returned = let p = decode-passes w t s at room blk end h in returns-clear w w8 t (lent blk) (rw (block-in blk (able .sized)) (able .clear)) (p .padding) (p .commitment)
 
     -- decoding gives the settled block
     settles : (before after : List ℕ) (r : Room) → length (before ++ (blockBytes t blk ++ after)) ≤ 1048576 → roomFor blk r ≡ true

@@ -123,7 +123,7 @@ module _ (w : ℕ) (t : List ℕ) (xs : List Op) where
       settle (λ r next. Fine (here r xs at)) (recordBy ns fs vs) r (d .to) next (e .1)
       (fine-by b ns fs vs zs at (fitted-is 8 vs most) (not-false _ (e .0)) (rw (cut-front (length vs) w ns xs at front) at right))
 
-  batches-fine : (o : All (λ x. admissible t x ≡ true) xs) (nss fss : List (List ℕ)) (at b : ℕ) (rs : List Record) (next : ℕ) → length nss ≡ length fss → All (Sizes w) nss → All Bits fss
+  batches-fine : (o : All (λ x. admissible t x ≡ true) xs) (nss fss : List (List ℕ)) (at b : ℕ) (rs : List Record) (next : ℕ) → length nss ≡ length fss → All (Sizes w) nss → All (Bits w) fss
       → batchByBatch w t xs at b nss fss ≡ found rs next → All Fine (heldFrom rs xs at)
   unfolding batchByBatch heldFrom
   batches-fine o [] [] at b rs next l z f h = settle (λ rs next. All Fine (heldFrom rs xs at)) [] rs at next h tt

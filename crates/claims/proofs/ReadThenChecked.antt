@@ -143,10 +143,10 @@ unfolding every total
 zeros-total [] h = refl
 zeros-total (n ∷ ns) h = omega (arith, leb-true n 0 (true-left (leb n 0) (upTo 0 ns) h), zeros-total ns (true-right (leb n 0) (upTo 0 ns) h))
 
-pub none-over : (ns : List ℕ) → upTo 9 ns ≡ true → All (λ k. k ≤ 9) ns
+pub at-most : (m : ℕ) (ns : List ℕ) → upTo m ns ≡ true → All (λ k. k ≤ m) ns
 unfolding every
-none-over [] h = tt
-none-over (n ∷ ns) h = (leb-true n 9 (true-left (leb n 9) (upTo 9 ns) h), none-over ns (true-right (leb n 9) (upTo 9 ns) h))
+at-most m [] h = tt
+at-most m (n ∷ ns) h = (leb-true n m (true-left (leb n m) (upTo m ns) h), at-most m ns (true-right (leb n m) (upTo m ns) h))
 
 pub bits-right : (k v : ℕ) → flagsRight (digits 2 k v) ≡ true
 unfolding every digits
@@ -154,9 +154,14 @@ bits-right zero v = refl
 bits-right (suc k) v = rw (le-leb (v % 2) 1 (omega arith)) (bits-right k (v / 2))
 
 -- flags as the bytes give them
-pub record Bits (fs : List ℕ) : Type 0 where
+pub record Bits (w : ℕ) (fs : List ℕ) : Type 0 where
   pub right : flagsRight fs ≡ true
   pub many : length fs ≡ 8
+  pub clear : upTo 0 (drop w fs) ≡ true
+
+-- no flag stands from the width on
+abbrev pub Clear : ℕ → Record → Type 0
+Clear w r = upTo 0 (drop w (r .flags)) ≡ true
 
 module _ (s : List ℕ) (w : ℕ) where
   sizes-made : (at b : ℕ) (ns : List ℕ) (next : ℕ) → sizesAt w s at b ≡ found ns next → Sizes w ns
@@ -165,20 +170,20 @@ module _ (s : List ℕ) (w : ℕ) where
       let ds = digits 16 8 (leAt 4 s at) in
       let a = passed (not (upTo 9 ds)) 6 b _ ns next h in
       let z = passed (not (upTo 0 (drop w ds))) 6 b _ ns next (a .1) in
-      settle (λ ns next. Sizes w ns) ds ns (at + 4) next (z .1) (record { high = zeros-total (drop w ds) (not-false _ (z .0)); many = length-digits 16 8 (leAt 4 s at); small = none-over ds (not-false _ (a .0)) })
+      settle (λ ns next. Sizes w ns) ds ns (at + 4) next (z .1) (record { high = zeros-total (drop w ds) (not-false _ (z .0)); many = length-digits 16 8 (leAt 4 s at); small = at-most 9 ds (not-false _ (a .0)) })
 
   pub nibbles-made : (k at b : ℕ) (nss : List (List ℕ)) (next : ℕ) → nibblesAt w s k at b ≡ found nss next → (length nss ≡ k) × All (Sizes w) nss
   nibbles-made = row-made (sizesAt w s) (Sizes w) sizes-made
 
-  bits-made : (at b : ℕ) (fs : List ℕ) (next : ℕ) → bitsAt w s at b ≡ found fs next → Bits fs
+  bits-made : (at b : ℕ) (fs : List ℕ) (next : ℕ) → bitsAt w s at b ≡ found fs next → Bits w fs
   unfolding bitsAt
   bits-made at b fs next h =
       let f = digits 2 8 (getD s at 0) in
       let a = passed (not (upTo 0 (drop w f))) 6 b _ fs next h in
-      settle (λ fs next. Bits fs) f fs (at + 1) next (a .1) (record { right = bits-right 8 (getD s at 0); many = length-digits 2 8 (getD s at 0) })
+      settle (λ fs next. Bits w fs) f fs (at + 1) next (a .1) (record { right = bits-right 8 (getD s at 0); many = length-digits 2 8 (getD s at 0); clear = not-false _ (a .0) })
 
-  pub flags-made : (k at b : ℕ) (fss : List (List ℕ)) (next : ℕ) → flagsAt w s k at b ≡ found fss next → (length fss ≡ k) × All Bits fss
-  flags-made = row-made (bitsAt w s) Bits bits-made
+  pub flags-made : (k at b : ℕ) (fss : List (List ℕ)) (next : ℕ) → flagsAt w s k at b ≡ found fss next → (length fss ≡ k) × All (Bits w) fss
+  flags-made = row-made (bitsAt w s) (Bits w) bits-made
 
   -- ---- counts and operations
 
@@ -320,11 +325,16 @@ module _ (w : ℕ) (t : List ℕ) (xs : List Op) (o : All (λ x. admissible t x 
   -- what a batch that was read is
   pub record Read-batch (at : ℕ) (r : Record) (next : ℕ) : Type 0 where
     pub right : recordRight w r ≡ true
+    pub clear : Clear w r
     pub sized : Sized r
     pub after : next ≡ at + ninth r
     pub inside : next ≤ length xs
 
-  pub batch-made : (at b : ℕ) (ns fs : List ℕ) (r : Record) (next : ℕ) → Sizes w ns → Bits fs → batchAt w t xs at b ns fs ≡ found r next → Read-batch at r next
+  made-clear : (ns fs vs : List ℕ) → upTo 0 (drop w fs) ≡ true → Clear w (recordBy ns fs vs)
+  unfolding recordBy
+  made-clear ns fs vs h = h
+
+  pub batch-made : (at b : ℕ) (ns fs : List ℕ) (r : Record) (next : ℕ) → Sizes w ns → Bits w fs → batchAt w t xs at b ns fs ≡ found r next → Read-batch at r next
   unfolding batchBy
   batch-made at b ns fs r next z f h =
       let a = passed (ltb (length xs) (at + total ns)) 7 b _ r next (sym (batch-is w t xs at b ns fs (z .high)) ∙ h) in
@@ -336,6 +346,7 @@ module _ (w : ℕ) (t : List ℕ) (xs : List Op) (o : All (λ x. admissible t x 
       settle (λ r next. Read-batch at r next) (recordBy ns fs vs) r (d .to) next (e .1)
       (record {
         right = record-right w ns fs vs at (d .to) z (f .right) l (omega (arith, lf .short, length-take w ns));
+        clear = made-clear ns fs vs (f .clear);
         sized = sized ns fs vs (z .many) (f .many) (slots-fit t b (take w ns) [] xs at vs (d .to) o (all-front (λ k. k ≤ 9) w ns (z .small)) tt (d .first));
         after = rw (ninth-is w ns fs vs z) (l .after);
         inside = rw (sym (l .after)) at (ltb-false (length xs) (at + total ns) (a .0));
@@ -343,19 +354,20 @@ module _ (w : ℕ) (t : List ℕ) (xs : List Op) (o : All (λ x. admissible t x 
 
   record Read-batches (at : ℕ) (rs : List Record) (next : ℕ) : Type 0 where
     right : All (λ r. recordRight w r ≡ true) rs
+    clear : All (Clear w) rs
     sized : All Sized rs
     after : next ≡ at + total (map ninth rs)
     inside : next ≤ length xs
 
   none-made : (at : ℕ) → at ≤ length xs → Read-batches at [] at
   unfolding total
-  none-made at k = record { right = tt; sized = tt; after = omega arith; inside = k }
+  none-made at k = record { right = tt; clear = tt; sized = tt; after = omega arith; inside = k }
 
   more-made : (at to next : ℕ) (r : Record) (rs : List Record) → Read-batch at r to → Read-batches to rs next → Read-batches at (r ∷ rs) next
   unfolding total
-  more-made at to next r rs a d = record { right = (a .right, d .right); sized = (a .sized, d .sized); after = omega (arith, a .after, d .after); inside = d .inside }
+  more-made at to next r rs a d = record { right = (a .right, d .right); clear = (a .clear, d .clear); sized = (a .sized, d .sized); after = omega (arith, a .after, d .after); inside = d .inside }
 
-  batches-made : (nss fss : List (List ℕ)) (at b : ℕ) (rs : List Record) (next : ℕ) → length nss ≡ length fss → All (Sizes w) nss → All Bits fss → at ≤ length xs
+  batches-made : (nss fss : List (List ℕ)) (at b : ℕ) (rs : List Record) (next : ℕ) → length nss ≡ length fss → All (Sizes w) nss → All (Bits w) fss → at ≤ length xs
       → batchByBatch w t xs at b nss fss ≡ found rs next → Read-batches at rs next × (length rs ≡ length nss)
   unfolding batchByBatch
   batches-made [] [] at b rs next l z f k h = settle (λ rs next. Read-batches at rs next × (length rs ≡ 0)) [] rs at next h (none-made at k, refl)
@@ -371,12 +383,13 @@ module _ (w : ℕ) (t : List ℕ) (xs : List Op) (o : All (λ x. admissible t x 
 
 -- ---- a block
 
--- what encoding asks of a block, the room aside
+-- what encoding asks of a block, the room aside; and that the bytes can say its flags
 pub record Encodable (w : ℕ) (t : List ℕ) (blk : Block) : Type 0 where
   pub table : goodTable t ≡ true
   pub few : length (blk .ops) ≤ 65535
   pub less : length (blk .records) ≤ 16384
   pub right : All (λ r. recordRight w r ≡ true) (blk .records)
+  pub clear : All (Clear w) (blk .records)
   pub sum : total (map ninth (blk .records)) ≡ length (blk .ops)
   pub sized : All Sized (blk .records)
   pub allowed : All (λ x. admissible t x ≡ true) (blk .ops)
@@ -404,6 +417,7 @@ block-made w t s at room blk next h = go (stages w t s at room blk next h)
             few = omega (arith, q₄ .0, count-limit s w (d .n) at (d .a₁) (d .count));
             less = omega (arith, q₃ .1, q₁ .0, batchCount-limit s w (f .k) (d .a₂) (f .a₁) (d .batches));
             right = g .right;
+            clear = g .clear;
             sum = omega (arith, g .after, g .inside, f .records .all);
             sized = g .sized;
             allowed = q₄ .1;

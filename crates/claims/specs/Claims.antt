@@ -39,8 +39,9 @@ pub record Claims (w : ℕ) : Type 0 where
       → Taken w t s at room b next → Taken w t s′ at′ room′ b next′ → take (next - at) (drop at s) ≡ take (next′ - at′) (drop at′ s′)
   -- batch data that passes commitment belongs to one list
   pub one-list : OneList w
-  -- what passes the checks, encoded and decoded; and that the condition for getting the same back is needed
-  pub returns : (t : List ℕ) (a : Arena) → paddingChecked w a ≡ good tt → commitmentChecked w t a ≡ good tt → Returns w t a
+  -- what passes the checks, encoded and decoded; and that the condition for getting the same back is needed. Of document 01's width: under it a record
+  -- has flags that bytes of that width cannot say, from the width on.
+  pub returns : (t : List ℕ) (a : Arena) → paddingChecked 8 a ≡ good tt → commitmentChecked 8 t a ≡ good tt → Returns 8 t a
   pub needed : Needed
   -- sizes
   pub ended-count : EndedCount

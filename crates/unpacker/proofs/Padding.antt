@@ -17,7 +17,7 @@ use Rattle.rules.proofs.Runs.{fitted-length}
 use Rattle.rules.proofs.Sizes.{length-starts}
 use Rattle.rules.proofs.Slots.{slots}
 use Rattle.rules.proofs.Records.{Alike}
-use Rattle.claims.proofs.ReadThenChecked.{Laid, laid, laid-front, Sizes, record-right, ninth-is, bits-right, zeros-total, none-over}
+use Rattle.claims.proofs.ReadThenChecked.{Laid, laid, laid-front, Sizes, record-right, ninth-is, bits-right, zeros-total, at-most}
 use Rattle.claims.proofs.WrittenThenRead.{differences-starts}
 use Rattle.op_batch.specs.Stores.{recordSet}
 use Rattle.op_batch.proofs.Stores.{stored-length, parts-after}
@@ -44,7 +44,7 @@ module _ (w : ℕ) (t cs vals : List ℕ) (at b v f : ℕ) (m : w ≤ 8) (z : Ri
   alike = rw o (parts-after b (made v f vs) run whole room)
 
   sizes : Sizes w ns
-  sizes = record { high = zeros-total (drop w ns) (z .1); many = length-digits 16 8 v; small = none-over ns (z .0) }
+  sizes = record { high = zeros-total (drop w ns) (z .1); many = length-digits 16 8 v; small = at-most 9 ns (z .0) }
 
   lain : Laid ns at vs end
   lain = laid-front w ns at vs end (sizes .high) (laid t b (take w ns) [] (operations cs vals) at vs end (rw (take-digits w 8 v m) e))
