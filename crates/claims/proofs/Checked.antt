@@ -111,7 +111,7 @@ first-none f i (x ∷ xs) r a h = go (f x) refl (λ k. first-none f (i + 1) xs r
     go zero e ih k = let q = ih k in ((e, q .0), q .1)
     go (suc n) e ih k = absurd (clash (suc n) i a k)
 
-structured : {A : Type 0} (w : ℕ) (b : Block) (r : Answer A) (a : A) → refuseFirst 0 (structureFaults w b) r ≡ good a
+pub structured : {A : Type 0} (w : ℕ) (b : Block) (r : Answer A) (a : A) → refuseFirst 0 (structureFaults w b) r ≡ good a
     → All (λ x. recordRight w x ≡ true) (b .records) × (total (map ninth (b .records)) ≡ length (b .ops)) × (r ≡ good a)
 unfolding structureFaults
 structured w b r a h =

@@ -309,7 +309,7 @@ pub returns-clear : (w : ℕ) (w8 : w ≤ 8) (t : List ℕ) (a : Arena) → All 
 returns-clear w w8 t a n p c = returned w w8 t a (facts w t a c) n (no-padding-fault w a p)
 
 -- a record has eight flags
-clear-8 : (r : Record) → NineAndEight r → Clear 8 r
+pub clear-8 : (r : Record) → NineAndEight r → Clear 8 r
 unfolding every
 clear-8 r h = rw (drop-of-length-le (r .flags) {i = 8} (omega (arith, h .flags)))
 

@@ -15,6 +15,7 @@ use Rattle.claims.proofs.Checked.{shaped-in}
 use Rattle.claims.proofs.CheckedThenReturned.{returns, needed}
 use Rattle.claims.proofs.Finished.{finished}
 use Rattle.claims.proofs.OneList.{one-list}
+use Rattle.claims.proofs.Kept.{unread, unread-by, kept}
 
 pub claims : (w : ℕ) → Width w → Claims w
 claims w width =
@@ -29,6 +30,9 @@ claims w width =
       one-list = one-list w (width .eight);
       returns = returns;
       needed = needed;
+      unread = unread w (width .eight);
+      unread-by = λ r q e. unread-by r q e w;
+      kept = kept;
       ended-count = ended-count;
       block-length = block-length;
       lent-sized = shaped-in;

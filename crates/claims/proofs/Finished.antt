@@ -29,7 +29,7 @@ most-fits : (b : Block) → length (b .ops) ≤ 65535 → length (b .records) �
 unfolding roomFor
 most-fits b h k = rw (le-leb (length (b .ops)) 65535 h, le-leb (length (b .records)) 16384 k)
 
-within-limit : (w : ℕ) (t s : List ℕ) (at : ℕ) (room : Room) (blk : Block) (n : ℕ) → decoded w t s at room ≡ found blk n → length s ≤ 1048576
+pub within-limit : (w : ℕ) (t s : List ℕ) (at : ℕ) (room : Room) (blk : Block) (n : ℕ) → decoded w t s at room ≡ found blk n → length s ≤ 1048576
 unfolding decoded
 within-limit w t s at room blk n h = ltb-false 1048576 (length s) (passed (ltb 1048576 (length s)) 3 0 _ blk n h .0)
 
@@ -45,7 +45,7 @@ module _ (w : ℕ) (w8 : w ≤ 8) (t : List ℕ) where
     able : Encodable w t blk
     able = encodable w t s at room blk end h
 
-    returned : Returns w t (lent blk)
+    pub returned : Returns w t (lent blk)
     returned = let p = decode-passes w t s at room blk end h in returns-clear w w8 t (lent blk) (rw (block-in blk (able .sized)) (able .clear)) (p .padding) (p .commitment)
 
     -- decoding gives the settled block
@@ -54,7 +54,7 @@ module _ (w : ℕ) (w8 : w ≤ 8) (t : List ℕ) where
     settles before after r l f = let e = block-in blk (able .sized) in rw e at (returned .reads before after r (rw e l) (rw e f))
 
     -- and so it was settled
-    was : settledBlock t blk ≡ blk
+    pub was : settledBlock t blk ≡ blk
     was =
         let st = taken .stands in
         let e : decoded w t (st .before ++ (blockBytes t blk ++ st .after)) (length (st .before)) room ≡ found blk end =

@@ -20,5 +20,6 @@ pub mod Demand1
 pub mod Checked
 pub mod CheckedThenReturned
 pub mod Finished
+pub mod Kept
 pub mod OneList
 pub mod Claims

@@ -44,7 +44,7 @@ under : (ns : List ℕ) → All (λ n. n ≤ 9) ns → All (λ n. n < 16) ns
 under [] h = tt
 under (n ∷ ns) h = (omega (arith, h .0), under ns (h .1))
 
-none-over : (m : ℕ) (ns : List ℕ) → All (λ n. n ≤ m) ns → upTo m ns ≡ true
+pub none-over : (m : ℕ) (ns : List ℕ) → All (λ n. n ≤ m) ns → upTo m ns ≡ true
 unfolding every
 none-over m [] h = refl
 none-over m (n ∷ ns) h = rw (le-leb n m (h .0)) (none-over m ns (h .1))
@@ -155,8 +155,7 @@ module _ (w : ℕ) (w8 : w ≤ 8) where
   module _ (t : List ℕ) where
     padding-back : (gs : List Group) (k : ℕ) → All (RightGroup t) gs → paddingRight (map opsIn gs) (map flagOf gs ++ replicate k 0) ≡ true
     unfolding paddingRight opsIn flagOf
-    padding-back [] zero h = refl
-    padding-back [] (suc k) h = padding-back [] k tt
+    padding-back [] k h = refl
     padding-back (ops xs true ∷ gs) k h = rw (ends xs (h .0 .padding)) (padding-back gs k (h .1))
     padding-back (ops xs false ∷ gs) k h = padding-back gs k (h .1)
     padding-back (imm v ∷ gs) k h = padding-back gs k (h .1)

@@ -6,7 +6,7 @@ use lib.ListN.{length, take, drop}
 use Rattle.rules.specs.Answer.{good, found}
 use Rattle.rules.specs.Operations.{Op}
 use Rattle.rules.specs.Batching.{batchesOf}
-use Rattle.rules.specs.Record.{Block, blockOf, NineAndEight}
+use Rattle.rules.specs.Record.{Record, Block, blockOf, NineAndEight}
 use Rattle.rules.specs.Block.{Room, blockBytes}
 use Rattle.rules.specs.Functions.{Arena, blockIn, encoded, decoded, paddingChecked, commitmentChecked}
 use Rattle.claims.specs.Sizes.{EndedCount, BlockLength}
@@ -16,6 +16,7 @@ use Rattle.claims.specs.Passes.{Passes}
 use Rattle.claims.specs.Finished.{Bytes, Finished}
 use Rattle.claims.specs.OneList.{OneList}
 use Rattle.claims.specs.Settled.{Returns, Needed}
+use Rattle.claims.specs.Kept.{SameButKept, ArenasButKept, Unread, UnreadBy, Kept}
 use Rattle.rules.specs.Lists.{All}
 
 -- decoding a list of bytes from a place on took this block, and stopped at `next`
@@ -43,6 +44,10 @@ pub record Claims (w : ℕ) : Type 0 where
   -- has flags that bytes of that width cannot say, from the width on.
   pub returns : (t : List ℕ) (a : Arena) → paddingChecked 8 a ≡ good tt → commitmentChecked 8 t a ≡ good tt → Returns 8 t a
   pub needed : Needed
+  -- M-100: flags at and above the group count change no other answer; in the bytes of a block that is taken they may be cleared or set
+  pub unread : (a c : Arena) → ArenasButKept a c → Unread w a c
+  pub unread-by : (r q : Record) → SameButKept r q → UnreadBy w r q
+  pub kept : (t s : List ℕ) → Bytes s → (at : ℕ) (room : Room) (b : Block) (next : ℕ) → Taken 8 t s at room b next → Kept 8 t s at room b next
   -- sizes
   pub ended-count : EndedCount
   pub block-length : BlockLength

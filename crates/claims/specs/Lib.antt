@@ -5,6 +5,7 @@ pub mod Demand3
 pub mod Passes
 pub mod Demand1
 pub mod Settled
+pub mod Kept
 pub mod Finished
 pub mod OneList
 pub mod Sizes
