@@ -169,6 +169,28 @@ fn print_groups(page: &mut [u8], codes: &[u8], values: &[u64], batch: OpBatch, a
     }
 }
 
+// Group g is at or above the group count: its flag, where it is set, marks no padding.
+fn print_flag(page: &mut [u8], g: usize, flag: u8) {
+    if flag == 0 {
+        return;
+    }
+    say(page, b"  group ");
+    number(page, g as u64);
+    say(
+        page,
+        b": its flag stands at or above the group count and is kept; no padding\n",
+    );
+}
+
+// The flags of a batch at or above its group count.
+fn print_flags(page: &mut [u8], batch: OpBatch) {
+    let mut g = batch.count as usize;
+    while g < 8 {
+        print_flag(page, g, batch.flags[g]);
+        g += 1;
+    }
+}
+
 fn print_batch(page: &mut [u8], b: usize, groups: usize, operations: usize) {
     say(page, b"batch ");
     number(page, b as u64);
@@ -200,6 +222,7 @@ fn print_batches(
             byte: at,
         };
         print_groups(page, codes, values, batch, place);
+        print_flags(page, batch);
         at = plus(at, size(codes, operation, n));
         operation = plus(operation, n);
         b += 1;
@@ -215,13 +238,17 @@ fn marked(flag: u8) -> usize
     1
 }
 
-// How many groups of a batch are flagged.
+// How many groups of a batch are flagged. A flag at or above the count is no group's.
 fn flagged(batch: OpBatch) -> usize
     ensures { λ k. ⌜ k ≤ 8 ⌝ }
 {
+    let count = batch.count as usize;
     let mut n: usize = 0;
     let mut g: usize = 0;
     while g < 8 {
+        if count <= g {
+            return n;
+        }
         n += marked(batch.flags[g]);
         g += 1;
     }

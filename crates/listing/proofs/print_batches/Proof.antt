@@ -32,6 +32,9 @@ print-batch-requires c κs = search needs
 print-groups-requires : tie.Need-print-groups-requires Inv-loop μ-loop
 print-groups-requires c κs = search needs
 
+print-flags-requires : tie.Need-print-flags-requires Inv-loop μ-loop
+print-flags-requires c κs = search needs
+
 size-requires : tie.Need-size-requires Inv-loop μ-loop
 size-requires c κs = search needs
 
@@ -69,6 +72,7 @@ print-batches-spec =
     cast-print-batch
     print-batch-requires
     print-groups-requires
+    print-flags-requires
     size-requires
     plus-requires
     plus-requires-2
