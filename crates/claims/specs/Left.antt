@@ -64,7 +64,7 @@ pub record LeftBatch (t : List ℕ) (h : Held) : Type 0 where
   pub flags : AllFlagged (h .groups) (h .batch .flags)
   -- its numbers are those of its groups and of their immediates
   pub numbers : h .batch .numbers ≡ fitted 8 (numbersFrom t [] (h .groups))
-  -- from the count on groups are empty, flags and numbers 0
+  -- from the count on groups are empty, flags and numbers 0; M-100: "Batches we build still have those bits clear"
   pub no-sizes : All (λ n. n ≡ 0) (drop (h .batch .count) (differences (h .batch .starts)))
   pub no-flags : All (λ n. n ≡ 0) (drop (h .batch .count) (h .batch .flags))
   pub no-numbers : All (λ n. n ≡ 0) (drop (h .batch .count) (h .batch .numbers))

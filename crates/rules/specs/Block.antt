@@ -44,7 +44,8 @@ countFrom t i n [] = n
 countFrom t i n ([] ∷ gs) = countFrom t (i + 1) n gs
 countFrom t i n ((x ∷ xs) ∷ gs) = countFrom t (i + 1) (i + 1 + length (immediates t (x ∷ xs))) gs
 
--- the b-th batch, of these sizes and flags, in the operations from a place on: "7, 8 or 9, 10". Its groups are those under the width.
+-- the b-th batch, of these sizes and flags, in the operations from a place on: "7, 8 or 9, 10". Its groups are those under the width. Its flags are all
+-- that were read, M-100's too: "keep such a bit unread".
 unfoldable pub batchAt : ℕ → List ℕ → List Op → ℕ → ℕ → List ℕ → List ℕ → Read Record
 batchAt w t xs at b ns fs =
     let gs = cut (take w ns) xs at in

@@ -111,5 +111,6 @@ bitsAt w s at b =
 abbrev pub flagsAt : ℕ → List ℕ → ℕ → ℕ → ℕ → Read (List (List ℕ))
 flagsAt w s = row (bitsAt w s)
 
+-- all eight; M-100, of a bit at or above the count: "the encoder writes it back"
 abbrev pub flagBytes : List Record → List ℕ
 flagBytes = inRow (λ (r : Record). number 2 (r .flags) ∷ [])

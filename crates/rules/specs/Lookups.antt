@@ -43,7 +43,8 @@ marksOf [] fs = []
 marksOf (n ∷ ns) [] = []
 marksOf (n ∷ ns) (f ∷ fs) = marksIn n f ++ marksOf ns fs
 
--- for each padded operation of a block, whether it is a flagged padding
+-- for each padded operation of a block, whether it is a flagged padding. M-100, of a flag at or above the count: "the tables go on ignoring it"; there
+-- are no operations there.
 unfoldable pub marks : List Record → List Bool
 marks [] = []
 marks (r ∷ rs) = marksOf (differences (r .starts)) (r .flags) ++ marks rs

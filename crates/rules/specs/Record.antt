@@ -47,8 +47,7 @@ unfoldable pub immediates : List ℕ → List Op → List ℕ
 immediates t [] = []
 immediates t (x ∷ xs) = cond (hasImmediate t x) (x .value ∷ immediates t xs) (immediates t xs)
 
--- a record by its eight sizes, its eight flags and the numbers of the groups under the count:
--- "Group numbers and flags from the count on are zero; starts after the count repeat the batch's operation total."
+-- a record by its eight sizes, its eight flags and the numbers of the groups under the count
 unfoldable pub recordBy : List ℕ → List ℕ → List ℕ → Record
 recordBy sizes flags numbers = record { starts = startsFrom 0 sizes; flags = flags; numbers = fitted 8 numbers; count = length numbers }
 
@@ -74,6 +73,8 @@ unfoldable pub numberOf : Group → ℕ
 numberOf (ops xs p) = codesNumber xs
 numberOf (imm v) = v
 
+-- "Group numbers and flags from the count on are zero; starts after the count repeat the batch's operation total." M-100: "Batches we build still have
+-- those bits clear".
 unfoldable pub recordOf : List Group → Record
 recordOf gs = recordBy (fitted 8 (map sizeOf gs)) (fitted 8 (map flagOf gs)) (map numberOf gs)
 
