@@ -1,19 +1,18 @@
 -- What passes the three checks, encoded and decoded. Assumes nothing.
 use mathlib.Core.Path.{_≡_, refl, sym, ap, ap₂, _∙_}
 use mathlib.Core.List.{List, [], _∷_, _++_, map}
-use mathlib.Core.Bool.{Bool, true, false, cond}
-use Prim.Native.Nat.{ℕ, zero, suc, _+_, _≤_, _<_}
+use mathlib.Core.Bool.{true, cond}
+use Prim.Native.Nat.{ℕ, zero, suc, _+_, _≤_}
 use native.Mathlib.Nat.{add-zero, zero-add}
 use native.Mathlib.Omega.{arith}
-use borrow.Author.Tests.{le-ltb, leb-true, eqb-true}
+use borrow.Author.Tests.{le-ltb, eqb-true}
 use lib.ListN.{length, getD, take, drop, length-take, length-append, length-map, drop-of-length-le}
 use lib.Seq.{take-all}
-use lib.Dec.{leb, eqb}
+use lib.Dec.{eqb}
 use Rattle.rules.specs.Lists.{fitted, total, every, All}
 use Rattle.rules.specs.Answer.{good, found}
 use Rattle.rules.specs.Operations.{Op}
 use Rattle.rules.specs.Record.{Record, Block, differences, codesNumber, recordBy, part, cut, immediates, NineAndEight}
-use Rattle.rules.specs.Bytes.{upTo}
 use Rattle.rules.specs.Block.{countFrom, blockBytes, batchAt, batchesAt}
 use Rattle.rules.proofs.Slots.{emptyBefore, slots, before, counted, counted-most, found-counts, batchBy, batch-is, total-split, length-cut, before-is, or-first, part-some, batchByBatch, batches-is}
 use Rattle.rules.specs.Checks.{ninth, recordRight, heldFrom, held, paddingFault, placingFault, begins, groupsFault, emptyZero, commitmentFault, endsInNoop, paddingRight}

@@ -1,7 +1,7 @@
 -- Flags at and above the count change no other answer, and may be cleared or set in the bytes of a block that is taken. Assumes nothing.
 use mathlib.Core.Path.{_≡_, refl, sym, ap, ap₂, _∙_, subst}
 use mathlib.Core.List.{List, [], _∷_, _++_, append-assoc, map}
-use mathlib.Core.Bool.{Bool, true, false, cond, not, _&&_}
+use mathlib.Core.Bool.{Bool, true, cond, not, _&&_}
 use Prim.Native.Nat.{ℕ, zero, suc, _+_, _-_, _≤_}
 use native.Mathlib.Omega.{arith}
 use lib.ListN.{length, getD, take, drop, length-append}
@@ -12,7 +12,7 @@ use Rattle.rules.specs.Digits.{number, leBytes}
 use Rattle.rules.specs.Answer.{Answer, good, refuse, refuseFirst, found}
 use Rattle.rules.specs.Operations.{Op, operations, codes, values}
 use Rattle.rules.specs.Record.{Record, Block, NineAndEight, differences, cut}
-use Rattle.rules.specs.Bytes.{countBytes, opsBytes, nibbleBytes, flagBytes, upTo}
+use Rattle.rules.specs.Bytes.{countBytes, opsBytes, nibbleBytes, flagBytes}
 use Rattle.rules.specs.Block.{Room, countFrom, blockBytes}
 use Rattle.rules.specs.Checks.{Held, ninth, recordRight, structureFaults, heldFrom, held, endsInNoop, paddingRight, paddingFault, paddingFaults, commitmentFault, commitmentFaults}
 use Rattle.rules.specs.Lookups.{groupOf, nextGroup, marksIn, marksOf, marks, rawEntries, paddedEntries, rawTable, paddedTable}
