@@ -4,7 +4,7 @@ use mathlib.Core.List.{List, [], _∷_, _++_, append-assoc, map}
 use mathlib.Core.Bool.{Bool, true, cond, not, _&&_}
 use Prim.Native.Nat.{ℕ, zero, suc, _+_, _-_, _≤_}
 use native.Mathlib.Omega.{arith}
-use lib.ListN.{length, getD, take, drop, length-append}
+use lib.ListN.{length, getD, take, drop, replicate, length-append}
 use lib.Seq.{sets, sets-eq, length-sets, take-append-seam, drop-append-seam, drop-append-add}
 use lib.Dec.{leb, ltb, eqb}
 use Rattle.rules.specs.Lists.{total, every, inRow, All}
@@ -16,6 +16,7 @@ use Rattle.rules.specs.Bytes.{countBytes, opsBytes, nibbleBytes, flagBytes}
 use Rattle.rules.specs.Block.{Room, countFrom, blockBytes}
 use Rattle.rules.specs.Checks.{Held, ninth, recordRight, structureFaults, heldFrom, held, endsInNoop, paddingRight, paddingFault, paddingFaults, commitmentFault, commitmentFaults}
 use Rattle.rules.specs.Lookups.{groupOf, nextGroup, marksIn, marksOf, marks, rawEntries, paddedEntries, rawTable, paddedTable}
+use Rattle.rules.specs.Examples.{p1, p1flagged, above}
 use Rattle.rules.specs.Functions.{Arena, blockIn, within, decoded, roomFor, structureChecked, paddingChecked, commitmentChecked, tableOf, groupLookup, nextLookup}
 use Rattle.rules.proofs.Records.{Sized, records-length}
 use Rattle.rules.proofs.Sizes.{length-flags}
@@ -339,3 +340,12 @@ kept t s bytes at room b next h =
           let whole = nine-and-eight (c .records) (sized 8 w8 t s bytes at room b next h c e) in
           takes 8 w8 t s bytes at room b next h c e (all-map clear-8 (c .records) whole);
     }
+
+small : (n f : ℕ) → f ≤ 1 → All (λ f. f ≤ 1) (replicate n f)
+small zero f h = tt
+small (suc n) f h = (h, small n f h)
+
+-- the premise can be met: P1, and P1 with every flag from its count on
+pub kept-met : BlocksButKept p1 (p1flagged above)
+kept-met =
+    record { ops = refl; records = (record { starts = refl; numbers = refl; count = refl; many = refl; under = refl; bits = (small 6 0 (omega arith), small 6 1 (omega arith)) }, tt) }
