@@ -4,6 +4,9 @@
 //! fault alone must give its number and place; any two together must give those of the earlier
 //! one. Faults that can't be had together are left out (two of them want the same bytes to be
 //! different things); where such a pair matters, there is a case of its own for it.
+//!
+//! Flags at or above a batch's count are no fault (M-100): there are cases of blocks that have them,
+//! alone and before each fault that comes later.
 
 use crate::{Arena, Batch, Call, FIELD, Operation, RECORD, Room, count_bytes};
 
@@ -181,6 +184,46 @@ fn two_batches() -> Block {
     Block::new(&list, &[first, second])
 }
 
+/// Two batches with flags at or above a count: in the second, whose count is 2, or in one without
+/// groups between the two. Such a flag is kept, is no padding and no fault.
+fn kept() -> Vec<(&'static str, Block)> {
+    let second = |flags: core::ops::Range<usize>| {
+        let mut block = two_batches();
+        block.records[RECORD + FLAG..][flags].fill(1);
+        block
+    };
+    let bare = |flags| {
+        let mut block = two_batches();
+        let batch = Batch {
+            flags,
+            ..Batch::default()
+        };
+        block.records.splice(RECORD..RECORD, batch.record());
+        block
+    };
+    vec![
+        ("the flag at the count", second(2..3)),
+        ("flag 7", second(7..8)),
+        ("all flags above the count", second(2..8)),
+        (
+            "flag 0 of a batch without groups",
+            bare([1, 0, 0, 0, 0, 0, 0, 0]),
+        ),
+        ("all flags of a batch without groups", bare([1; 8])),
+    ]
+}
+
+/// The same with a fault of padding: the immediate's slot of the last batch is flagged, too. That
+/// is the last group under its count.
+fn kept_and_slot() -> Vec<(String, Block)> {
+    let spoilt = |(name, mut block): (&str, Block)| {
+        let last = block.records.len() - RECORD;
+        block.records[last + FLAG + 1] = 1;
+        (format!("{name}, and the last slot's"), block)
+    };
+    kept().into_iter().map(spoilt).collect()
+}
+
 // BUILD
 // ================================================================================================
 
@@ -326,6 +369,20 @@ fn encode(visit: &mut Visit<'_>) {
             at: i.at,
         })
     });
+    for (name, block) in kept() {
+        visit(Case {
+            name: format!("encode: {name}"),
+            pair: None,
+            call: Call::Encode {
+                table: &block.table,
+                arena: block.arena(&block.records),
+                buffer: &[0xa0; 100],
+                at: 2,
+            },
+            number: 0,
+            place: 0,
+        });
+    }
 }
 
 // DECODE
@@ -427,7 +484,7 @@ fn decode(visit: &mut Visit<'_>) {
     let good = good_bytes();
     // Letters: e the end of the buffer, a the offset, t the table, c the count's bytes, o the last
     // operation, x where the operations end, y how many there are, b the batch count, 0 and 1 what those batches
-    // are.
+    // are, s what the first batch's slot is.
     let faults = [
         fault(
             3,
@@ -509,14 +566,13 @@ fn decode(visit: &mut Visit<'_>) {
             9,
             0,
             "a slot that holds operations",
-            "0",
+            "0s",
             |i: &mut Bytes| {
                 i.nibbles[0] = [0x11, 0, 0, 0];
                 i.flags[0] &= 0xfe;
             },
         ),
-        fault(10, 0, "a flag from the count on", "", |i| i.flags[0] |= 4),
-        fault(10, 0, "an immediate's slot flagged", "", |i| {
+        fault(10, 0, "an immediate's slot flagged", "s", |i| {
             i.flags[0] |= 2
         }),
         fault(7, 1, "a later batch that runs past", "1", |i| {
@@ -524,6 +580,10 @@ fn decode(visit: &mut Visit<'_>) {
         }),
         fault(10, 1, "a flagged group without Noop", "1", |i| {
             i.flags[1] |= 1
+        }),
+        fault(10, 1, "an empty group flagged", "1", |i| {
+            i.nibbles[1] = [0x10, 0, 0, 0];
+            i.flags[1] |= 1;
         }),
         fault(11, 0, "operations left over", "1oxy", |i| {
             i.ops.push(vec![2]);
@@ -605,8 +665,8 @@ fn decode(visit: &mut Visit<'_>) {
         i.nibbles[0] = [0, 0, 0, 0x90];
     });
     by_hand("past the operations before padding", (7, 10), 7, 0, &|i| {
-        i.nibbles[0] = [9, 0, 0, 0];
-        i.flags[0] = 4;
+        i.nibbles[0] = [2, 9, 0, 0];
+        i.flags[0] = 2;
     });
     by_hand("slots in order: taken before past 7", (9, 8), 9, 0, &|i| {
         // Group 6 has three immediates, group 7 a plain operation.
@@ -640,7 +700,7 @@ fn decode(visit: &mut Visit<'_>) {
         &|i| {
             i.ops.push(vec![2]);
             i.count = count_bytes(4);
-            i.flags[1] = 2;
+            i.flags[1] = 1;
         },
     );
     by_hand(
@@ -651,6 +711,100 @@ fn decode(visit: &mut Visit<'_>) {
         &|i| {
             i.flags[0] = 2;
             i.nibbles[1] = [9, 0, 0, 0];
+        },
+    );
+
+    // Flags at or above the count, which is 2 in the first batch and 1 in the second.
+    let mut kept = |name: &str, number, place, spoil: &dyn Fn(&mut Bytes)| {
+        let mut input = good.clone();
+        spoil(&mut input);
+        take_bytes(&input, &mut |call| {
+            visit(Case {
+                name: format!("decode: {name}"),
+                pair: None,
+                call,
+                number,
+                place,
+            })
+        });
+    };
+    kept("the flag at the count", 0, 0, &|i| i.flags[0] = 5);
+    kept("flag 7", 0, 0, &|i| i.flags[0] = 0x81);
+    kept("all flags above the counts", 0, 0, &|i| {
+        i.flags = vec![0xfd, 0xfe]
+    });
+    for flags in [1, 0xff] {
+        kept(
+            &format!("flags {flags:x} of a batch without groups"),
+            0,
+            0,
+            &|i| {
+                i.batch_count = vec![3, 0, 0, 0];
+                i.nibbles.insert(1, [0; 4]);
+                i.flags.insert(1, flags);
+                i.room.records = 3 * RECORD;
+            },
+        );
+    }
+    kept(
+        "a group that ends in an immediate's operation",
+        0,
+        0,
+        &|i| {
+            // The count is 2 here, too.
+            i.ops = vec![immediate(5), vec![2]];
+            i.count = count_bytes(2);
+            i.nibbles[0] = [1, 0, 0, 0];
+            i.flags[0] = 0xfc;
+        },
+    );
+    // What comes later is looked for.
+    kept("a kept flag, then past the operations", 7, 1, &|i| {
+        i.flags[0] = 5;
+        i.nibbles[1] = [9, 0, 0, 0];
+    });
+    kept("a kept flag, then a slot past 7", 8, 1, &|i| {
+        i.flags[0] = 5;
+        i.ops[2] = immediate(6);
+        i.nibbles[1] = [0, 0, 0, 0x10];
+    });
+    kept(
+        "a kept flag, then a slot that holds operations",
+        9,
+        1,
+        &|i| {
+            i.flags[0] = 5;
+            i.ops[2] = immediate(6);
+            i.ops.push(vec![2]);
+            i.count = count_bytes(4);
+            i.nibbles[1] = [0x11, 0, 0, 0];
+        },
+    );
+    kept(
+        "a kept flag, then a flagged group without Noop",
+        10,
+        1,
+        &|i| i.flags = vec![5, 1],
+    );
+    kept("kept flags and the slot's", 10, 0, &|i| i.flags[0] = 0xff);
+    kept(
+        "a kept flag and a flagged group without Noop",
+        10,
+        1,
+        &|i| i.flags[1] = 3,
+    );
+    kept("kept flags, then operations left over", 11, 0, &|i| {
+        i.ops.push(vec![2]);
+        i.count = count_bytes(4);
+        i.flags = vec![0xfd, 0xfe];
+    });
+    kept(
+        "a batch without groups, then operations left over",
+        11,
+        0,
+        &|i| {
+            i.nibbles[1] = [0; 4];
+            i.flags[1] = 1;
         },
     );
 }
@@ -695,6 +849,9 @@ fn structures() -> Vec<Spoil> {
         fault(15, 1, "operations past the count", "", |i| {
             i.records[RECORD + COUNT] = 0
         }),
+        fault(15, 1, "a flag of 2 at the count", "", |i| {
+            i.records[RECORD + FLAG + 2] = 2
+        }),
         fault(15, 2, "an operation that no batch covers", "e", |i| {
             i.codes.push(2);
             i.values.push(0);
@@ -720,8 +877,8 @@ fn paddings() -> Vec<Spoil> {
         fault(10, 0, "an empty group flagged", "", |i| {
             i.records[FLAG + 7] = 1
         }),
-        fault(10, 1, "a flag from the count on", "r", |i| {
-            i.records[RECORD + FLAG + 2] = 1
+        fault(10, 1, "an immediate's slot flagged", "r", |i| {
+            i.records[RECORD + FLAG + 1] = 1
         }),
         fault(10, 1, "a flagged group without Noop", "", |i| {
             i.codes[10] = 200
@@ -791,6 +948,37 @@ fn checks(visit: &mut Visit<'_>) {
             arena: i.arena(&run),
         })
     });
+
+    for (name, block) in kept() {
+        let arena = block.arena(&block.records);
+        for call in [
+            Call::Structure { arena },
+            Call::Padding { arena },
+            Call::Commitment {
+                table: &block.table,
+                arena,
+            },
+        ] {
+            visit(Case {
+                name: format!("{}: {name}", call.function().name()),
+                pair: None,
+                call,
+                number: 0,
+                place: 0,
+            });
+        }
+    }
+    for (name, block) in kept_and_slot() {
+        visit(Case {
+            name: format!("padding: {name} (10)"),
+            pair: None,
+            call: Call::Padding {
+                arena: block.arena(&block.records),
+            },
+            number: 10,
+            place: block.records.len() / RECORD - 1,
+        });
+    }
 
     // The order inside a group, by hand: two immediates in group 0 of three groups.
     let list = [op(1, 5), op(1, 6), op(2, 0)];
@@ -871,6 +1059,27 @@ fn tables(visit: &mut Visit<'_>) {
             })
         });
     }
+    let mut with_flags = |name: &str, block: &Block, number, place| {
+        let arena = block.arena(&block.records);
+        for call in [
+            Call::RawTable { arena, room: 11 },
+            Call::PaddedTable { arena, room: 12 },
+        ] {
+            visit(Case {
+                name: format!("{}: {name} ({number})", call.function().name()),
+                pair: None,
+                call,
+                number,
+                place,
+            });
+        }
+    };
+    for (name, block) in kept() {
+        with_flags(name, &block, 0, 0);
+    }
+    for (name, block) in kept_and_slot() {
+        with_flags(&name, &block, 10, block.records.len() / RECORD - 1);
+    }
     // No operations and no batches: one entry, and room for none.
     let empty = Arena {
         codes: &[],
@@ -895,7 +1104,7 @@ fn tables(visit: &mut Visit<'_>) {
 
 fn lookups(visit: &mut Visit<'_>) {
     // Only the clauses of one record.
-    let faults = &structures()[..6];
+    let faults = &structures()[..7];
     for batch in 0..2 {
         let mut good = two_batches();
         if batch == 1 {

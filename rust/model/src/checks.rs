@@ -59,18 +59,16 @@ pub(crate) fn parts(arena: Arena<'_>) -> Vec<(Batch, Vec<Operation>)> {
     parts
 }
 
-/// The padding check's test of one batch.
+/// The padding check's test of one batch. Flags at or above the count are not looked at (M-100).
 pub(crate) fn padding_holds(batch: &Batch, ops: &[Operation]) -> bool {
-    (0..8).all(|group| {
+    (0..batch.count as usize).all(|group| {
         if batch.flags[group] == 0 {
             true
-        } else if group < batch.count as usize {
+        } else {
             match batch.group(ops, group).last() {
                 None => false,
                 Some(last) => last.code == 0,
             }
-        } else {
-            false
         }
     })
 }

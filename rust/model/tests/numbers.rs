@@ -211,6 +211,101 @@ fn errors_to_catch() {
     assert_eq!(decode(&table_t(), &bytes, 0, WIDE).rest, [3, 2, 22]);
 }
 
+/// M-100: a flag at or above the count is kept as it is read, written back, and no padding.
+#[test]
+fn flags_above_the_count() {
+    let table = table_t();
+    let bare = |flags| vec![1, 1, 0, 0, 0, 0, 0, 0, 0, flags];
+    let plain = |flags| vec![3, 2, 1, 0, 0, 0, 1, 0, 0, 0, flags];
+    let p1 = |flags| {
+        vec![
+            5, 1, 5, 0, 0, 0, 0, 0, 0, 0, 0, 1, 0, 0, 0, 2, 0, 0, 0, flags,
+        ]
+    };
+    for (bytes, flags, count, raw, padded) in [
+        (bare(1), [1, 0, 0, 0, 0, 0, 0, 0], 0, vec![0], vec![0]),
+        (bare(0xff), [1; 8], 0, vec![0], vec![0]),
+        (
+            plain(2),
+            [0, 1, 0, 0, 0, 0, 0, 0],
+            1,
+            vec![0, 0],
+            vec![0, 0],
+        ),
+        (
+            plain(0x80),
+            [0, 0, 0, 0, 0, 0, 0, 1],
+            1,
+            vec![0, 0],
+            vec![0, 0],
+        ),
+        (
+            plain(0xfe),
+            [0, 1, 1, 1, 1, 1, 1, 1],
+            1,
+            vec![0, 0],
+            vec![0, 0],
+        ),
+        (
+            p1(5),
+            [1, 0, 1, 0, 0, 0, 0, 0],
+            2,
+            vec![0, 1],
+            vec![0, 0, 1],
+        ),
+        (
+            p1(0xfc),
+            [0, 0, 1, 1, 1, 1, 1, 1],
+            2,
+            vec![0, 0, 0],
+            vec![0, 0, 0],
+        ),
+        (
+            p1(0xfd),
+            [1, 0, 1, 1, 1, 1, 1, 1],
+            2,
+            vec![0, 1],
+            vec![0, 0, 1],
+        ),
+    ] {
+        let read = decode(&table, &bytes, 0, WIDE);
+        assert_eq!((read.number, read.rest[2]), (0, bytes.len()));
+        let operations = read.rest[1];
+        let block = Block {
+            codes: read.codes[..operations].to_vec(),
+            values: read.values[..operations].to_vec(),
+            records: read.records[..RECORD].to_vec(),
+            batches: batches_of(&read.records[..RECORD]),
+        };
+        assert_eq!(block.batches[0].count, count);
+        assert_eq!(block.batches[0].flags, flags);
+        assert_eq!(block.bytes(), bytes);
+        let arena = block.arena();
+        assert_eq!(structure(arena).number, 0);
+        assert_eq!(padding(arena).number, 0);
+        assert_eq!(commitment(&table, arena).number, 0);
+        assert_eq!(raw_table(arena, raw.len()).entries, raw);
+        assert_eq!(padded_table(arena, padded.len()).entries, padded);
+    }
+    // What comes later is looked for; flags under the count too.
+    for (bytes, number, place) in [
+        (vec![3, 2, 1, 0, 0, 0, 0, 0, 0, 0, 1], 11, 0),
+        (plain(3), 10, 0),
+        (p1(0xff), 10, 0),
+        (vec![3, 2, 2, 0, 0, 0, 1, 0, 0, 0, 1, 0, 0, 0, 2, 0], 7, 1),
+        (
+            vec![5, 2, 2, 2, 0, 0, 0, 1, 0, 0, 0, 1, 0, 0, 0, 2, 1],
+            10,
+            1,
+        ),
+        // An empty group under the count, and one above it.
+        (vec![3, 2, 1, 0, 0, 0, 0x10, 0, 0, 0, 0xfd], 10, 0),
+    ] {
+        let answer = decode(&table, &bytes, 0, WIDE);
+        assert_eq!((answer.number, answer.place), (number, place), "{bytes:?}");
+    }
+}
+
 #[test]
 fn lookups() {
     let p6 = block(&[plain(8), push(1)].concat());

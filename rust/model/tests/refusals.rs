@@ -2,7 +2,7 @@
 
 use std::collections::BTreeSet;
 
-use model::{Call, Function, answer, cases};
+use model::{Arena, Call, Function, RECORD, answer, cases, encode};
 
 /// What document 01 promises of every refusal: totals 0, outputs zero, encode's buffer as it was.
 fn nothing_left(call: Call<'_>, answer: &model::Answer) {
@@ -114,5 +114,108 @@ fn no_number_and_no_pair_is_left_out() {
             pairs.contains(&(Function::Decode, first, second)),
             "{first} {second}"
         );
+    }
+}
+
+/// The records without the flags at or above their counts; none if they have no such flag.
+fn cleared(records: &[u8]) -> Option<Vec<u8>> {
+    let mut clear = records.to_vec();
+    for record in clear.chunks_exact_mut(RECORD) {
+        let count = usize::from(record[81]);
+        record[9..17]
+            .iter_mut()
+            .skip(count)
+            .for_each(|flag| *flag = 0);
+    }
+    (clear != records).then_some(clear)
+}
+
+/// The flags of every block that is read are those of its bytes, at or above the counts too, and it
+/// is written back byte for byte.
+#[test]
+fn what_is_read_is_written_back() {
+    let mut kept = 0;
+    cases::all(&mut |case| {
+        let Call::Decode {
+            table, bytes, at, ..
+        } = case.call
+        else {
+            return;
+        };
+        let read = answer(case.call);
+        if read.number != 0 {
+            return;
+        }
+        let [batches, operations, used] = read.rest;
+        let records = &read.records[..batches * RECORD];
+        let arena = Arena {
+            codes: &read.codes[..operations],
+            values: &read.values[..operations],
+            records,
+        };
+        let block = &bytes[at..at + used];
+        let flags = &block[used - batches..];
+        for (record, byte) in records.chunks_exact(RECORD).zip(flags) {
+            for group in 0..8 {
+                assert_eq!(record[9 + group], byte >> group & 1, "{}", case.name);
+            }
+        }
+        assert_eq!(
+            encode(table, arena, &vec![0; used], 0).buffer,
+            block,
+            "{}",
+            case.name
+        );
+        kept += usize::from(cleared(records).is_some());
+    });
+    assert!(kept >= 6, "{kept}");
+}
+
+/// Checks and tables answer as they do without the flags at or above the counts.
+#[test]
+fn flags_above_the_count_change_no_answer() {
+    let mut kept = BTreeSet::new();
+    cases::all(&mut |case| {
+        let (Call::Structure { arena }
+        | Call::Padding { arena }
+        | Call::Commitment { arena, .. }
+        | Call::RawTable { arena, .. }
+        | Call::PaddedTable { arena, .. }) = case.call
+        else {
+            return;
+        };
+        let Some(clear) = cleared(arena.records) else {
+            return;
+        };
+        // A flag of 2 is a fault wherever it is.
+        if case.number == 15 {
+            return;
+        }
+        let arena = Arena {
+            records: &clear,
+            ..arena
+        };
+        let other = match case.call {
+            Call::Structure { .. } => Call::Structure { arena },
+            Call::Padding { .. } => Call::Padding { arena },
+            Call::Commitment { table, .. } => Call::Commitment { table, arena },
+            Call::RawTable { room, .. } => Call::RawTable { arena, room },
+            Call::PaddedTable { room, .. } => Call::PaddedTable { arena, room },
+            _ => return,
+        };
+        assert!(answer(case.call) == answer(other), "{}", case.name);
+        kept.insert((case.call.function(), case.number));
+    });
+    for want in [
+        (Function::Structure, 0),
+        (Function::Padding, 0),
+        (Function::Padding, 10),
+        (Function::Commitment, 0),
+        (Function::RawTable, 0),
+        (Function::RawTable, 10),
+        (Function::PaddedTable, 0),
+        (Function::PaddedTable, 10),
+    ] {
+        assert!(kept.contains(&want), "{want:?}");
     }
 }
