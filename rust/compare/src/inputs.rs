@@ -243,6 +243,57 @@ pub fn crafted(seed: &mut Seed, table: &[u8], kinds: &Kinds) -> Vec<u8> {
     bytes_of(table, &list, &batches)
 }
 
+/// The bytes of a block, flags as they are in its records.
+pub fn bytes_of_block(table: &[u8], block: &Block) -> Vec<u8> {
+    let list = List {
+        codes: block.codes.clone(),
+        values: block.values.clone(),
+    };
+    let batches: Vec<([u8; 8], u8)> = block
+        .batches()
+        .iter()
+        .map(|batch| {
+            let lengths = core::array::from_fn(|i| batch.starts[i + 1] - batch.starts[i]);
+            let flags = (0..8).fold(0, |byte, i| byte | batch.flags[i] << i);
+            (lengths, flags)
+        })
+        .collect();
+    bytes_of(table, &list, &batches)
+}
+
+/// Sets flags at or above the counts of a good block's batches, one at least: the first there, the
+/// last, all, or any. A batch without groups comes in where no other has such a flag, and else at
+/// times.
+pub fn flag_above(seed: &mut Seed, block: &mut Block) {
+    let mut batches = block.batches();
+    if seed.one_in(4) || batches.iter().all(|batch| batch.count == 8) {
+        batches.insert(seed.under(batches.len() + 1), Batch::default());
+    }
+    let open: Vec<usize> = (0..batches.len())
+        .filter(|&i| batches[i].count < 8)
+        .collect();
+    let sure = seed.of(&open);
+    for i in open {
+        if i != sure && seed.one_in(2) {
+            continue;
+        }
+        let first = usize::from(batches[i].count);
+        let above = &mut batches[i].flags[first..];
+        match seed.under(5) {
+            0 => above[0] = 1,
+            1 => above[7 - first] = 1,
+            2 => above.fill(1),
+            _ => {
+                above[seed.under(8 - first)] = 1;
+                above
+                    .iter_mut()
+                    .for_each(|flag| *flag |= u8::from(seed.one_in(3)));
+            }
+        }
+    }
+    block.set(&batches);
+}
+
 /// Damages bytes in one to three places. What comes after the operations is hit more often.
 pub fn damage(seed: &mut Seed, bytes: &mut Vec<u8>) {
     for _ in 0..1 + seed.under(3) {

@@ -19,7 +19,6 @@ pub enum Fault {
     /// More than one clause or batch fails.
     SeveralOfStructure,
     // Padding.
-    FlagPastCount,
     FlaggedEmptyGroup,
     FlaggedGroupWithoutNoop,
     SeveralOfPadding,
@@ -44,7 +43,6 @@ impl Fault {
             Self::OperationsPastCount => "operations past the count",
             Self::WrongSum => "operations that no start covers, or too few",
             Self::SeveralOfStructure => "several faults of structure",
-            Self::FlagPastCount => "a flag at or above the count",
             Self::FlaggedEmptyGroup => "a flagged empty group",
             Self::FlaggedGroupWithoutNoop => "a flagged group that does not end in Noop",
             Self::SeveralOfPadding => "several faults of padding",
@@ -115,16 +113,13 @@ pub fn seen(batch: &Batch) -> bool {
     })
 }
 
-/// The faults of padding in each batch; structure holds.
+/// The faults of padding in each batch; structure holds. Flags at or above the count are none.
 fn paddings(batch: &Batch, codes: &[u8]) -> Vec<Fault> {
-    let count = usize::from(batch.count);
-    (0..8)
+    (0..usize::from(batch.count))
         .filter(|&group| batch.flags[group] == 1)
         .filter_map(|group| {
             let (from, to) = (batch.starts[group], batch.starts[group + 1]);
-            if group >= count {
-                Some(Fault::FlagPastCount)
-            } else if from == to {
+            if from == to {
                 Some(Fault::FlaggedEmptyGroup)
             } else if codes[usize::from(to) - 1] != 0 {
                 Some(Fault::FlaggedGroupWithoutNoop)
@@ -135,26 +130,19 @@ fn paddings(batch: &Batch, codes: &[u8]) -> Vec<Fault> {
         .collect()
 }
 
-/// The fault of padding of a block whose structure holds, and the first batch with one that the
-/// original sees: it does not look at flags from the count on.
-pub fn of_padding(arena: Arena<'_>) -> (Option<Fault>, Option<usize>) {
+/// The fault of padding of a block whose structure holds.
+pub fn of_padding(arena: Arena<'_>) -> Option<Fault> {
     let mut all = Vec::new();
-    let mut first = None;
     let mut at = 0;
-    for (i, batch) in batches_of(arena.records).iter().enumerate() {
-        let faults = paddings(batch, &arena.codes[at..at + batch.total()]);
-        if first.is_none() && faults.iter().any(|&fault| fault != Fault::FlagPastCount) {
-            first = Some(i);
-        }
-        all.extend(faults);
+    for batch in batches_of(arena.records) {
+        all.extend(paddings(&batch, &arena.codes[at..at + batch.total()]));
         at += batch.total();
     }
-    let fault = match all[..] {
+    match all[..] {
         [] => None,
         [one] => Some(one),
         _ => Some(Fault::SeveralOfPadding),
-    };
-    (fault, first)
+    }
 }
 
 /// Is it known that the original does this where document 01 refuses with this number?
@@ -184,7 +172,6 @@ pub fn known(function: Function, fault: Fault, number: u8, did: Did) -> bool {
             _ => false,
         },
         Function::Decode => match fault {
-            FlagPastCount => number == 10 && (did == Answers || matches!(did, Refuses(7..=11))),
             // It has no limits, and goes on to what comes later.
             OperationsOverLimit | BytesOverLimit => number == 3 && did != Panics,
             BatchesOverLimit => number == 3 && (did == Answers || matches!(did, Refuses(6..=11))),
@@ -202,8 +189,6 @@ pub fn known(function: Function, fault: Fault, number: u8, did: Did) -> bool {
             _ => false,
         },
         Function::Padding => match fault {
-            FlagPastCount => (number, did) == (10, Answers),
-            SeveralOfPadding => number == 10 && matches!(did, Answers | Refuses(10)),
             // It looks at the count and at flagged groups only, and calls what it finds padding.
             CountOver8 => (number, did) == (15, Refuses(10)),
             _ if structural => number == 15 && matches!(did, Answers | Refuses(10)),
@@ -224,7 +209,7 @@ pub fn known(function: Function, fault: Fault, number: u8, did: Did) -> bool {
         Function::RawTable | Function::PaddedTable => match fault {
             CountOver8 => (number, did) == (15, Panics),
             _ if structural => number == 15 && matches!(did, Answers | Panics | NotCalled),
-            FlagPastCount | FlaggedGroupWithoutNoop => (number, did) == (10, Answers),
+            FlaggedGroupWithoutNoop => (number, did) == (10, Answers),
             FlaggedEmptyGroup => (number, did) == (10, Panics),
             SeveralOfPadding => number == 10 && matches!(did, Answers | Panics),
             OperationsOverLimit | BatchesOverLimit => {

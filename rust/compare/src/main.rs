@@ -76,6 +76,7 @@ fn all(run: &mut Run, seed: u64, count: u64, start: Instant) -> Result<(), Stopp
     sections::two_kinds(run, 17, &mut |run| {
         line(run, "all lists over two kinds up to 17")
     })?;
+    sections::flags_above(run, 4, &mut |run| line(run, "flags at or above the count"))?;
     line(run, "small blocks");
     sections::changes(run)?;
     line(run, "limits");
@@ -145,6 +146,22 @@ fn report(tally: &Tally, name: &str) {
             function.name(),
             fault.words()
         );
+    }
+    println!("\nBLOCKS WITH A FLAG AT OR ABOVE THE GROUP COUNT (compared with the original)");
+    println!(
+        "{:<14}{:>14}{:>16}",
+        "function", "compared", "taken by both"
+    );
+    for function in Function::ALL {
+        let at = function as usize;
+        if tally.kept[at] > 0 {
+            println!(
+                "{:<14}{:>14}{:>16}",
+                function.name(),
+                tally.kept[at],
+                tally.kept_taken[at]
+            );
+        }
     }
     println!("\nNOT COMPARED WITH THE ORIGINAL");
     for (why, times) in &tally.not_asked {

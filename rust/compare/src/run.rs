@@ -34,6 +34,10 @@ pub struct Tally {
     pub known: BTreeMap<(Function, Fault, u8, Did), u64>,
     /// Answers that are the same but for a place that the original names otherwise or not at all.
     pub places: u64,
+    /// Blocks with a flag at or above a batch's count, compared with the original, by function.
+    pub kept: [u64; 12],
+    /// Those of them that both sides take, with the same answer.
+    pub kept_taken: [u64; 12],
     /// Calls that the original could not be given.
     pub not_asked: BTreeMap<&'static str, u64>,
 }
@@ -160,6 +164,10 @@ impl Run {
         self.tally.original[function as usize] += 1;
         if !self.port {
             self.count(function, ours.number);
+        }
+        if kept(call) {
+            self.tally.kept[function as usize] += 1;
+            self.tally.kept_taken[function as usize] += u64::from(agree && ours.number == 0);
         }
         if agree {
             return Ok(());
@@ -295,8 +303,6 @@ impl Run {
         };
         self.settle(call, ours, &theirs, agree, || match ours.number {
             3 => decode_limit(table, bytes, at),
-            10 => (flag_explains(table, bytes, at, &theirs) == Some(ours.place))
-                .then_some(Fault::FlagPastCount),
             _ => None,
         })
     }
@@ -336,13 +342,8 @@ impl Run {
             Ok(()) => ours.number == 0,
             Err(refused) => same_refusal(ours, refused),
         };
-        self.settle(call, ours, &theirs, agree, || match ours.number {
-            10 => {
-                let (fault, first_seen) = known::of_padding(arena);
-                let foreseen = first_seen.map(|batch| (10, Some(batch)));
-                fault.filter(|_| named(&theirs) == foreseen)
-            }
-            _ => over_limit(arena).or_else(|| known::of_structure(arena)),
+        self.settle(call, ours, &theirs, agree, || {
+            over_limit(arena).or_else(|| known::of_structure(arena))
         })
     }
 
@@ -395,7 +396,7 @@ impl Run {
             Err(refused) => same_refusal(ours, refused),
         };
         self.settle(call, ours, &theirs, agree, || match ours.number {
-            10 => known::of_padding(arena).0,
+            10 => known::of_padding(arena),
             _ => over_limit(arena).or_else(|| known::of_structure(arena)),
         })
     }
@@ -640,54 +641,44 @@ fn lengths(table: &[u8], bytes: &[u8], codes: &[u8]) -> Option<([usize; 8], usiz
     Some((lengths, count))
 }
 
-/// If the original's answer is what the model says of the same bytes without the flags at or above
-/// the counts: the first batch that has one.
-fn flag_explains(
-    table: &[u8],
-    bytes: &[u8],
-    at: usize,
-    theirs: &Result<(Vec<original::Batch>, usize), Refused>,
-) -> Option<usize> {
-    let layout = layout(table, bytes, at)?;
-    let mut repaired = bytes.to_vec();
-    let mut first = None;
+/// Has a batch of these bytes a flag at or above its count? As far as the batches can be told.
+fn kept_in_bytes(table: &[u8], bytes: &[u8], at: usize) -> bool {
+    let Some(layout) = layout(table, bytes, at) else {
+        return false;
+    };
     let mut from = 0;
     for batch in 0..layout.batches {
         let nibbles = &bytes[layout.nibbles + 4 * batch..][..4];
         let Some((lengths, count)) = lengths(table, nibbles, &layout.codes[from..]) else {
-            break;
+            return false;
         };
-        let flags = &mut repaired[layout.flags + batch];
-        let kept = if count < 8 {
-            *flags & ((1 << count) - 1)
-        } else {
-            *flags
-        };
-        if kept != *flags {
-            first = first.or(Some(batch));
-            *flags = kept;
+        if count < 8 && bytes[layout.flags + batch] >> count != 0 {
+            return true;
         }
         from += lengths.iter().sum::<usize>();
     }
-    let room = model::Room {
-        codes: layout.codes.len(),
-        values: layout.codes.len(),
-        records: layout.batches * RECORD,
-    };
-    let without = model::decode(table, &repaired, at, room);
-    let explained = match theirs {
-        Err(refused) => same_refusal(&without, refused),
-        Ok((batches, used)) => {
-            let mut batches = batches.clone();
-            for batch in &mut batches {
-                for group in batch.count..8 {
-                    batch.flags[group] = false;
-                }
-            }
-            without.rest[2] == *used && same_block(&without, &theirs::flat(&batches))
-        }
-    };
-    first.filter(|_| explained)
+    false
+}
+
+/// Has a call a block with a flag at or above a batch's count?
+fn kept(call: Call<'_>) -> bool {
+    match call {
+        Call::Decode {
+            table, bytes, at, ..
+        } => kept_in_bytes(table, bytes, at),
+        Call::Encode { arena, .. }
+        | Call::Structure { arena }
+        | Call::Padding { arena }
+        | Call::Commitment { arena, .. }
+        | Call::RawTable { arena, .. }
+        | Call::PaddedTable { arena, .. } => arena.records.chunks_exact(RECORD).any(|record| {
+            record[9..17]
+                .iter()
+                .skip(record[81].into())
+                .any(|&flag| flag == 1)
+        }),
+        _ => false,
+    }
 }
 
 /// A run of numbers in hex, cut where it is long.

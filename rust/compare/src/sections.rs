@@ -166,6 +166,56 @@ pub fn two_kinds(run: &mut Run, most: usize, tick: &mut dyn FnMut(&Run)) -> Done
     })
 }
 
+/// All lists over the four kinds up to a length, and a batch without groups, with every set of flags
+/// at or above the count of the only batch.
+pub fn flags_above(run: &mut Run, most: usize, tick: &mut dyn FnMut(&Run)) -> Done {
+    let table = run.table;
+    let kinds = Kinds::of(&table);
+    let letters = [0, kinds.plain[0], kinds.immediate[0], kinds.carried[0]];
+    sequences(4, most, |word| {
+        let mut list = List::default();
+        for &letter in word {
+            list.push(letters[letter], if letter > 1 { 5 } else { 0 });
+        }
+        let good = if word.is_empty() {
+            Block {
+                records: model::Batch::default().record(),
+                ..Block::default()
+            }
+        } else {
+            Block::of(&model::build(
+                &table,
+                &list.codes,
+                &list.values,
+                list.room(),
+            ))
+        };
+        let count = usize::from(good.records[81]);
+        for set in 1..1u32 << (8 - count) {
+            let mut flagged = good.clone();
+            for group in count..8 {
+                flagged.records[9 + group] = (set >> (group - count) & 1) as u8;
+            }
+            tick(run);
+            kept_flags(run, &table, &flagged, Depth::All)?;
+        }
+        Ok(())
+    })
+}
+
+/// A good block with flags at or above its counts: read from bytes that no encoder wrote, and
+/// everything about it.
+fn kept_flags(run: &mut Run, table: &[u8], flagged: &Block, depth: Depth) -> Done {
+    let bytes = inputs::bytes_of_block(table, flagged);
+    run.check(Call::Decode {
+        table,
+        bytes: &bytes,
+        at: 0,
+        room: room_of(flagged),
+    })?;
+    block(run, table, flagged, depth)
+}
+
 /// The cases of the model's own tests: every refusal and every pair.
 pub fn cases(run: &mut Run) -> Done {
     let mut done = Ok(());
@@ -354,7 +404,7 @@ pub fn turn(run: &mut Run, seed: &mut Seed) -> Done {
         own.to_vec()
     };
     let kinds = Kinds::of(&table);
-    match seed.under(16) {
+    match seed.under(18) {
         0..=2 => {
             let size = inputs::size(seed);
             let list = inputs::list(seed, &kinds, size);
@@ -374,6 +424,7 @@ pub fn turn(run: &mut Run, seed: &mut Seed) -> Done {
         }
         13 => offsets(run, seed, &table, &kinds),
         14 => bad_lists(run, seed, &table, &kinds),
+        15 | 16 => flagged(run, seed, &table, &kinds),
         _ if run.port => lent(run, seed, &table, &kinds),
         _ => damaged_block(run, seed, &table, &kinds),
     }
@@ -463,18 +514,22 @@ fn crafted(run: &mut Run, seed: &mut Seed, table: &[u8], kinds: &Kinds) -> Done 
     Ok(())
 }
 
-/// Blocks with damaged records or operations.
-fn damaged_block(run: &mut Run, seed: &mut Seed, table: &[u8], kinds: &Kinds) -> Done {
+/// A good block, whoever wrote it; none if what was made is none.
+fn good_block(seed: &mut Seed, table: &[u8], kinds: &Kinds) -> Option<Block> {
     let bytes = if seed.one_in(2) {
         inputs::crafted(seed, table, kinds)
     } else {
         good_bytes(seed, table, kinds)
     };
     let read = model::decode(table, &bytes, 0, room_for(&bytes, 0));
-    if read.number != 0 {
+    (read.number == 0).then(|| Block::of(&read))
+}
+
+/// Blocks with damaged records or operations.
+fn damaged_block(run: &mut Run, seed: &mut Seed, table: &[u8], kinds: &Kinds) -> Done {
+    let Some(good) = good_block(seed, table, kinds) else {
         return Ok(());
-    }
-    let good = Block::of(&read);
+    };
     for _ in 0..12 {
         let mut bad = good.clone();
         inputs::damage_block(seed, &mut bad, kinds);
@@ -487,6 +542,28 @@ fn damaged_block(run: &mut Run, seed: &mut Seed, table: &[u8], kinds: &Kinds) ->
         let mut bad = good;
         bad.values.push(0);
         block(run, table, &bad, Depth::Some)?;
+    }
+    Ok(())
+}
+
+/// Blocks with flags at or above the counts: as they are, and damaged besides, in bytes and in
+/// memory.
+fn flagged(run: &mut Run, seed: &mut Seed, table: &[u8], kinds: &Kinds) -> Done {
+    let Some(good) = good_block(seed, table, kinds) else {
+        return Ok(());
+    };
+    for _ in 0..12 {
+        let mut flagged = good.clone();
+        inputs::flag_above(seed, &mut flagged);
+        kept_flags(run, table, &flagged, Depth::Some)?;
+        let bytes = inputs::bytes_of_block(table, &flagged);
+        for _ in 0..4 {
+            let mut bytes = bytes.clone();
+            inputs::damage(seed, &mut bytes);
+            decode(run, table, &bytes, 0)?;
+        }
+        inputs::damage_block(seed, &mut flagged, kinds);
+        block(run, table, &flagged, Depth::Some)?;
     }
     Ok(())
 }

@@ -1,25 +1,81 @@
 //! The comparison finds what is wrong: each of these answers like the model but for one thing.
 
-use compare::{Run, Seed, Stopped, sections};
-use model::{Answer, Call, RECORD};
+use compare::{Run, Seed, Stopped, run::Tally, sections};
+use model::{Answer, Arena, Call, Function, RECORD};
 
 type Who = fn(Call<'_>) -> Answer;
 
 /// A small comparison with the original.
-fn tried(who: Who) -> Result<u64, Stopped> {
+fn tried(who: Who) -> Result<Tally, Stopped> {
     let mut run = Run::new(who, false);
     sections::four_kinds(&mut run, 4, &mut |_| ())?;
     let mut seed = Seed::new(3);
     for _ in 0..400 {
         sections::turn(&mut run, &mut seed)?;
     }
-    Ok(run.tally.total())
+    Ok(run.tally)
 }
 
 #[test]
 fn the_model_is_not_stopped() {
-    let total = tried(model::answer).unwrap_or_else(|Stopped(words)| panic!("{words}"));
+    let tally = tried(model::answer).unwrap_or_else(|Stopped(words)| panic!("{words}"));
+    let total = tally.total();
     assert!(total > 100_000, "{total}");
+    // Among what was compared are blocks with flags at or above the count, those that are taken and
+    // those that have another fault.
+    for function in [
+        Function::Encode,
+        Function::Decode,
+        Function::Structure,
+        Function::Padding,
+        Function::Commitment,
+        Function::RawTable,
+        Function::PaddedTable,
+    ] {
+        let all = tally.kept[function as usize];
+        let taken = tally.kept_taken[function as usize];
+        assert!(taken > 500, "{function:?}: {taken}");
+        assert!(all > taken + 50, "{function:?}: {all}, {taken} taken");
+    }
+}
+
+/// The flags at or above the count of a record.
+fn above(record: &mut [u8]) -> &mut [u8] {
+    let count = usize::from(record[81]).min(8);
+    &mut record[9 + count..17]
+}
+
+/// The first of these records that has a flag at or above its count.
+fn first_kept(records: &[u8]) -> Option<usize> {
+    records
+        .to_vec()
+        .chunks_exact_mut(RECORD)
+        .position(|record| above(record).contains(&1))
+}
+
+/// The records without such flags.
+fn cleared(records: &[u8]) -> Vec<u8> {
+    let mut clear = records.to_vec();
+    for record in clear.chunks_exact_mut(RECORD) {
+        above(record).fill(0);
+    }
+    clear
+}
+
+/// Refuses an answer with 10 if these records have such a flag.
+fn refused(answer: Answer, records: &[u8]) -> Answer {
+    match first_kept(records) {
+        Some(place) if answer.number == 0 => Answer {
+            number: 10,
+            place,
+            codes: vec![0; answer.codes.len()],
+            values: vec![0; answer.values.len()],
+            records: vec![0; answer.records.len()],
+            entries: vec![0; answer.entries.len()],
+            ..Answer::default()
+        },
+        _ => answer,
+    }
 }
 
 /// Answers like the model, then changes something.
@@ -37,7 +93,7 @@ macro_rules! liar {
 
 #[test]
 fn each_of_these_is_stopped() {
-    let liars: [(&str, Who); 19] = [
+    let liars: [(&str, Who); 25] = [
         (
             "build forgets a flag",
             liar!(call, answer, {
@@ -165,6 +221,70 @@ fn each_of_these_is_stopped() {
             liar!(call, answer, {
                 if matches!(call, Call::Decode { .. }) && answer.number == 10 {
                     answer.place += 1;
+                }
+            }),
+        ),
+        (
+            "decode refuses a flag at or above the count",
+            liar!(call, answer, {
+                if matches!(call, Call::Decode { .. }) {
+                    let records = answer.records.clone();
+                    answer = refused(answer, &records);
+                }
+            }),
+        ),
+        (
+            "decode clears a flag at or above the count",
+            liar!(call, answer, {
+                if matches!(call, Call::Decode { .. }) {
+                    answer.records = cleared(&answer.records);
+                }
+            }),
+        ),
+        (
+            "encode clears a flag at or above the count",
+            liar!(call, answer, {
+                if let Call::Encode {
+                    table,
+                    arena,
+                    buffer,
+                    at,
+                } = call
+                    && answer.number == 0
+                {
+                    let records = cleared(arena.records);
+                    let arena = Arena {
+                        records: &records,
+                        ..arena
+                    };
+                    answer = model::encode(table, arena, buffer, at);
+                }
+            }),
+        ),
+        (
+            "padding refuses a flag at or above the count",
+            liar!(call, answer, {
+                if let Call::Padding { arena } = call {
+                    answer = refused(answer, arena.records);
+                }
+            }),
+        ),
+        (
+            "the raw table refuses a flag at or above the count",
+            liar!(call, answer, {
+                if let Call::RawTable { arena, .. } = call {
+                    answer = refused(answer, arena.records);
+                }
+            }),
+        ),
+        (
+            "the padded table counts a flag at or above the count",
+            liar!(call, answer, {
+                if let Call::PaddedTable { arena, .. } = call
+                    && answer.number == 0
+                    && first_kept(arena.records).is_some()
+                {
+                    answer.entries[answer.rest[0] - 1] += 1;
                 }
             }),
         ),
