@@ -66,21 +66,6 @@ fn a_group_past_the_count_may_hold_ten() {
 // PADDING
 // ================================================================================================
 
-/// 10 in document 01.
-#[test]
-fn flags_past_the_count_are_taken() {
-    let mut batch = Batch::default();
-    batch.flags[0] = true;
-    assert_eq!(padding(&[batch]), Ok(()));
-    let bytes = [1, 1, 0, 0, 0, 0, 0, 0, 0, 1];
-    let (batches, used) = decode(&bytes, 0).unwrap();
-    assert_eq!((batches[0].count, batches[0].flags[0], used), (0, true, 10));
-    // And its tables, which 01 refuses with 10.
-    assert_eq!(raw_table(&batches).unwrap(), [0]);
-    assert_eq!(padded_table(&batches).unwrap(), [0]);
-    assert_eq!(encode(&batches).unwrap(), bytes);
-}
-
 /// The check alone does not look at structure (15 in document 01), beyond the count and the
 /// bounds of flagged groups, which it then calls a fault of padding.
 #[test]

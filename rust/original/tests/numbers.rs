@@ -212,6 +212,46 @@ fn every_refusal_of_the_decoder() {
     assert_eq!(number(&[3, PLAIN, 0, 0, 0, 0]), 11);
 }
 
+/// A flag at or above the count is kept as it is read, written back, and no padding.
+#[test]
+fn flags_above_the_count() {
+    let bare = |flags| vec![1, 1, 0, 0, 0, 0, 0, 0, 0, flags];
+    let plain = |flags| vec![3, PLAIN, 1, 0, 0, 0, 1, 0, 0, 0, flags];
+    let push = |flags| {
+        vec![
+            5, PUSH, 5, 0, 0, 0, 0, 0, 0, 0, 0, 1, 0, 0, 0, 2, 0, 0, 0, flags,
+        ]
+    };
+    for (bytes, count, set, raw, padded) in [
+        (bare(1), 0, &[0][..], &[0][..], &[0][..]),
+        (bare(0xff), 0, &[0, 1, 2, 3, 4, 5, 6, 7], &[0], &[0]),
+        (plain(2), 1, &[1], &[0, 0], &[0, 0]),
+        (plain(0x80), 1, &[7], &[0, 0], &[0, 0]),
+        (push(5), 2, &[0, 2], &[0, 1], &[0, 0, 1]),
+        (push(0xfd), 2, &[0, 2, 3, 4, 5, 6, 7], &[0, 1], &[0, 0, 1]),
+    ] {
+        let (batches, used) = decode(&bytes, 0).unwrap();
+        assert_eq!((batches[0].count, used), (count, bytes.len()));
+        assert_eq!(batches[0].flags, flags(set));
+        structure(&batches).unwrap();
+        padding(&batches).unwrap();
+        commitment(&batches).unwrap();
+        assert_eq!(raw_table(&batches).unwrap(), raw);
+        assert_eq!(padded_table(&batches).unwrap(), padded);
+        assert_eq!(encode(&batches).unwrap(), bytes);
+    }
+    // What comes later is looked for; flags under the count too.
+    let refused = |bytes: &[u8]| {
+        let refused = decode(bytes, 0).unwrap_err();
+        (refused.number, refused.place)
+    };
+    assert_eq!(refused(&[3, PLAIN, 1, 0, 0, 0, 0, 0, 0, 0, 1]).0, 11);
+    assert_eq!(refused(&plain(3)), (10, Some(0)));
+    assert_eq!(refused(&push(0xff)), (10, Some(0)));
+    let two = [5, PLAIN, PLAIN, 2, 0, 0, 0, 1, 0, 0, 0, 1, 0, 0, 0, 2, 1];
+    assert_eq!(refused(&two), (10, Some(1)));
+}
+
 #[test]
 fn a_value_that_is_only_carried() {
     let batches = batch(&[(CARRIED, 5)]).unwrap();
