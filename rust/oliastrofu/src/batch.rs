@@ -41,7 +41,9 @@ pub const VM_TABLE: [u8; 128] = [
 pub struct Batch {
     /// Group i is the operations from start i up to start i+1, counted within the batch.
     pub starts: [u8; 9],
-    /// 1 where a group's last operation is padding.
+    /// As they were read: 1 where the last operation of a group under the count is padding
+    /// ([`paddings`](Self::paddings)). Those at and above the count are kept unread, written back
+    /// as they are, and no padding ([`kept`](Self::kept)); a batch that was built has none.
     pub flags: [u8; 8],
     /// The opcodes of a group as one number, or the value of an immediate.
     pub numbers: [u64; 8],
@@ -77,6 +79,45 @@ impl Batch {
     pub fn operations(&self) -> usize {
         let [.., last] = self.starts;
         usize::from(last)
+    }
+
+    /// The groups under the count whose flag is set: each ends in a padding Noop, if the padding
+    /// check passes.
+    ///
+    /// ```
+    /// use oliastrofu::VM_TABLE;
+    /// let block = oliastrofu::build(&VM_TABLE, &[91], &[5])?;
+    /// assert_eq!(block.codes, [91, 0]);
+    /// let batch = block.batches().next().unwrap();
+    /// assert!(batch.paddings().eq([0]));
+    /// # Ok::<(), oliastrofu::Refusal>(())
+    /// ```
+    pub fn paddings(&self) -> impl Iterator<Item = usize> + use<> {
+        let count = usize::from(self.count);
+        self.flagged().take_while(move |&group| group < count)
+    }
+
+    /// The groups at or above the count whose flag is set: kept as read, written back, no padding.
+    ///
+    /// ```
+    /// use oliastrofu::VM_TABLE;
+    /// // One operation, in group 0; flags 1 and 7 are set.
+    /// let bytes = [3, 2, 1, 0, 0, 0, 1, 0, 0, 0, 0b1000_0010];
+    /// let (block, _) = oliastrofu::decode(&VM_TABLE, &bytes, 0)?;
+    /// let batch = block.batches().next().unwrap();
+    /// assert!(batch.kept().eq([1, 7]));
+    /// assert_eq!(batch.paddings().next(), None);
+    /// assert_eq!(oliastrofu::encode(&VM_TABLE, &block)?, bytes);
+    /// # Ok::<(), oliastrofu::Refusal>(())
+    /// ```
+    pub fn kept(&self) -> impl Iterator<Item = usize> + use<> {
+        let count = usize::from(self.count);
+        self.flagged().skip_while(move |&group| group < count)
+    }
+
+    fn flagged(&self) -> impl Iterator<Item = usize> + use<> {
+        let flags = self.flags.into_iter().enumerate();
+        flags.filter(|&(_, flag)| flag != 0).map(|(group, _)| group)
     }
 }
 

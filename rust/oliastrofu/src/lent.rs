@@ -168,11 +168,16 @@ pub fn structure(block: Arena<'_>) -> Result<(), Refusal> {
 /// The padding check (and before it the structure check).
 ///
 /// ```
-/// use oliastrofu::{Arena, Cause, lent};
-/// let mut records = [0; 82];
-/// records[9] = 1;
-/// let block = Arena { codes: &[], values: &[], records: &records };
-/// assert_eq!(lent::padding(block).unwrap_err().cause, Cause::Padding);
+/// use oliastrofu::{Arena, Batch, Cause, lent};
+/// let mut batch = Batch::default();
+/// batch.flags[0] = 1;
+/// let padding = |batch: Batch| {
+///     lent::padding(Arena { codes: &[], values: &[], records: &batch.record() })
+/// };
+/// // At or above the count a flag is not looked at.
+/// assert_eq!(padding(batch), Ok(()));
+/// batch.count = 1;
+/// assert_eq!(padding(batch).unwrap_err().cause, Cause::Padding);
 /// ```
 pub fn padding(block: Arena<'_>) -> Result<(), Refusal> {
     checked(boundary::padding(block.codes, block.values, block.records))

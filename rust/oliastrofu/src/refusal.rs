@@ -29,7 +29,7 @@ pub enum Cause {
     SlotPastEnd,
     /// 9: an immediate's slot is a group of operations.
     SlotTaken,
-    /// 10: the padding check fails.
+    /// 10: the padding check fails: a flagged group under the count is empty or does not end in Noop.
     Padding,
     /// 11: operations are left over.
     LeftOver,

@@ -111,6 +111,57 @@ fn there_and_back() -> Result<(), Refusal> {
     Ok(())
 }
 
+/// Flags at or above the count are kept as they were read and written back, and are no padding: the
+/// tables are those without them.
+#[test]
+fn flags_above_the_count() -> Result<(), Refusal> {
+    let mut seed = Seed(0x0123_4567_89ab_cdef);
+    for size in 0..150 {
+        let codes: Vec<u8> = (0..size).map(|_| [91, 1, 0][seed.under(3)]).collect();
+        // A batch without groups, then those that are built.
+        let mut block = Block::new(vec![], vec![], &[Batch::default()]);
+        if size > 0 {
+            let built = build(&VM_TABLE, &codes, &vec![0; size])?;
+            assert!(built.batches().all(|batch| batch.kept().count() == 0));
+            block.records.extend(built.records);
+            (block.codes, block.values) = (built.codes, built.values);
+        }
+        let mut bytes = encode(&VM_TABLE, &block)?;
+        let from = bytes.len() - block.batches().len();
+        for (byte, batch) in bytes[from..].iter_mut().zip(block.batches()) {
+            for group in usize::from(batch.count)..8 {
+                *byte |= (seed.under(2) as u8) << group;
+            }
+        }
+        // Flag 0, at the count of the batch without groups.
+        bytes[from] |= 1;
+
+        let (read, used) = decode(&VM_TABLE, &bytes, 0)?;
+        assert_eq!(used, bytes.len());
+        assert_ne!(read, block);
+        assert_eq!(encode(&VM_TABLE, &read)?, bytes);
+        structure(&read)?;
+        padding(&read)?;
+        commitment(&VM_TABLE, &read)?;
+        assert_eq!(raw_table(&read)?, raw_table(&block)?);
+        assert_eq!(padded_table(&read)?, padded_table(&block)?);
+        let mut paddings = 0;
+        for ((batch, clear), byte) in read.batches().zip(block.batches()).zip(&bytes[from..]) {
+            let set = (0..8).filter(|group| byte >> group & 1 == 1);
+            assert!(batch.paddings().chain(batch.kept()).eq(set));
+            assert!(batch.paddings().eq(clear.paddings()));
+            assert!(batch.kept().all(|group| group >= usize::from(batch.count)));
+            paddings += batch.paddings().count();
+        }
+        assert_eq!(read.codes.len(), size + paddings);
+    }
+    // A flagged empty group under the count.
+    let bytes = [3, 1, 1, 0, 0, 0, 0x10, 0, 0, 0, 0b1111_1101];
+    let refusal = decode(&VM_TABLE, &bytes, 0).unwrap_err();
+    assert_eq!((refusal.cause, refusal.place), (Cause::Padding, 0));
+    Ok(())
+}
+
 /// 13 is for lent outputs: the forms with room of their own never give it.
 #[test]
 fn no_want_of_room() {
