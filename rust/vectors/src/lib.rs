@@ -234,8 +234,8 @@ fn longest(call: Call<'_>) -> usize {
     }
 }
 
-/// model.txt and limits.txt: every refusal of every function; of the pairs of faults, one for
-/// every two numbers of a function.
+/// model.txt and limits.txt: every refusal of every function, and all that is taken; of the pairs of
+/// faults, one for every two numbers of a function.
 pub fn of_model() -> (String, String) {
     let mut small = File::default();
     let mut large = File::default();
@@ -423,12 +423,25 @@ impl Original {
     }
 
     fn block(&mut self, block: &Block) {
+        if let Some((raw, padded)) = self.runs(block) {
+            self.indices(block.arena(), &raw, &padded);
+        }
+        for record in block.records.chunks_exact(RECORD).take(2) {
+            let total = usize::from(record[8]);
+            for index in [0, total / 2, total.saturating_sub(1), total] {
+                self.put(Call::Group { record, index });
+            }
+            for group in [0, 2, 6] {
+                self.put(Call::NextGroup { record, group });
+            }
+        }
+    }
+
+    /// A block's bytes there and back, its checks and its two tables.
+    fn runs(&mut self, block: &Block) -> Option<(Answer, Answer)> {
         let table = self.table.clone();
         let arena = block.arena();
-        let length = match theirs::batches(arena).map(|batches| original::length(&batches)) {
-            Some(Ok(length)) => length,
-            _ => return,
-        };
+        let length = original::length(&theirs::batches(arena)?).ok()?;
         if let Some(written) = self.put(Call::Encode {
             table: &table,
             arena,
@@ -450,18 +463,22 @@ impl Original {
         let room = block.codes.len() + 1;
         let raw = self.put(Call::RawTable { arena, room });
         let padded = self.put(Call::PaddedTable { arena, room });
-        if let (Some(raw), Some(padded)) = (raw, padded) {
-            self.indices(arena, &raw, &padded);
+        raw.zip(padded)
+    }
+
+    /// A block whose batch has these flags at or above its count.
+    fn kept(&mut self, list: &List, flags: &[usize]) {
+        let built = model::build(&self.table, &list.codes, &list.values, list.room());
+        let mut block = Block::of(&built);
+        if list.codes.is_empty() {
+            // A batch without groups.
+            block.records = model::Batch::default().record();
         }
-        for record in block.records.chunks_exact(RECORD).take(2) {
-            let total = usize::from(record[8]);
-            for index in [0, total / 2, total.saturating_sub(1), total] {
-                self.put(Call::Group { record, index });
-            }
-            for group in [0, 2, 6] {
-                self.put(Call::NextGroup { record, group });
-            }
+        for &group in flags {
+            assert!(group >= usize::from(block.records[81]));
+            block.records[9 + group] = 1;
         }
+        self.runs(&block);
     }
 
     fn checks(&mut self, arena: Arena<'_>) {
@@ -574,6 +591,25 @@ impl Original {
                 }
             }
         }
+        // A flag at or above the count, and what comes later: operations left over, a batch that
+        // runs past the operations, a flagged group that does not end in Noop.
+        for (bytes, number) in [
+            (&[3, 2, 1, 0, 0, 0, 0, 0, 0, 0, 1][..], 11),
+            (&[3, 2, 2, 0, 0, 0, 1, 0, 0, 0, 1, 0, 0, 0, 2, 0], 7),
+            (&[5, 2, 2, 2, 0, 0, 0, 1, 0, 0, 0, 1, 0, 0, 0, 0xfe, 1], 10),
+        ] {
+            let refused = self.put(Call::Decode {
+                table: &table,
+                bytes,
+                at: 0,
+                room: Room {
+                    codes: 2,
+                    values: 2,
+                    records: 2 * RECORD,
+                },
+            });
+            assert_eq!(refused.map(|answer| answer.number), Some(number));
+        }
         // Past the end, by one and by more.
         for at in [6, 7, 4_294_967_295] {
             self.put(Call::Decode {
@@ -641,6 +677,17 @@ pub fn of_original() -> String {
         &[(200, 1)],
     ] {
         all.list(&of(parts));
+    }
+    for (parts, flags) in [
+        (&[][..], &[0][..]),
+        (&[], &[0, 1, 2, 3, 4, 5, 6, 7]),
+        (&[(plain, 2)], &[1]),
+        (&[(push, 1)], &[2]),
+        (&[(push, 1)], &[2, 3, 4, 5, 6, 7]),
+        (&[(plain, 9), (push, 1)], &[7]),
+        (&[(push, 2)], &[4, 6]),
+    ] {
+        all.kept(&of(parts), flags);
     }
     let mut seed = Seed::new(2024);
     for size in [3, 5, 8, 12, 17, 25, 40, 80] {

@@ -3,7 +3,7 @@
 
 use std::{collections::BTreeMap, fs};
 
-use model::{Answer, Arena, Call, Function, Room, answer};
+use model::{Answer, Arena, Call, Function, RECORD, Room, answer};
 use vectors::{agree, rest};
 
 /// The numbers of a line.
@@ -77,10 +77,22 @@ impl Numbers {
     }
 }
 
-/// Replays a file on the model; how many cases each function and number has.
-fn replay(text: &str) -> BTreeMap<(Function, u8), u32> {
+/// Have these records a flag at or above a count?
+fn has_kept(records: &[u8]) -> bool {
+    records.chunks_exact(RECORD).any(|record| {
+        let count = usize::from(record[81]);
+        record[9..17].iter().skip(count).any(|&flag| flag == 1)
+    })
+}
+
+/// How many cases each function and number has.
+type Seen = BTreeMap<(Function, u8), u32>;
+
+/// Replays a file on the model: all cases, and those of blocks with a flag at or above a count.
+fn replay(text: &str) -> (Seen, Seen) {
     let mut table = Vec::new();
     let mut seen = BTreeMap::new();
+    let mut kept = BTreeMap::new();
     for line in text.lines() {
         let mut numbers = Numbers::of(line);
         let what = numbers.size();
@@ -89,6 +101,7 @@ fn replay(text: &str) -> BTreeMap<(Function, u8), u32> {
             continue;
         }
         let function = Function::ALL[what - 1];
+        let mut lent_kept = false;
         let (ours, theirs) = match function {
             Function::Build => {
                 let (codes, values) = (numbers.bytes(), numbers.run());
@@ -147,6 +160,7 @@ fn replay(text: &str) -> BTreeMap<(Function, u8), u32> {
             }
             _ => {
                 let (codes, values, records) = (numbers.bytes(), numbers.run(), numbers.bytes());
+                lent_kept = has_kept(&records);
                 let arena = Arena {
                     codes: &codes,
                     values: &values,
@@ -185,8 +199,27 @@ fn replay(text: &str) -> BTreeMap<(Function, u8), u32> {
         };
         assert!(agree(&ours, &theirs), "{line}\n{ours:?}\n{theirs:?}");
         *seen.entry((function, theirs.number)).or_default() += 1;
+        if lent_kept || has_kept(&theirs.records) {
+            *kept.entry((function, theirs.number)).or_default() += 1;
+        }
     }
-    seen
+    (seen, kept)
+}
+
+/// Each function on a block takes some with a flag at or above a count.
+fn each_takes_kept(kept: &Seen, least: u32) {
+    for function in [
+        Function::Encode,
+        Function::Decode,
+        Function::Structure,
+        Function::Padding,
+        Function::Commitment,
+        Function::RawTable,
+        Function::PaddedTable,
+    ] {
+        let taken = kept.get(&(function, 0)).copied().unwrap_or(0);
+        assert!(taken >= least, "{function:?}: {taken}");
+    }
 }
 
 fn files() -> [(&'static str, String); 3] {
@@ -211,7 +244,8 @@ fn each_file_is_small_and_kept_as_written() {
 #[test]
 fn each_file_can_be_replayed() {
     let [(_, original), (_, model), (_, limits)] = files();
-    let seen = replay(&original);
+    let (seen, kept) = replay(&original);
+    each_takes_kept(&kept, 7);
     let want: [(Function, &[u8]); 8] = [
         (Function::Build, &[0, 4, 12]),
         (Function::Encode, &[0]),
@@ -231,8 +265,9 @@ fn each_file_can_be_replayed() {
         }
     }
 
-    let mut seen = replay(&model);
-    for (key, times) in replay(&limits) {
+    let (mut seen, kept) = replay(&model);
+    each_takes_kept(&kept, 5);
+    for (key, times) in replay(&limits).0 {
         *seen.entry(key).or_default() += times;
     }
     let want: [(Function, &[u8]); 12] = [
