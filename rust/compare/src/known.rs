@@ -147,8 +147,7 @@ pub fn of_padding(arena: Arena<'_>) -> Option<Fault> {
 
 /// Is it known that the original does this where document 01 refuses with this number?
 ///
-/// The rows are those of docs/DIFFERENCES.md, and those that README.md beside this crate proposes
-/// for it.
+/// The rows are those of docs/DIFFERENCES.md.
 pub fn known(function: Function, fault: Fault, number: u8, did: Did) -> bool {
     use Did::{Answers, NotCalled, Panics, Refuses};
     use Fault::*;

@@ -99,9 +99,7 @@ impl Cause {
         match self {
             Self::PastEnd => "the place to begin at is past the end of the bytes",
             Self::BytesEnd => "the bytes end inside the count, an operation or the batch count",
-            Self::Limit => {
-                "a count has a wrong form or is over a limit, or lengths do not match"
-            }
+            Self::Limit => "a count has a wrong form or is over a limit, or lengths do not match",
             Self::Operation => {
                 "an operation is not admissible: its opcode is unassigned or its value out of range"
             }
