@@ -115,57 +115,49 @@ module _ (r q : Record) (e : SameButKept r q) where
 
 -- ---- record by record
 
-module _ (f : Record → ℕ) (one : (r q : Record) → SameButKept r q → f r ≡ f q) where
-  each-same : (rs qs : List Record) → AllButKept rs qs → map f rs ≡ map f qs
-  each-same [] [] e = refl
-  each-same [] (q ∷ qs) e = elim e [ ]
-  each-same (r ∷ rs) [] e = elim e [ ]
-  each-same (r ∷ rs) (q ∷ qs) e = ap₂ (λ (n : ℕ) (ns : List ℕ). n ∷ ns) (one r q (e .0)) (each-same rs qs (e .1))
+pairs : (P : List Record → List Record → Type 0) → P [] [] → ((r q : Record) (rs qs : List Record) → SameButKept r q → P rs qs → P (r ∷ rs) (q ∷ qs))
+    → (rs qs : List Record) → AllButKept rs qs → P rs qs
+pairs P none more [] [] e = none
+pairs P none more [] (q ∷ qs) e = elim e [ ]
+pairs P none more (r ∷ rs) [] e = elim e [ ]
+pairs P none more (r ∷ rs) (q ∷ qs) e = more r q rs qs (e .0) (pairs P none more rs qs (e .1))
 
-module _ (f : Held → ℕ) (one : (r q : Record) → SameButKept r q → (xs : List Op) (at : ℕ) → f (here r xs at) ≡ f (here q xs at)) where
-  held-same : (rs qs : List Record) (xs : List Op) (at : ℕ) → AllButKept rs qs → map f (heldFrom rs xs at) ≡ map f (heldFrom qs xs at)
-  unfolding heldFrom
-  held-same [] [] xs at e = refl
-  held-same [] (q ∷ qs) xs at e = elim e [ ]
-  held-same (r ∷ rs) [] xs at e = elim e [ ]
-  held-same (r ∷ rs) (q ∷ qs) xs at e =
-      ap₂ (λ (n : ℕ) (ns : List ℕ). n ∷ ns) (one r q (e .0) xs at)
-      (held-same rs qs xs (at + ninth r) (e .1) ∙ ap (λ (k : ℕ). map f (heldFrom qs xs (at + k))) (ninth-same r q (e .0)))
+each-same : (f : Record → ℕ) → ((r q : Record) → SameButKept r q → f r ≡ f q) → (rs qs : List Record) → AllButKept rs qs → map f rs ≡ map f qs
+each-same f one = pairs (λ rs qs. map f rs ≡ map f qs) refl (λ r q rs qs e ih. ap₂ (λ (n : ℕ) (ns : List ℕ). n ∷ ns) (one r q e) ih)
 
 many-same : (rs qs : List Record) → AllButKept rs qs → length rs ≡ length qs
-many-same [] [] e = refl
-many-same [] (q ∷ qs) e = elim e [ ]
-many-same (r ∷ rs) [] e = elim e [ ]
-many-same (r ∷ rs) (q ∷ qs) e = ap suc (many-same rs qs (e .1))
-
-all-marks-same : (w : ℕ) → w ≤ 8 → (rs qs : List Record) → AllButKept rs qs → All NineAndEight rs → All (λ r. recordRight w r ≡ true) rs → marks rs ≡ marks qs
-unfolding marks
-all-marks-same w w8 [] [] e z h = refl
-all-marks-same w w8 [] (q ∷ qs) e z h = elim e [ ]
-all-marks-same w w8 (r ∷ rs) [] e z h = elim e [ ]
-all-marks-same w w8 (r ∷ rs) (q ∷ qs) e z h =
-    ap₂ (λ (x y : List Bool). x ++ y) (marks-same r q (e .0) w w8 (z .0) (h .0)) (all-marks-same w w8 rs qs (e .1) (z .1) (h .1))
-
-sized-same : (rs qs : List Record) → AllButKept rs qs → All Sized rs → All Sized qs
-sized-same [] [] e z = tt
-sized-same [] (q ∷ qs) e z = elim e [ ]
-sized-same (r ∷ rs) [] e z = elim e [ ]
-sized-same (r ∷ rs) (q ∷ qs) e z = (record { whole = size-same r q (e .0) (z .0 .whole); small = rw (sym (e .0 .numbers)) (z .0 .small) }, sized-same rs qs (e .1) (z .1))
-
-all-settled-same : (t : List ℕ) (rs qs : List Record) (xs : List Op) (at : ℕ) → AllButKept rs qs → All (Settled t) (heldFrom rs xs at) → All (Settled t) (heldFrom qs xs at)
-unfolding heldFrom
-all-settled-same t [] [] xs at e h = tt
-all-settled-same t [] (q ∷ qs) xs at e h = elim e [ ]
-all-settled-same t (r ∷ rs) [] xs at e h = elim e [ ]
-all-settled-same t (r ∷ rs) (q ∷ qs) xs at e h =
-    (settled-same r q (e .0) t xs at (h .0), all-settled-same t rs qs xs (at + ninth q) (e .1) (subst (λ (k : ℕ). All (Settled t) (heldFrom rs xs (at + k))) (ninth-same r q (e .0)) (h .1)))
+many-same = pairs (λ rs qs. length rs ≡ length qs) refl (λ r q rs qs e ih. ap suc ih)
 
 nibbles-same : (rs qs : List Record) → AllButKept rs qs → nibbleBytes rs ≡ nibbleBytes qs
 unfolding inRow
-nibbles-same [] [] e = refl
-nibbles-same [] (q ∷ qs) e = elim e [ ]
-nibbles-same (r ∷ rs) [] e = elim e [ ]
-nibbles-same (r ∷ rs) (q ∷ qs) e = ap₂ (λ (s x : List ℕ). leBytes 4 (number 16 (differences s)) ++ x) (e .0 .starts) (nibbles-same rs qs (e .1))
+nibbles-same =
+    pairs (λ rs qs. nibbleBytes rs ≡ nibbleBytes qs) refl
+    (λ r q rs qs e ih. ap₂ (λ (s x : List ℕ). leBytes 4 (number 16 (differences s)) ++ x) (e .starts) ih)
+
+sized-same : (rs qs : List Record) → AllButKept rs qs → All Sized rs → All Sized qs
+sized-same =
+    pairs (λ rs qs. All Sized rs → All Sized qs) (λ z. tt)
+    (λ r q rs qs e ih z. (record { whole = size-same r q e (z .0 .whole); small = rw (sym (e .numbers)) (z .0 .small) }, ih (z .1)))
+
+all-marks-same : (w : ℕ) → w ≤ 8 → (rs qs : List Record) → AllButKept rs qs → All NineAndEight rs → All (λ r. recordRight w r ≡ true) rs → marks rs ≡ marks qs
+unfolding marks
+all-marks-same w w8 =
+    pairs (λ rs qs. All NineAndEight rs → All (λ r. recordRight w r ≡ true) rs → marks rs ≡ marks qs) (λ z h. refl)
+    (λ r q rs qs e ih z h. ap₂ (λ (x y : List Bool). x ++ y) (marks-same r q e w w8 (z .0) (h .0)) (ih (z .1) (h .1)))
+
+module _ (xs : List Op) where
+  held-same : (f : Held → ℕ) → ((r q : Record) → SameButKept r q → (at : ℕ) → f (here r xs at) ≡ f (here q xs at))
+      → (rs qs : List Record) → AllButKept rs qs → (at : ℕ) → map f (heldFrom rs xs at) ≡ map f (heldFrom qs xs at)
+  unfolding heldFrom
+  held-same f one =
+      pairs (λ rs qs. (at : ℕ) → map f (heldFrom rs xs at) ≡ map f (heldFrom qs xs at)) (λ at. refl)
+      (λ r q rs qs e ih at. ap₂ (λ (n : ℕ) (ns : List ℕ). n ∷ ns) (one r q e at) (ih (at + ninth r) ∙ ap (λ (k : ℕ). map f (heldFrom qs xs (at + k))) (ninth-same r q e)))
+
+  all-settled-same : (t : List ℕ) (rs qs : List Record) → AllButKept rs qs → (at : ℕ) → All (Settled t) (heldFrom rs xs at) → All (Settled t) (heldFrom qs xs at)
+  unfolding heldFrom
+  all-settled-same t =
+      pairs (λ rs qs. (at : ℕ) → All (Settled t) (heldFrom rs xs at) → All (Settled t) (heldFrom qs xs at)) (λ at h. tt)
+      (λ r q rs qs e ih at h. (settled-same r q e t xs at (h .0), ih (at + ninth q) (subst (λ (k : ℕ). All (Settled t) (heldFrom rs xs (at + k))) (ninth-same r q e) (h .1))))
 
 -- ---- the answers
 
@@ -195,13 +187,13 @@ module _ (w : ℕ) (w8 : w ≤ 8) (a c : Arena) (e : ArenasButKept a c) where
   padding-faults : paddingFaults (blockIn a) ≡ paddingFaults (blockIn c)
   unfolding paddingFaults held
   padding-faults =
-      held-same paddingFault padding-same (blockIn a .records) (blockIn c .records) (blockIn a .ops) 0 (e .records)
+      held-same (blockIn a .ops) paddingFault (λ r q k. padding-same r q k (blockIn a .ops)) (blockIn a .records) (blockIn c .records) (e .records) 0
       ∙ ap (λ (xs : List Op). map paddingFault (heldFrom (blockIn c .records) xs 0)) ops-same
 
   commitment-faults : (t : List ℕ) → commitmentFaults t (blockIn a) ≡ commitmentFaults t (blockIn c)
   unfolding commitmentFaults held
   commitment-faults t =
-      held-same (commitmentFault t) (λ r q k. commitment-same r q k t) (blockIn a .records) (blockIn c .records) (blockIn a .ops) 0 (e .records)
+      held-same (blockIn a .ops) (commitmentFault t) (λ r q k. commitment-same r q k t (blockIn a .ops)) (blockIn a .records) (blockIn c .records) (e .records) 0
       ∙ ap (λ (xs : List Op). map (commitmentFault t) (heldFrom (blockIn c .records) xs 0)) ops-same
 
   block-marks : refuseFirst {A = Unit {0}} 0 (structureFaults w (blockIn c)) (good tt) ≡ good tt → marks (blockIn a .records) ≡ marks (blockIn c .records)
@@ -320,7 +312,7 @@ module _ (w : ℕ) (w8 : w ≤ 8) (t s : List ℕ) (bytes : Bytes s) (at : ℕ) 
           let in-b = block-in b (able .sized) in
           let in-c = block-in c sized in
           let was-b : All (Settled t) (held b) = rw in-b at (returned w w8 t s bytes at room b next h .only (rw in-b (was w w8 t s bytes at room b next h))) in
-          let is-c : All (Settled t) (held c) = rw (sym (e .ops)) (all-settled-same t (b .records) (c .records) (b .ops) 0 (e .records) was-b) in
+          let is-c : All (Settled t) (held c) = rw (sym (e .ops)) (all-settled-same (b .ops) t (b .records) (c .records) (e .records) 0 was-b) in
           rw in-c at (back .same (rw in-c is-c))
 
       takes : decoded w t (sets s (next - k) (flagBytes (c .records))) at room ≡ found c next
