@@ -4,7 +4,7 @@ use mathlib.Core.Path.{_≡_, refl}
 use mathlib.Core.Bool.{true, false}
 use mathlib.Core.List.{List, [], _∷_, _++_, map}
 use mathlib.Core.Option.{Option, none, some}
-use Prim.Native.Nat.{ℕ, _+_, _*_}
+use Prim.Native.Nat.{ℕ, _+_, _-_, _*_}
 use lib.ListN.{length, replicate}
 use Rattle.rules.specs.Lists.{butLast}
 use Rattle.rules.specs.Answer.{Answer, good, refused, Read, found, itemOf}
@@ -553,6 +553,16 @@ p1flagged fs = block (p1 .ops) (is (0 ∷ replicate 8 2) fs (1 ∷ 5 ∷ zeros 6
 abbrev pub above : List ℕ
 above = 1 ∷ 0 ∷ replicate 6 1
 
+-- eight groups of one operation, each a Noop but the i-th; all flagged
+abbrev pub but : ℕ → List Op
+but i = replicate i (op 0 0) ++ (op 2 0 ∷ replicate (7 - i) (op 0 0))
+
+abbrev pub eight-flagged : Record
+eight-flagged = is (0 ∷ 1 ∷ 2 ∷ 3 ∷ 4 ∷ 5 ∷ 6 ∷ 7 ∷ 8 ∷ []) (replicate 8 1) (zeros 8) 8
+
+abbrev pub to-7 : List ℕ
+to-7 = 0 ∷ 1 ∷ 2 ∷ 3 ∷ 4 ∷ 5 ∷ 6 ∷ 7 ∷ []
+
 pub record OfKept : Type 0 where
   -- read, and written again: a batch without groups, the first bit from the count on, the last one, all of them
   pub of-none :
@@ -579,6 +589,11 @@ pub record OfKept : Type 0 where
   -- the last group under the count: it has an immediate, or an operation that is no Noop; and an empty one before it
   pub slot-under : read (laid 2 (push ++ (0 ∷ [])) 1 (low 2) (0xff ∷ [])) 0 ≡ refused 10 0
   pub group-under : read (laid 2 (2 ∷ 2 ∷ []) 1 (low 0x11) (0x06 ∷ [])) 0 ≡ refused 10 0
+  pub each-under : map (λ (i : ℕ). read (laid 8 (codes (but i)) 1 (replicate 4 0x11) (0xff ∷ [])) 0) to-7 ≡ replicate 8 (refused 10 0)
+  pub eighth-under : read (laid 1 (2 ∷ []) 1 (high 0x10) (0x80 ∷ [])) 0 ≡ refused 10 0
+  pub eight-right :
+      (read (laid 8 (zeros 8) 1 (replicate 4 0x11) (0xff ∷ [])) 0 ≡ found (block (replicate 8 (op 0 0)) (eight-flagged ∷ [])) 18)
+      × (write (block (replicate 8 (op 0 0)) (eight-flagged ∷ [])) ≡ good (laid 8 (zeros 8) 1 (replicate 4 0x11) (0xff ∷ [])))
   pub empty-under : read (laid 2 (2 ∷ 2 ∷ []) 1 (0x01 ∷ 0x01 ∷ 0 ∷ 0 ∷ []) (0x0a ∷ [])) 0 ≡ refused 10 0
   -- at a width of 4, from the count up to the width
   pub width-kept : decoded 4 tableT (laid 1 (2 ∷ []) 1 (low 1) (0x0e ∷ [])) 0 ample ≡ found (block (twos 1) (flagged (0 ∷ 1 ∷ 1 ∷ 1 ∷ zeros 4) ∷ [])) 11
@@ -589,6 +604,8 @@ pub record OfKept : Type 0 where
   pub check-all-above : (structure (p1flagged above) ≡ good tt) × (padding (p1flagged above) ≡ good tt) × (commitment (p1flagged above) ≡ good tt)
   pub check-under : padding (p1flagged (replicate 8 1)) ≡ refused 10 0
   pub check-empty-under : padding (block (twos 1) (is (0 ∷ replicate 8 1) (0 ∷ 1 ∷ zeros 6) (2 ∷ zeros 7) 2 ∷ [])) ≡ refused 10 0
+  pub check-each : map (λ (i : ℕ). padding (block (but i) (eight-flagged ∷ []))) to-7 ≡ replicate 8 (refused 10 0)
+  pub check-eighth : padding (block (twos 1) (is (zeros 8 ++ (1 ∷ [])) (zeros 7 ++ (1 ∷ [])) (zeros 7 ++ (2 ∷ [])) 8 ∷ [])) ≡ refused 10 0
   pub check-later : padding (block (twos 2) (flagged (0 ∷ 1 ∷ zeros 6) ∷ flagged (1 ∷ 1 ∷ zeros 6) ∷ [])) ≡ refused 10 1
   -- a flag is 0 or 1 there too
   pub flag-two : (structure (block [] (bare-flagged (2 ∷ zeros 7) ∷ [])) ≡ refused 15 0) × (padding (block [] (bare-flagged (2 ∷ zeros 7) ∷ [])) ≡ refused 15 0)
@@ -993,6 +1010,9 @@ numbers =
         then-10-later = refl;
         slot-under = refl;
         group-under = refl;
+        each-under = refl;
+        eighth-under = refl;
+        eight-right = (refl, refl);
         empty-under = refl;
         width-kept = refl;
         check-of-none = refl;
@@ -1001,6 +1021,8 @@ numbers =
         check-all-above = (refl, refl, refl);
         check-under = refl;
         check-empty-under = refl;
+        check-each = refl;
+        check-eighth = refl;
         check-later = refl;
         flag-two = (refl, refl);
         raw-table = refl;
