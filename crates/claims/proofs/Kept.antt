@@ -1,7 +1,7 @@
 -- Flags at and above the count change no other answer, and may be cleared or set in the bytes of a block that is taken. Assumes nothing.
 use mathlib.Core.Path.{_≡_, refl, sym, ap, ap₂, _∙_, subst}
-use mathlib.Core.List.{List, [], _∷_, _++_, append-assoc, map}
-use mathlib.Core.Bool.{Bool, true, cond, not, _&&_}
+use mathlib.Core.List.{List, [], _∷_, _++_, append-assoc, append-nil, map}
+use mathlib.Core.Bool.{Bool, true, false, cond, not, _&&_, _||_}
 use Prim.Native.Nat.{ℕ, zero, suc, _+_, _-_, _≤_}
 use native.Mathlib.Omega.{arith}
 use lib.ListN.{length, getD, take, drop, replicate, length-append}
@@ -10,20 +10,20 @@ use lib.Dec.{leb, ltb, eqb}
 use Rattle.rules.specs.Lists.{total, every, inRow, All}
 use Rattle.rules.specs.Digits.{number, leBytes}
 use Rattle.rules.specs.Answer.{Answer, good, refuse, refuseFirst, found}
-use Rattle.rules.specs.Operations.{Op, operations, codes, values}
+use Rattle.rules.specs.Operations.{Op, operations, codes, values, goodTable, opFault}
 use Rattle.rules.specs.Record.{Record, Block, NineAndEight, differences, cut}
 use Rattle.rules.specs.Bytes.{countBytes, opsBytes, nibbleBytes, flagBytes}
 use Rattle.rules.specs.Block.{Room, countFrom, blockBytes}
 use Rattle.rules.specs.Checks.{Held, ninth, recordRight, structureFaults, heldFrom, held, endsInNoop, paddingRight, paddingFault, paddingFaults, commitmentFault, commitmentFaults}
 use Rattle.rules.specs.Lookups.{groupOf, nextGroup, marksIn, marksOf, marks, rawEntries, paddedEntries, rawTable, paddedTable}
 use Rattle.rules.specs.Examples.{p1, p1flagged, above}
-use Rattle.rules.specs.Functions.{Arena, blockIn, within, decoded, roomFor, structureChecked, paddingChecked, commitmentChecked, tableOf, groupLookup, nextLookup}
+use Rattle.rules.specs.Functions.{Arena, blockIn, within, encoded, decoded, roomFor, structureChecked, paddingChecked, commitmentChecked, tableOf, groupLookup, nextLookup}
 use Rattle.rules.proofs.Records.{Sized, records-length}
 use Rattle.rules.proofs.Sizes.{length-flags}
 use Rattle.claims.specs.Demand3.{lent}
 use Rattle.claims.specs.Finished.{Bytes}
 use Rattle.claims.specs.Settled.{Settled, settledBlock, Returns}
-use Rattle.claims.specs.Kept.{SameButKept, AllButKept, ArenasButKept, BlocksButKept, Unread, UnreadBy, Kept}
+use Rattle.claims.specs.Kept.{SameButKept, AllButKept, ArenasButKept, BlocksButKept, reflagged, Unread, UnreadBy, Kept}
 use Rattle.claims.proofs.WrittenThenRead.{none-over}
 use Rattle.claims.proofs.Lists.{all-map}
 use Rattle.claims.proofs.Stands.{Taken}
@@ -159,6 +159,55 @@ module _ (xs : List Op) where
       pairs (λ rs qs. (at : ℕ) → All (Settled t) (heldFrom rs xs at) → All (Settled t) (heldFrom qs xs at)) (λ at h. tt)
       (λ r q rs qs e ih at h. (settled-same r q e t xs at (h .0), ih (at + ninth q) (subst (λ (k : ℕ). All (Settled t) (heldFrom rs xs (at + k))) (ninth-same r q e) (h .1))))
 
+-- ---- the bytes
+
+module _ (t : List ℕ) where
+  -- all but the flags
+  abbrev front : Block → List ℕ
+  front b = countBytes (length (b .ops)) ++ (opsBytes t (b .ops) ++ (leBytes 4 (length (b .records)) ++ nibbleBytes (b .records)))
+
+  front-flags : (b : Block) → blockBytes t b ≡ front b ++ flagBytes (b .records)
+  unfolding blockBytes
+  front-flags b = simp append-assoc
+
+  front-same : (b c : Block) → BlocksButKept b c → front b ≡ front c
+  front-same b c e = rw (e .ops, many-same (b .records) (c .records) (e .records), nibbles-same (b .records) (c .records) (e .records))
+
+over : (p f g q : List ℕ) → length f ≡ length g → sets (p ++ (f ++ q)) (length p) g ≡ p ++ (g ++ q)
+over p f g q e =
+    let m : length p + length g ≤ length (p ++ (f ++ q)) = simp length-append (omega arith) in
+    let d : drop (length p + length g) (p ++ (f ++ q)) ≡ q = drop-append-add p (f ++ q) (length g) ∙ (rw (sym e) (drop-append-seam f q)) in
+    sets-eq g (p ++ (f ++ q)) (length p) m ∙ rw (take-append-seam p (f ++ q), d) (append-assoc p g q)
+
+module _ (t : List ℕ) (b c : Block) (e : BlocksButKept b c) where
+  same-length : length (blockBytes t b) ≡ length (blockBytes t c)
+  same-length =
+      rw (front-flags t b, front-flags t c, front-same t b c e)
+      (simp length-append (omega (arith, many-same (b .records) (c .records) (e .records), length-flags (b .records), length-flags (c .records))))
+
+  -- the bytes of the one with the flags of the other
+  flags-over : sets (blockBytes t b) (length (blockBytes t b) - length (c .records)) (flagBytes (c .records)) ≡ blockBytes t c
+  flags-over =
+      let f = flagBytes (b .records) in
+      let g = flagBytes (c .records) in
+      let k = many-same (b .records) (c .records) (e .records) in
+      let at : length (blockBytes t b) - length (c .records) ≡ length (front t b) = omega (arith, ap length (front-flags t b), length-append (front t b) f, length-flags (b .records)) in
+      let whole : blockBytes t b ≡ front t b ++ (f ++ []) = front-flags t b ∙ rw (append-nil f) in
+      ap₂ (λ (x : List ℕ) (n : ℕ). sets x n g) whole at
+      ∙ over (front t b) f g [] (length-flags (b .records) ∙ (k ∙ sym (length-flags (c .records))))
+      ∙ rw (append-nil g, front-same t b c e) (sym (front-flags t c))
+
+module _ (rs : List Record) where
+  refuse-flags : (b : Bool) (n p : ℕ) (r : Answer (List ℕ)) → reflagged rs (refuse b n p r) ≡ refuse b n p (reflagged rs r)
+  refuse-flags true n p r = refl
+  refuse-flags false n p r = refl
+
+  first-flags : (i : ℕ) (ns : List ℕ) (r : Answer (List ℕ)) → reflagged rs (refuseFirst i ns r) ≡ refuseFirst i ns (reflagged rs r)
+  unfolding refuseFirst
+  first-flags i [] r = refl
+  first-flags i (zero ∷ ns) r = first-flags (i + 1) ns r
+  first-flags i (suc n ∷ ns) r = refl
+
 -- ---- the answers
 
 -- where there is no fault, what follows is the same
@@ -208,6 +257,28 @@ module _ (w : ℕ) (w8 : w ≤ 8) (a c : Arena) (e : ArenasButKept a c) where
       rw (inside, structure-faults, padding-faults)
       (ap (refuse (not (within c)) 3 0) (first-same 0 (structureFaults w (blockIn c)) (rest (marks (blockIn a .records))) (rest (marks (blockIn c .records))) (λ h. ap rest (block-marks h))))
 
+  blocks : BlocksButKept (blockIn a) (blockIn c)
+  blocks = record { ops = ops-same; records = e .records }
+
+  encode-same : (t : List ℕ) (size at : ℕ) → reflagged (blockIn c .records) (encoded w t a size at) ≡ encoded w t c size at
+  unfolding encoded
+  encode-same t size at =
+      let rs = blockIn c .records in
+      let b = blockBytes t (blockIn a) in
+      rw (
+        refuse-flags rs (not (within a) || ltb 1048576 size) 3 0 _,
+        refuse-flags rs (not (goodTable t)) 14 0 _,
+        refuse-flags rs (ltb size at) 1 0 _,
+        first-flags rs 0 (structureFaults w (blockIn a)) _,
+        first-flags rs 0 (map (opFault t) (blockIn a .ops)) _,
+        refuse-flags rs (ltb size (at + length b)) 13 0 (good b),
+        flags-over t (blockIn a) (blockIn c) blocks,
+        inside,
+        structure-faults,
+        same-length t (blockIn a) (blockIn c) blocks,
+        ops-same,
+      )
+
   pub unread : Unread w a c
   unfolding structureChecked paddingChecked commitmentChecked rawTable paddedTable
   unread =
@@ -217,27 +288,10 @@ module _ (w : ℕ) (w8 : w ≤ 8) (a c : Arena) (e : ArenasButKept a c) where
         commitment = λ t. rw (inside, structure-faults, commitment-faults t, ops-same);
         raw-table = table-same (rawEntries 0);
         padded-table = table-same (paddedEntries 0);
+        encode = encode-same;
       }
 
--- ---- the bytes
-
-module _ (t : List ℕ) where
-  -- all but the flags
-  abbrev front : Block → List ℕ
-  front b = countBytes (length (b .ops)) ++ (opsBytes t (b .ops) ++ (leBytes 4 (length (b .records)) ++ nibbleBytes (b .records)))
-
-  front-flags : (b : Block) → blockBytes t b ≡ front b ++ flagBytes (b .records)
-  unfolding blockBytes
-  front-flags b = simp append-assoc
-
-  front-same : (b c : Block) → BlocksButKept b c → front b ≡ front c
-  front-same b c e = rw (e .ops, many-same (b .records) (c .records) (e .records), nibbles-same (b .records) (c .records) (e .records))
-
-over : (p f g q : List ℕ) → length f ≡ length g → sets (p ++ (f ++ q)) (length p) g ≡ p ++ (g ++ q)
-over p f g q e =
-    let m : length p + length g ≤ length (p ++ (f ++ q)) = simp length-append (omega arith) in
-    let d : drop (length p + length g) (p ++ (f ++ q)) ≡ q = drop-append-add p (f ++ q) (length g) ∙ (rw (sym e) (drop-append-seam f q)) in
-    sets-eq g (p ++ (f ++ q)) (length p) m ∙ rw (take-append-seam p (f ++ q), d) (append-assoc p g q)
+-- ---- a block that is taken
 
 module _ (w : ℕ) (w8 : w ≤ 8) (t s : List ℕ) (bytes : Bytes s) (at : ℕ) (room : Room) (b : Block) (next : ℕ) (h : decoded w t s at room ≡ found b next) where
   abbrev k : ℕ
@@ -290,10 +344,6 @@ module _ (w : ℕ) (w8 : w ≤ 8) (t s : List ℕ) (bytes : Bytes s) (at : ℕ) 
         ∙ over before (flagBytes (b .records)) (flagBytes (c .records)) q (length-flags (b .records) ∙ (many ∙ sym (length-flags (c .records))))
         ∙ rw (front-flags t c, front-same t b c e) (simp append-assoc)
 
-    same-length : length (blockBytes t c) ≡ length (blockBytes t b)
-    same-length =
-        rw (front-flags t c, front-flags t b, front-same t b c e) (simp length-append (omega (arith, many, length-flags (b .records), length-flags (c .records))))
-
     fits : roomFor c room ≡ true
     unfolding roomFor
     fits = rw (sym (e .ops), sym many) (had-room w t s at room b next h)
@@ -320,7 +370,7 @@ module _ (w : ℕ) (w8 : w ≤ 8) (t s : List ℕ) (bytes : Bytes s) (at : ℕ) 
           let in-c = block-in c sized in
           let limit : length (p ++ (blockBytes t c ++ q)) ≤ 1048576 = rw (sym changed) (rw (length-sets s (next - k) (flagBytes (c .records))) (within-limit w t s at room b next h)) in
           let read : decoded w t (p ++ (blockBytes t c ++ q)) (length p) room ≡ found (settledBlock t c) (length p + length (blockBytes t c)) = rw in-c at (back .reads p q room (rw in-c limit) (rw in-c fits)) in
-          let end : length p + length (blockBytes t c) ≡ next = omega (arith, stood .next, stood .stands .place, same-length) in
+          let end : length p + length (blockBytes t c) ≡ next = omega (arith, stood .next, stood .stands .place, same-length t b c e) in
           ap₂ (λ (x : List ℕ) (n : ℕ). decoded w t x n room) changed (stood .stands .place) ∙ read ∙ ap₂ found settles end
 
 pub kept : (t s : List ℕ) → Bytes s → (at : ℕ) (room : Room) (b : Block) (next : ℕ) → decoded 8 t s at room ≡ found b next → Kept 8 t s at room b next

@@ -40,11 +40,12 @@ pub record Claims (w : ℕ) : Type 0 where
       → Taken w t s at room b next → Taken w t s′ at′ room′ b next′ → take (next - at) (drop at s) ≡ take (next′ - at′) (drop at′ s′)
   -- batch data that passes commitment belongs to one list
   pub one-list : OneList w
-  -- what passes the checks, encoded and decoded; and that the condition for getting the same back is needed. Of document 01's width: under it a record
-  -- has flags that bytes of that width cannot say, from the width on.
+  -- what passes the checks, encoded and decoded; and that the condition for getting the same back is needed. This and `kept` are said of width 8: at a
+  -- smaller one a lent record may have flags from the width on, which its bytes cannot say.
   pub returns : (t : List ℕ) (a : Arena) → paddingChecked 8 a ≡ good tt → commitmentChecked 8 t a ≡ good tt → Returns 8 t a
   pub needed : Needed
-  -- M-100: flags at and above the group count change no other answer; in the bytes of a block that is taken they may be cleared or set
+  -- M-100: flags at and above the group count change no answer of the checks, tables and lookups, and of encode only themselves; in the bytes of a block
+  -- that is taken they may be cleared or set
   pub unread : (a c : Arena) → ArenasButKept a c → Unread w a c
   pub unread-by : (r q : Record) → SameButKept r q → UnreadBy w r q
   pub kept : (t s : List ℕ) → Bytes s → (at : ℕ) (room : Room) (b : Block) (next : ℕ) → Taken 8 t s at room b next → Kept 8 t s at room b next
