@@ -543,8 +543,8 @@ pub record OfOutputs : Type 0 where
 -- ---- M-100: "The padding check and the decoder now keep such a bit unread, the encoder writes it back, and the tables go on ignoring it."
 
 -- a batch of no operations, and one of an operation of opcode 1 and a Noop, with these flags
-abbrev pub bare-flagged : List ℕ → Record
-bare-flagged fs = is (zeros 9) fs (zeros 8) 0
+abbrev pub bareFlagged : List ℕ → Record
+bareFlagged fs = is (zeros 9) fs (zeros 8) 0
 
 abbrev pub p1flagged : List ℕ → Block
 p1flagged fs = block (p1 .ops) (is (0 ∷ replicate 8 2) fs (1 ∷ 5 ∷ zeros 6) 2 ∷ [])
@@ -554,20 +554,20 @@ abbrev pub above : List ℕ
 above = 1 ∷ 0 ∷ replicate 6 1
 
 -- eight groups of one operation, each a Noop but the i-th; all flagged
-abbrev pub but : ℕ → List Op
-but i = replicate i (op 0 0) ++ (op 2 0 ∷ replicate (7 - i) (op 0 0))
+abbrev pub noopsBut : ℕ → List Op
+noopsBut i = replicate i (op 0 0) ++ (op 2 0 ∷ replicate (7 - i) (op 0 0))
 
-abbrev pub eight-flagged : Record
-eight-flagged = is (0 ∷ 1 ∷ 2 ∷ 3 ∷ 4 ∷ 5 ∷ 6 ∷ 7 ∷ 8 ∷ []) (replicate 8 1) (zeros 8) 8
+abbrev pub eightFlagged : Record
+eightFlagged = is (0 ∷ 1 ∷ 2 ∷ 3 ∷ 4 ∷ 5 ∷ 6 ∷ 7 ∷ 8 ∷ []) (replicate 8 1) (zeros 8) 8
 
-abbrev pub to-7 : List ℕ
-to-7 = 0 ∷ 1 ∷ 2 ∷ 3 ∷ 4 ∷ 5 ∷ 6 ∷ 7 ∷ []
+abbrev pub toSeven : List ℕ
+toSeven = 0 ∷ 1 ∷ 2 ∷ 3 ∷ 4 ∷ 5 ∷ 6 ∷ 7 ∷ []
 
 pub record OfKept : Type 0 where
   -- read, and written again: a batch without groups, the first bit from the count on, the last one, all of them
   pub of-none :
-      (read (0x01 ∷ 0x01 ∷ 0 ∷ 0 ∷ 0 ∷ 0 ∷ 0 ∷ 0 ∷ 0 ∷ 0x01 ∷ []) 0 ≡ found (block [] (bare-flagged (1 ∷ zeros 7) ∷ [])) 10)
-      × (write (block [] (bare-flagged (1 ∷ zeros 7) ∷ [])) ≡ good (0x01 ∷ 0x01 ∷ 0 ∷ 0 ∷ 0 ∷ 0 ∷ 0 ∷ 0 ∷ 0 ∷ 0x01 ∷ []))
+      (read (0x01 ∷ 0x01 ∷ 0 ∷ 0 ∷ 0 ∷ 0 ∷ 0 ∷ 0 ∷ 0 ∷ 0x01 ∷ []) 0 ≡ found (block [] (bareFlagged (1 ∷ zeros 7) ∷ [])) 10)
+      × (write (block [] (bareFlagged (1 ∷ zeros 7) ∷ [])) ≡ good (0x01 ∷ 0x01 ∷ 0 ∷ 0 ∷ 0 ∷ 0 ∷ 0 ∷ 0 ∷ 0 ∷ 0x01 ∷ []))
   pub at-count :
       (read (laid 1 (2 ∷ []) 1 (low 1) (0x02 ∷ [])) 0 ≡ found (block (twos 1) (flagged (0 ∷ 1 ∷ zeros 6) ∷ [])) 11)
       × (write (block (twos 1) (flagged (0 ∷ 1 ∷ zeros 6) ∷ [])) ≡ good (laid 1 (2 ∷ []) 1 (low 1) (0x02 ∷ [])))
@@ -589,30 +589,30 @@ pub record OfKept : Type 0 where
   -- the last group under the count: it has an immediate, or an operation that is no Noop; and an empty one before it
   pub slot-under : read (laid 2 (push ++ (0 ∷ [])) 1 (low 2) (0xff ∷ [])) 0 ≡ refused 10 0
   pub group-under : read (laid 2 (2 ∷ 2 ∷ []) 1 (low 0x11) (0x06 ∷ [])) 0 ≡ refused 10 0
-  pub each-under : map (λ (i : ℕ). read (laid 8 (codes (but i)) 1 (replicate 4 0x11) (0xff ∷ [])) 0) to-7 ≡ replicate 8 (refused 10 0)
+  pub each-under : map (λ (i : ℕ). read (laid 8 (codes (noopsBut i)) 1 (replicate 4 0x11) (0xff ∷ [])) 0) toSeven ≡ replicate 8 (refused 10 0)
   pub eighth-under : read (laid 1 (2 ∷ []) 1 (high 0x10) (0x80 ∷ [])) 0 ≡ refused 10 0
   pub eight-right :
-      (read (laid 8 (zeros 8) 1 (replicate 4 0x11) (0xff ∷ [])) 0 ≡ found (block (replicate 8 (op 0 0)) (eight-flagged ∷ [])) 18)
-      × (write (block (replicate 8 (op 0 0)) (eight-flagged ∷ [])) ≡ good (laid 8 (zeros 8) 1 (replicate 4 0x11) (0xff ∷ [])))
+      (read (laid 8 (zeros 8) 1 (replicate 4 0x11) (0xff ∷ [])) 0 ≡ found (block (replicate 8 (op 0 0)) (eightFlagged ∷ [])) 18)
+      × (write (block (replicate 8 (op 0 0)) (eightFlagged ∷ [])) ≡ good (laid 8 (zeros 8) 1 (replicate 4 0x11) (0xff ∷ [])))
   pub empty-under : read (laid 2 (2 ∷ 2 ∷ []) 1 (0x01 ∷ 0x01 ∷ 0 ∷ 0 ∷ []) (0x0a ∷ [])) 0 ≡ refused 10 0
   -- at a width of 4, from the count up to the width
   pub width-kept : decoded 4 tableT (laid 1 (2 ∷ []) 1 (low 1) (0x0e ∷ [])) 0 ample ≡ found (block (twos 1) (flagged (0 ∷ 1 ∷ 1 ∷ 1 ∷ zeros 4) ∷ [])) 11
   -- the padding check
-  pub check-of-none : padding (block [] (bare-flagged (replicate 8 1) ∷ [])) ≡ good tt
+  pub check-of-none : padding (block [] (bareFlagged (replicate 8 1) ∷ [])) ≡ good tt
   pub check-at-count : padding (block (twos 1) (flagged (0 ∷ 1 ∷ zeros 6) ∷ [])) ≡ good tt
   pub check-last : padding (block (twos 1) (flagged (zeros 7 ++ (1 ∷ [])) ∷ [])) ≡ good tt
   pub check-all-above : (structure (p1flagged above) ≡ good tt) × (padding (p1flagged above) ≡ good tt) × (commitment (p1flagged above) ≡ good tt)
   pub check-under : padding (p1flagged (replicate 8 1)) ≡ refused 10 0
   pub check-empty-under : padding (block (twos 1) (is (0 ∷ replicate 8 1) (0 ∷ 1 ∷ zeros 6) (2 ∷ zeros 7) 2 ∷ [])) ≡ refused 10 0
-  pub check-each : map (λ (i : ℕ). padding (block (but i) (eight-flagged ∷ []))) to-7 ≡ replicate 8 (refused 10 0)
+  pub check-each : map (λ (i : ℕ). padding (block (noopsBut i) (eightFlagged ∷ []))) toSeven ≡ replicate 8 (refused 10 0)
   pub check-eighth : padding (block (twos 1) (is (zeros 8 ++ (1 ∷ [])) (zeros 7 ++ (1 ∷ [])) (zeros 7 ++ (2 ∷ [])) 8 ∷ [])) ≡ refused 10 0
   pub check-later : padding (block (twos 2) (flagged (0 ∷ 1 ∷ zeros 6) ∷ flagged (1 ∷ 1 ∷ zeros 6) ∷ [])) ≡ refused 10 1
   -- a flag is 0 or 1 there too
-  pub flag-two : (structure (block [] (bare-flagged (2 ∷ zeros 7) ∷ [])) ≡ refused 15 0) × (padding (block [] (bare-flagged (2 ∷ zeros 7) ∷ [])) ≡ refused 15 0)
+  pub flag-two : (structure (block [] (bareFlagged (2 ∷ zeros 7) ∷ [])) ≡ refused 15 0) × (padding (block [] (bareFlagged (2 ∷ zeros 7) ∷ [])) ≡ refused 15 0)
   -- the tables and the lookups are those of P1
   pub raw-table : rawTabled 8 (lent (p1flagged above)) 2 ≡ good (0 ∷ 1 ∷ [])
   pub padded-table : paddedTabled 8 (lent (p1flagged above)) 3 ≡ good (0 ∷ 0 ∷ 1 ∷ [])
-  pub no-table : rawTabled 8 (lent (block [] (bare-flagged (replicate 8 1) ∷ []))) 1 ≡ good (0 ∷ [])
+  pub no-table : rawTabled 8 (lent (block [] (bareFlagged (replicate 8 1) ∷ []))) 1 ≡ good (0 ∷ [])
   pub group : groupLookup 8 (is (0 ∷ replicate 8 2) above (1 ∷ 5 ∷ zeros 6) 2) 1 ≡ good (some (record { group = 0; place = 1 }))
   pub next : nextLookup 8 (is (0 ∷ replicate 8 2) above (1 ∷ 5 ∷ zeros 6) 2) 0 ≡ good none
   -- "Batches we build still have those bits clear"
