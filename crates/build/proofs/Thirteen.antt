@@ -7,9 +7,9 @@ use native.Mathlib.Omega.{arith}
 use borrow.Author.Tests.{leb-true, leb-false}
 use lib.ListN.{length}
 use lib.Dec.{leb, ltb, eqb}
-use Rattle.rules.specs.Answer.{Answer, good, refused, refuse, refuseFirst}
+use Rattle.rules.specs.Answer.{Answer, good, refused, refuse, orElse, refuseFirst}
 use Rattle.rules.specs.Refusals.{no-room₁₃}
-use Rattle.rules.specs.Operations.{Op, operations, goodTable, admissible, opFault}
+use Rattle.rules.specs.Operations.{Op, operations, goodTable, assigned, valueRight, codeFault, valueFault, opFault}
 use Rattle.rules.specs.Batching.{batchesOf}
 use Rattle.rules.specs.Record.{Block, blockOf}
 use Rattle.rules.specs.Block.{Room}
@@ -51,13 +51,15 @@ guard true n p h w = early n p h (λ room. refl)
 guard false n p h w = w
 
 faults : {answer : Room → Answer Block} {b : Block} (t : List ℕ) (i : ℕ) (xs : List Op) → Way answer b → Way (λ (room : Room). refuseFirst i (map (opFault t) xs) (answer room)) b
-unfolding refuseFirst opFault
+unfolding refuseFirst opFault codeFault valueFault
 faults t i [] w = w
-faults {answer} {b} t i (x ∷ xs) w = go (admissible t x) (faults t (i + 1) xs w)
+faults {answer} {b} t i (x ∷ xs) w = go (assigned t (x .code)) (valueRight t x) (faults t (i + 1) xs w)
   where
-    go : (k : Bool) → Way (λ (room : Room). refuseFirst (i + 1) (map (opFault t) xs) (answer room)) b → Way (λ (room : Room). refuseFirst i (cond k 0 4 ∷ map (opFault t) xs) (answer room)) b
-    go true rest = rest
-    go false rest = early 4 i (λ e. omega arith) (λ room. refl)
+    go : (k v : Bool) → Way (λ (room : Room). refuseFirst (i + 1) (map (opFault t) xs) (answer room)) b
+        → Way (λ (room : Room). refuseFirst i (orElse (cond k 0 4) (cond v 0 17) ∷ map (opFault t) xs) (answer room)) b
+    go true true rest = rest
+    go true false rest = early 17 i (λ e. omega arith) (λ room. refl)
+    go false v rest = early 4 i (λ e. omega arith) (λ room. refl)
 
 way : (w : ℕ) (t cs vs : List ℕ) → Way (built w t cs vs) (blockOf (batchesOf w t (operations cs vs)))
 unfolding built

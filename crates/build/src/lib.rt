@@ -1,4 +1,4 @@
-// The public entry of the batcher (document 01, "Numbers of refusal", build): refusals 3, 14, 12, 4 and 13.
+// The public entry of the batcher (document 01, "Numbers of refusal", build): refusals 3, 14, 12, 4 or 17 (M-101), and 13.
 ghost use mathlib.Core.Path.{_≡_};
 ghost use mathlib.Core.Bool.{_&&_};
 ghost use Prim.Native.Nat.{_/_};

@@ -15,7 +15,7 @@ use Rattle.rules.specs.Bytes.{upTo}
 use Rattle.rules.specs.Checks.{ninth, startsRight, recordRight, structureFaults, held, paddingFault, paddingFaults, commitmentFault, commitmentFaults, groupsFault, placingFault, begins}
 use Rattle.rules.specs.Functions.{Arena, blockIn, within, paddingChecked, commitmentChecked}
 use Rattle.rules.proofs.Answer.{clash, passed, first-append}
-use Rattle.rules.proofs.Operations.{true-left, true-right, length-operations}
+use Rattle.rules.proofs.Operations.{true-left, true-right, length-operations, none-fault}
 use Rattle.rules.proofs.Slots.{total-split, or-first}
 use Rattle.claims.proofs.ReadThenChecked.{start-at, take-total}
 use Rattle.claims.proofs.Lists.{all-map}
@@ -130,7 +130,7 @@ pub record Facts (w : ℕ) (t : List ℕ) (a : Arena) : Type 0 where
   pub commitment : All (λ h. commitmentFault t h ≡ 0) (held (blockIn a))
 
 pub facts : (w : ℕ) (t : List ℕ) (a : Arena) → commitmentChecked w t a ≡ good tt → Facts w t a
-unfolding commitmentChecked commitmentFaults opFault
+unfolding commitmentChecked commitmentFaults
 facts w t a h =
     let b = blockIn a in
     let c₁ = passed (not (within a)) 3 0 _ tt h in
@@ -143,7 +143,7 @@ facts w t a h =
       table = not-false (goodTable t) (c₂ .0);
       right = c₃ .0;
       sum = c₃ .1;
-      allowed = all-map (λ x k. no-cond (admissible t x) 3 k) (b .ops) (c₄ .0);
+      allowed = all-map (none-fault t) (b .ops) (c₄ .0);
       commitment = c₅ .0;
     }
 

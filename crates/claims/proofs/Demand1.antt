@@ -11,13 +11,13 @@ use lib.Dec.{leb, ltb, eqb}
 use lib.Count.{trailingZeros}
 use Rattle.rules.specs.Lists.{total, inRow}
 use Rattle.rules.specs.Digits.{digits, leAt}
-use Rattle.rules.specs.Answer.{Answer, good, refused, Item, Read, found, refuse, refuseFirst, _then_, row}
-use Rattle.rules.specs.Operations.{Op, operations, field, assigned, valued, admissible, opFault, goodTable, codes, values}
+use Rattle.rules.specs.Answer.{Answer, good, refused, Item, Read, found, refuse, orElse, refuseFirst, _then_, row}
+use Rattle.rules.specs.Operations.{Op, operations, assigned, valued, valueRight, codeFault, valueFault, opFault, goodTable, codes, values}
 use Rattle.rules.specs.Batching.{batchesOf}
 use Rattle.rules.specs.Record.{Record, Block, noBlock, codesNumber, blockOf, cut, immediates}
 use Rattle.rules.specs.Bytes.{least, countBy, countAt, valueAt, opAt, opsAt, batchCountAt, upTo, sizesAt, nibblesAt, bitsAt, flagsAt}
 use Rattle.rules.specs.Block.{Room, Head, Layout, blockBytes, placingsFault, countFrom, batchAt, batchesAt, headAt, layoutAt, batchesBy, blockAt}
-use Rattle.rules.specs.Checks.{Held, ninth, recordRight, structureFaults, heldFrom, held, paddingFault, paddingFaults, underCount, placingFault, begins, orElse, groupsFault, emptyZero, commitmentFault, commitmentFaults, paddingRight}
+use Rattle.rules.specs.Checks.{Held, ninth, recordRight, structureFaults, heldFrom, held, paddingFault, paddingFaults, underCount, placingFault, begins, groupsFault, emptyZero, commitmentFault, commitmentFaults, paddingRight}
 use Rattle.rules.specs.Lookups.{groupOf, nextGroup}
 use Rattle.rules.specs.Functions.{Arena, arena, blockIn, within, filled, roomFor, built, encoded, written, decoded, most, headed, countHere, opHere, structureChecked, paddingChecked, commitmentChecked, tableOf, tableLeft, groupLookup, nextLookup}
 use Rattle.rules.proofs.Answer.{first-append}
@@ -28,7 +28,7 @@ use Rattle.claims.specs.Demand1.{Refusal, OneOf, Replies, zeros, ops, ba
 -- ---- answers whose results have one property, and whose refusals another
 
 module _ (P : ℕ → ℕ → Type 0) where
-  abbrev Holds : {A : Type 0} → (A → Type 0) → Answer A → Type 0
+  abbrev pub Holds : {A : Type 0} → (A → Type 0) → Answer A → Type 0
   Holds Q (good a) = Q a
   Holds Q (refused n p) = P n p
 
@@ -52,14 +52,18 @@ module _ (P : ℕ → ℕ → Type 0) where
   by-stage Q R (refused n p) f h k = h
 
   -- no fault, or one that may refuse with this place
-  abbrev Fault : ℕ → ℕ → Type 0
+  abbrev pub Fault : ℕ → ℕ → Type 0
   Fault n p = (n ≡ 0) ⊎ P n p
 
   by-cond : (b : Bool) (n p : ℕ) → P n p → Fault (cond b 0 n) p
   by-cond true n p h = inl refl
   by-cond false n p h = inr h
 
-  by-first : {A B : Type 0} (Q : A → Type 0) (f : B → ℕ) (n : ℕ) → ((x : B) (p : ℕ) → p < n → Fault (f x) p) → (i : ℕ) (xs : List B) (r : Answer A) → i + length xs ≤ n → Holds Q r → Holds Q (refuseFirst i (map f xs) r)
+  by-orElse : (m n p : ℕ) → Fault m p → Fault n p → Fault (orElse m n) p
+  by-orElse zero n p h k = k
+  by-orElse (suc m) n p h k = h
+
+  pub by-first : {A B : Type 0} (Q : A → Type 0) (f : B → ℕ) (n : ℕ) → ((x : B) (p : ℕ) → p < n → Fault (f x) p) → (i : ℕ) (xs : List B) (r : Answer A) → i + length xs ≤ n → Holds Q r → Holds Q (refuseFirst i (map f xs) r)
   unfolding refuseFirst
   by-first Q f n h i [] r l k = k
   by-first Q f n h i (x ∷ xs) r l k = go (f x) (h x i (omega arith)) (by-first Q f n h (i + 1) xs r (omega arith) k)
@@ -79,7 +83,7 @@ module _ (P : ℕ → ℕ → Type 0) where
   -- ---- the checks' faults
 
   -- "15": a batch, or the batch total
-  by-structure : {A : Type 0} (Q : A → Type 0) (w : ℕ) (b : Block) (r : Answer A) → ((p : ℕ) → p < length (b .records) + 1 → P 15 p) → Holds Q r → Holds Q (refuseFirst 0 (structureFaults w b) r)
+  pub by-structure : {A : Type 0} (Q : A → Type 0) (w : ℕ) (b : Block) (r : Answer A) → ((p : ℕ) → p < length (b .records) + 1 → P 15 p) → Holds Q r → Holds Q (refuseFirst 0 (structureFaults w b) r)
   unfolding structureFaults
   by-structure Q w b r h k =
       let f : Record → ℕ = λ (x : Record). cond (recordRight w x) 0 15 in
@@ -88,13 +92,10 @@ module _ (P : ℕ → ℕ → Type 0) where
       (by-first Q f (length (b .records) + 1) (λ x p l. by-cond (recordRight w x) 15 p (h p l)) 0 (b .records) (refuseFirst (0 + length (map f (b .records))) (cond c 0 15 ∷ []) r) (omega arith)
       (by-first Q (λ (z : Bool). cond z 0 15) (length (b .records) + 1) (λ z p l. by-cond z 15 p (h p l)) (0 + length (map f (b .records))) (c ∷ []) r (omega (arith, length-map (b .records) f)) k))
 
-  by-ops : {A : Type 0} (Q : A → Type 0) (t : List ℕ) (xs : List Op) (r : Answer A) → ((p : ℕ) → p < length xs → P 4 p) → Holds Q r → Holds Q (refuseFirst 0 (map (opFault t) xs) r)
-  unfolding opFault
-  by-ops Q t xs r h k = by-first Q (opFault t) (length xs) (λ x p l. by-cond (admissible t x) 4 p (h p l)) 0 xs r (omega arith) k
-
-  by-orElse : (m n p : ℕ) → Fault m p → Fault n p → Fault (orElse m n) p
-  by-orElse zero n p h k = k
-  by-orElse (suc m) n p h k = h
+  by-ops : {A : Type 0} (Q : A → Type 0) (t : List ℕ) (xs : List Op) (r : Answer A) → ((p : ℕ) → p < length xs → P 4 p × P 17 p) → Holds Q r → Holds Q (refuseFirst 0 (map (opFault t) xs) r)
+  unfolding opFault codeFault valueFault
+  by-ops Q t xs r h k =
+      by-first Q (opFault t) (length xs) (λ x p l. by-orElse _ _ p (by-cond (assigned t (x .code)) 4 p (h p l .0)) (by-cond (valueRight t x) 17 p (h p l .1))) 0 xs r (omega arith) k
 
   by-placing : (k : ℕ) (gs : List (List Op)) (p : ℕ) → P 8 p → P 9 p → Fault (placingFault k gs) p
   unfolding placingFault
@@ -114,7 +115,7 @@ module _ (P : ℕ → ℕ → Type 0) where
       (by-orElse _ _ p (by-placing (length vs) gs p h₈ h₉)
       (by-orElse _ _ p (by-cond (begins ns vs) 16 p h) (by-groups t gs ns p h₈ h₉ h)))
 
-  by-commitment : (t : List ℕ) (x : Held) (p : ℕ) → P 8 p → P 9 p → P 16 p → Fault (commitmentFault t x) p
+  pub by-commitment : (t : List ℕ) (x : Held) (p : ℕ) → P 8 p → P 9 p → P 16 p → Fault (commitmentFault t x) p
   unfolding commitmentFault
   by-commitment t x p h₈ h₉ h =
       by-orElse _ _ p (by-groups t (underCount x) (x .batch .numbers) p h₈ h₉ h) (by-cond (emptyZero t 0 (underCount x) (x .batch .numbers)) 16 p h)
@@ -158,19 +159,19 @@ module _ (P : ℕ → ℕ → Type 0) where
             by-refuse Inside (ltb v (least z)) 3 0 _ three λ e₃.
             by-refuse Inside (ltb 65535 v) 3 0 _ three λ e₄. ltb-false (length s) (at + z + 1) e₂
 
-    by-op : (t : List ℕ) (at i : ℕ) → at ≤ length s → P 4 i → Holds Inside (opAt t s at i)
-    unfolding opAt valueAt
+    by-op : (t : List ℕ) (at i : ℕ) → at ≤ length s → P 4 i × P 17 i → Holds Inside (opAt t s at i)
+    unfolding opAt valueAt codeFault valueFault
     by-op t at i l four =
         by-refuse Inside (leb (length s) at) 2 at _ (two at l) λ e.
-        by-refuse Inside (not (assigned t (getD s at 0))) 4 i _ four λ e₁. go (valued t (getD s at 0)) (leb-false (length s) at e)
+        by-one Inside i _ _ (by-cond (assigned t (getD s at 0)) 4 i (four .0)) (go (valued t (getD s at 0)) (leb-false (length s) at e))
       where
-        go : (v : Bool) → at < length s → Holds Inside (cond v (valueAt s at i (getD s at 0)) (found (record { code = getD s at 0; value = 0 }) (at + 1)))
+        go : (v : Bool) → at < length s → Holds Inside (cond v (valueAt t s at i (getD s at 0)) (found (record { code = getD s at 0; value = 0 }) (at + 1)))
         go true m =
             by-refuse Inside (ltb (length s) (at + 9)) 2 at _ (two at l) λ e.
-            by-refuse Inside (not (ltb (leAt 8 s (at + 1)) field)) 4 i _ four λ e₁. ltb-false (length s) (at + 9) e
+            by-one Inside i _ _ (by-cond (valueRight t (record { code = getD s at 0; value = leAt 8 s (at + 1) })) 17 i (four .1)) (ltb-false (length s) (at + 9) e)
         go false m = omega arith
 
-    by-opsAt : (t : List ℕ) (n at i m : ℕ) → ((p : ℕ) → p < m → P 4 p) → at ≤ length s → i + n ≤ m → Holds (Many (λ k. k ≤ length s) n) (opsAt t s n at i)
+    by-opsAt : (t : List ℕ) (n at i m : ℕ) → ((p : ℕ) → p < m → P 4 p × P 17 p) → at ≤ length s → i + n ≤ m → Holds (Many (λ k. k ≤ length s) n) (opsAt t s n at i)
     by-opsAt t n at i m four l k = by-row (opAt t s) (λ k. k ≤ length s) m (λ at i h l. by-op t at i l (four i h)) n at i k l
 
     by-batchCount : (at : ℕ) → P 5 0 → P 3 0 → at ≤ length s → Holds Inside (batchCountAt s at)
@@ -187,7 +188,7 @@ module _ (P : ℕ → ℕ → Type 0) where
     Scarce : Room → Type 0
     Scarce room = (k : Item ℕ) (at : ℕ) → batchCountAt s at ≡ good k → ltb (room .records) (k .item) ≡ true → P 13 0
 
-    by-head : (t : List ℕ) (at : ℕ) (room : Room) → P 3 0 → ((p : ℕ) → p < told (countAt s at) → P 4 p) → P 5 0 → Narrow room at → Scarce room → at ≤ length s → Holds Any (headAt t s at room)
+    by-head : (t : List ℕ) (at : ℕ) (room : Room) → P 3 0 → ((p : ℕ) → p < told (countAt s at) → P 4 p × P 17 p) → P 5 0 → Narrow room at → Scarce room → at ≤ length s → Holds Any (headAt t s at room)
     unfolding headAt Narrow Scarce
     by-head t at room three four five narrow scarce l =
         by-stage Inside Any (countAt s at) _ (by-count at three l) λ n e q₁.
@@ -214,7 +215,7 @@ module _ (P : ℕ → ℕ → Type 0) where
     abbrev Few : Item Layout → Type 0
     Few l = length (l .item .sizes) ≤ most
 
-    by-layout : (w k at : ℕ) → k ≤ most → Holds Few (layoutAt w s k at)
+    pub by-layout : (w k at : ℕ) → k ≤ most → Holds Few (layoutAt w s k at)
     unfolding layoutAt
     by-layout w k at l =
         by-then (Many (λ n. Unit {0}) k) Few (nibblesAt w s k at 0) _ (by-nibbles w k at 0 (omega arith)) λ i q.
@@ -230,7 +231,7 @@ module _ (P : ℕ → ℕ → Type 0) where
           by-one Any b (placingsFault t gs) _ (by-placings t gs b (h .2) (h .3))
           (by-refuse Any (not (paddingRight (take (countFrom t 0 0 gs) gs) fs)) 10 b _ (h .4) λ e₂. tt)
 
-      by-records : (l : Layout) → length (l .sizes) ≤ most → Holds Any (batchesBy w t xs l)
+      pub by-records : (l : Layout) → length (l .sizes) ≤ most → Holds Any (batchesBy w t xs l)
       unfolding batchesBy batchesAt
       by-records l k =
           by-then (Many (λ n. Unit {0}) (length (l .sizes))) Any (batchesAt w t xs (l .sizes) (l .flags)) _
@@ -254,7 +255,7 @@ lists-same [] vs = omega arith
 lists-same (c ∷ cs) [] = omega arith
 lists-same (c ∷ cs) (v ∷ vs) = omega (arith, lists-same cs vs)
 
-true-false : true ≡ false → ⊥
+pub true-false : true ≡ false → ⊥
 true-false h = let z : _≡_ {A = ℕ} 1 0 = ap (λ (b : Bool). cond b 1 0) h in omega arith
 
 -- how many places a number has among some refusals
@@ -289,7 +290,7 @@ module _ (w : ℕ) where
       (by-refuse P Q (not (eqb (length cs) (length vs)) || ltb 16384 (length cs)) 3 0 _ (listed 3 rs 0 (omega arith)) λ e₁.
       by-refuse P Q (not (goodTable t)) 14 0 _ (listed 14 rs 0 (omega arith)) λ e₂.
       by-refuse P Q (eqb (length cs) 0) 12 0 _ (listed 12 rs 0 (omega arith)) λ e₃.
-      by-ops P Q t (operations cs vs) _ (λ p k. listed 4 rs p (omega arith))
+      by-ops P Q t (operations cs vs) _ (λ p k. (listed 4 rs p (omega arith), listed 17 rs p (omega arith)))
       (by-refuse P Q (not (roomFor b room)) 13 0 _ (listed 13 rs 0 (omega arith)) λ e₄. tt))
 
   encode : (t : List ℕ) (a : Arena) (size at : ℕ) → Replies (encodeRefusals (ops a) (batches a)) (encoded w t a size at)
@@ -304,7 +305,7 @@ module _ (w : ℕ) where
       by-refuse P Q (not (goodTable t)) 14 0 _ (listed 14 rs 0 (omega arith)) λ e₂.
       by-refuse P Q (ltb size at) 1 0 _ (listed 1 rs 0 (omega arith)) λ e₃.
       by-structure P Q w b _ (λ p k. listed 15 rs p k)
-      (by-ops P Q t (b .ops) _ (λ p k. listed 4 rs p k)
+      (by-ops P Q t (b .ops) _ (λ p k. (listed 4 rs p k, listed 17 rs p k))
       (by-refuse P Q (ltb size (at + length (blockBytes t b))) 13 0 _ (listed 13 rs 0 (omega arith)) λ e₄. tt)))
 
   decode : (t s : List ℕ) (at : ℕ) (room : Room) → Replies (decodeRefusals (length s) (told (countAt s at)) (toldBatches (headAt t s at room))) (decoded w t s at room)
@@ -316,7 +317,7 @@ module _ (w : ℕ) where
       let Q : Item Block → Type 0 = Any P in
       let two : (p : ℕ) → p ≤ length s → P 2 p = λ p l. listed 2 rs p (omega arith) in
       let three : P 3 0 = listed 3 rs 0 (omega arith) in
-      let four : (p : ℕ) → p < told (countAt s at) → P 4 p = λ p l. listed 4 rs p l in
+      let four : (p : ℕ) → p < told (countAt s at) → P 4 p × P 17 p = λ p l. (listed 4 rs p l, listed 17 rs p l) in
       let five : P 5 0 = listed 5 rs 0 (omega arith) in
       let batch : (p : ℕ) → p < k → P 6 p × P 7 p × P 8 p × P 9 p × P 10 p = λ p l. (listed 6 rs p l, listed 7 rs p l, listed 8 rs p l, listed 9 rs p l, listed 10 rs p l) in
       let eleven : P 11 0 = listed 11 rs 0 (omega arith) in
@@ -341,7 +342,7 @@ module _ (w : ℕ) where
       (by-refuse P Q (ltb 1048576 (length s)) 3 0 _ three λ e₁.
       by-refuse P Q (not (goodTable t)) 14 0 _ (listed 14 rs 0 (omega arith)) λ e₂.
       by-refuse P Q (ltb (length s) at) 1 0 _ (listed 1 rs 0 (omega arith)) λ e₃.
-      by-head P s two t at most three (λ p l. listed 4 rs p l) (listed 5 rs 0 (omega arith))
+      by-head P s two t at most three (λ p l. (listed 4 rs p l, listed 17 rs p l)) (listed 5 rs 0 (omega arith))
       (λ n e f. let l = count-limit s w (n .item) at (n .next) e in absurd (true-false (sym f ∙ rw (le-leb (n .item) 65535 l))))
       (λ k i e f. let l = batchCount-limit s w (k .item) i (k .next) e in absurd (true-false (sym f ∙ le-ltb 16384 (k .item) l))) (ltb-false (length s) at e₃))
 
@@ -365,7 +366,7 @@ module _ (w : ℕ) where
       replies rs (Inside P s two) (opHere t s at i)
       (by-refuse P (Inside P s two) (ltb 1048576 (length s)) 3 0 _ (listed 3 rs 0 (omega arith)) λ e₁.
       by-refuse P (Inside P s two) (not (goodTable t)) 14 0 _ (listed 14 rs 0 (omega arith)) λ e₂.
-      by-refuse P (Inside P s two) (ltb (length s) at) 1 0 _ (listed 1 rs 0 (omega arith)) λ e₃. by-op P s two t at i (ltb-false (length s) at e₃) (listed 4 rs i (omega arith)))
+      by-refuse P (Inside P s two) (ltb (length s) at) 1 0 _ (listed 1 rs 0 (omega arith)) λ e₃. by-op P s two t at i (ltb-false (length s) at e₃) (listed 4 rs i (omega arith), listed 17 rs i (omega arith)))
 
   structure : (a : Arena) → Replies (structureRefusals (batches a)) (structureChecked w a)
   unfolding structureChecked placesFor
@@ -402,7 +403,7 @@ module _ (w : ℕ) where
       (by-refuse P Q (not (within a)) 3 0 _ (listed 3 rs 0 (omega arith)) λ e₁.
       by-refuse P Q (not (goodTable t)) 14 0 _ (listed 14 rs 0 (omega arith)) λ e₂.
       by-structure P Q w b _ (λ p k. listed 15 rs p k)
-      (by-ops P Q t (b .ops) _ (λ p k. listed 4 rs p k)
+      (by-ops P Q t (b .ops) _ (λ p k. (listed 4 rs p k, listed 17 rs p k))
       (by-first P Q (commitmentFault t) (batches a) (λ x p k. by-commitment P t x p (listed 8 rs p k) (listed 9 rs p k) (listed 16 rs p k)) 0 (held b) _ (omega (arith, as-many (b .records) (b .ops) 0)) tt)))
 
   table : (entries : Block → List ℕ) (a : Arena) (room : ℕ) → Replies (tableRefusals (batches a)) (tableOf entries w a room)

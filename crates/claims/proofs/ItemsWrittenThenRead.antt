@@ -1,5 +1,6 @@
 -- What is written is read back: numbers, counts, operations, the batch count. Assumes nothing.
 use mathlib.Core.Path.{_≡_, refl, sym, ap, _∙_}
+use mathlib.Core.Bool.{not}
 use mathlib.Core.List.{List, [], _∷_, _++_}
 use Prim.Native.Nat.{ℕ, zero, suc, _+_, _-_, _*_, _/_, _%_, _^_, _≤_, _<_}
 use native.Mathlib.Nat.{pow-zero, pow-suc, mod-add-div, div-lt-iff-lt-mul, add-mul-mod-self-left, add-mul-div-left, mod-eq-of-lt, div-eq-of-lt, zero-add}
@@ -12,8 +13,8 @@ use lib.Count.{trailingZeros}
 use Rattle.rules.specs.Digits.{digits, number, leAt, leBytes}
 use Rattle.rules.specs.Answer.{found}
 use Rattle.rules.specs.Operations.{Op, field, kindOf, assigned, valued}
-use Rattle.rules.specs.Bytes.{least, countBy, countAt, more, countBytes, valueAt, opAt, opsAt, opBytes, opsBytes, batchCountAt}
-use Rattle.rules.proofs.Operations.{Admissible}
+use Rattle.rules.specs.Bytes.{least, countBy, countAt, more, countBytes, opAt, opsAt, opBytes, opsBytes, batchCountAt}
+use Rattle.rules.proofs.Operations.{Admissible, op-guards, value-guards, value-tested}
 use Rattle.rules.proofs.Digits.{length-digits, leAt-back}
 use Rattle.claims.proofs.Lists.{split, map-same}
 use Rattle.claims.proofs.Row.{row-back}
@@ -100,16 +101,16 @@ module _ (t : List ℕ) where
 
   module _ (p q : List ℕ) (x : Op) (i : ℕ) (ok : Admissible t x) where
     plain-back : kindOf t (x .code) ≡ 0 → opAt t (p ++ (opBytes t x ++ q)) (length p) i ≡ found x (length p + length (opBytes t x))
-    unfolding opAt assigned valued
+    unfolding assigned valued
     plain-back z =
         let s : List ℕ = p ++ (x .code ∷ q) in
         let n : length s ≡ length p + suc (length q) = length-append p (x .code ∷ q) in
-        rw (op-plain x z)
+        rw (op-plain x z, op-guards t s (length p) i)
         (simp (lt-leb (length s) (length p) (omega arith), getD-append-seam p (x .code) q 0, lt-ltb (x .code) 128 (ok .code), z)
         (ap (λ (v : ℕ). found (record { code = x .code; value = v }) (length p + 1)) (sym (ok .plain z))))
 
     valued-back : (kindOf t (x .code) ≡ 0 → ⊥) → opAt t (p ++ (opBytes t x ++ q)) (length p) i ≡ found x (length p + length (opBytes t x))
-    unfolding opAt valueAt assigned valued
+    unfolding assigned valued
     valued-back z =
         let c = x .code in
         let v = x .value in
@@ -117,7 +118,7 @@ module _ (t : List ℕ) where
         let n : length s ≡ length p + suc (8 + length q) = simp (length-append, length-digits) in
         let b : leAt 8 ((p ++ (c ∷ [])) ++ (leBytes 8 v ++ q)) (length (p ++ (c ∷ []))) ≡ v = leAt-back 8 v (p ++ (c ∷ [])) q (omega (arith, ok .small)) in
         let e : leAt 8 s (length p + 1) ≡ v = rw (append-snoc p c (leBytes 8 v ++ q), length-append) at b in
-        rw (op-valued x z)
+        rw (op-valued x z, op-guards t s (length p) i, value-guards t s (length p) i)
         (simp (
           lt-leb (length s) (length p) (omega arith),
           getD-append-seam p c (leBytes 8 v ++ q) 0,
@@ -126,6 +127,7 @@ module _ (t : List ℕ) where
           ne-eqb (kindOf t c) 0 z,
           le-ltb (length s) (length p + 9) (omega arith),
           e,
+          value-tested t (record { code = c; value = v }) (ap not (ne-eqb (kindOf t c) 0 z)),
           lt-ltb v field (ok .small),
           length-digits,
         ))

@@ -7,12 +7,12 @@ use native.Mathlib.Nat.{pow-le-pow-right}
 use native.Mathlib.Omega.{arith}
 use borrow.Author.Tests.{ltb-false, leb-true, le-leb, eq-eqb, not-false}
 use lib.ListN.{length, getD, take, drop, length-take}
-use lib.Dec.{leb, ltb, eqb}
+use lib.Dec.{leb, ltb}
 use lib.Count.{trailingZeros}
 use Rattle.rules.specs.Lists.{total, every, All}
 use Rattle.rules.specs.Digits.{digits, number, leAt}
 use Rattle.rules.specs.Answer.{found}
-use Rattle.rules.specs.Operations.{Op, codes, field, assigned, valued, hasImmediate, valueRight, goodTable, admissible}
+use Rattle.rules.specs.Operations.{Op, codes, assigned, valued, hasImmediate, valueRight, goodTable, admissible}
 use Rattle.rules.specs.Record.{Record, Block, startsFrom, codesNumber, recordBy, part, cut, immediates}
 use Rattle.rules.specs.Bytes.{countBy, countAt, valueAt, opAt, opsAt, batchCountAt, upTo, sizesAt, bitsAt, nibblesAt, flagsAt}
 use Rattle.rules.specs.Block.{Room, batchAt}
@@ -22,7 +22,7 @@ use Rattle.rules.specs.Functions.{decoded, roomFor}
 use Rattle.rules.proofs.Answer.{item, settle}
 use Rattle.rules.proofs.Digits.{length-digits}
 use Rattle.rules.proofs.Runs.{fitted-length}
-use Rattle.rules.proofs.Operations.{to-admissible, true-left, true-right}
+use Rattle.rules.proofs.Operations.{to-admissible, true-left, true-right, true-both, op-guards, value-guards}
 use Rattle.claims.proofs.Found.{clash, passed, came, Found, stages}
 use Rattle.claims.proofs.Row.{row-made}
 use Rattle.claims.proofs.WrittenThenRead.{number-small, all-fitted}
@@ -212,25 +212,25 @@ module _ (s : List ℕ) (w : ℕ) where
       rw (item n k (at + 4) next (c .1)) at (ltb-false 16384 n (c .0))
 
   module _ (t : List ℕ) where
-    tests : (c v : ℕ) → assigned t c ≡ true → (d : Bool) → valued t c ≡ d → cond d (ltb v field) (eqb v 0) ≡ true → admissible t (record { code = c; value = v }) ≡ true
-    unfolding admissible valueRight
-    tests c v l d e h = rw (l, e) h
+    plain : (c : ℕ) → valued t c ≡ false → valueRight t (record { code = c; value = 0 }) ≡ true
+    unfolding valueRight
+    plain c h = rw h
 
     op-allowed : (at i : ℕ) (x : Op) (next : ℕ) → opAt t s at i ≡ found x next → admissible t x ≡ true
-    unfolding opAt valueAt
+    unfolding admissible
     op-allowed at i x next h =
         let c = getD s at 0 in
-        let a = passed (leb (length s) at) 2 at _ x next h in
+        let a = passed (leb (length s) at) 2 at _ x next (rw (op-guards t s at i) at h) in
         let d = passed (not (assigned t c)) 4 i _ x next (a .1) in
         go (valued t c) refl (not-false _ (d .0)) (d .1)
       where
-        go : (v : Bool) → valued t (getD s at 0) ≡ v → assigned t (getD s at 0) ≡ true → cond v (valueAt s at i (getD s at 0)) (found (record { code = getD s at 0; value = 0 }) (at + 1)) ≡ found x next → admissible t x ≡ true
+        go : (v : Bool) → valued t (getD s at 0) ≡ v → assigned t (getD s at 0) ≡ true → cond v (valueAt t s at i (getD s at 0)) (found (record { code = getD s at 0; value = 0 }) (at + 1)) ≡ found x next → admissible t x ≡ true
         go true v k e =
-            let n = leAt 8 s (at + 1) in
-            let f = passed (ltb (length s) (at + 9)) 2 at _ x next e in
-            let g = passed (not (ltb n field)) 4 i _ x next (f .1) in
-            settle (λ x next. admissible t x ≡ true) (record { code = getD s at 0; value = n }) x (at + 9) next (g .1) (tests (getD s at 0) n k true v (not-false _ (g .0)))
-        go false v k e = settle (λ x next. admissible t x ≡ true) (record { code = getD s at 0; value = 0 }) x (at + 1) next e (tests (getD s at 0) 0 k false v refl)
+            let y : Op = record { code = getD s at 0; value = leAt 8 s (at + 1) } in
+            let f = passed (ltb (length s) (at + 9)) 2 at _ x next (rw (value-guards t s at i (getD s at 0)) at e) in
+            let g = passed (not (valueRight t y)) 17 i _ x next (f .1) in
+            settle (λ x next. admissible t x ≡ true) y x (at + 9) next (g .1) (true-both _ _ k (not-false _ (g .0)))
+        go false v k e = settle (λ x next. admissible t x ≡ true) (record { code = getD s at 0; value = 0 }) x (at + 1) next e (true-both _ _ k (plain (getD s at 0) v))
 
     pub ops-allowed : (n at i : ℕ) (xs : List Op) (next : ℕ) → opsAt t s n at i ≡ found xs next → (length xs ≡ n) × All (λ x. admissible t x ≡ true) xs
     ops-allowed = row-made (opAt t s) (λ x. admissible t x ≡ true) op-allowed

@@ -12,7 +12,7 @@ use lib.Count.{trailingZeros, under}
 use Rattle.rules.specs.Lists.{total, inRow}
 use Rattle.rules.specs.Digits.{digits, number, leAt, leBytes}
 use Rattle.rules.specs.Answer.{found}
-use Rattle.rules.specs.Operations.{Op, field, assigned, valued}
+use Rattle.rules.specs.Operations.{Op, assigned, valued, valueRight}
 use Rattle.rules.specs.Record.{Record, Block, cut}
 use Rattle.rules.specs.Bytes.{least, countBy, countAt, more, countBytes, valueAt, opAt, opsAt, opBytes, opsBytes, batchCountAt, nibbleBytes, flagBytes, upTo, sizesAt, bitsAt, nibblesAt, flagsAt}
 use Rattle.rules.specs.Block.{Room, blockBytes, placingsFault, countFrom, batchAt}
@@ -28,6 +28,7 @@ use Rattle.claims.proofs.Found.{passed, came, Found, stages}
 use Rattle.claims.proofs.Row.{row-taken}
 use Rattle.rules.proofs.Slots.{batchByBatch, batches-is}
 use Rattle.claims.proofs.WrittenThenRead.{sizesOf, differences-starts}
+use Rattle.rules.proofs.Operations.{op-guards, value-guards}
 
 module _ (s : List ℕ) (bytes : (i : ℕ) → getD s i 0 < 256) where
   -- ---- numbers
@@ -117,25 +118,24 @@ module _ (s : List ℕ) (bytes : (i : ℕ) → getD s i 0 < 256) where
         let ex : record { code = c; value = 0 } ≡ x = item _ x (at + 1) next h in
         rw (sym ex, v) (record { stands = rw (sym e) (single s at l); next = sym (L.next _ x (at + 1) next h) })
 
-    valued-taken : (c i : ℕ) (x : Op) (at next : ℕ) → at < length s → getD s at 0 ≡ c → valued t c ≡ true → valueAt s at i c ≡ found x next → Taken (opBytes t x) s at next
-    unfolding valueAt opBytes
+    valued-taken : (c i : ℕ) (x : Op) (at next : ℕ) → at < length s → getD s at 0 ≡ c → valued t c ≡ true → valueAt t s at i c ≡ found x next → Taken (opBytes t x) s at next
+    unfolding opBytes
     valued-taken c i x at next l e v h =
-        let a = passed (ltb (length s) (at + 9)) 2 at _ x next h in
-        let b = passed (not (ltb (leAt 8 s (at + 1)) field)) 4 i _ x next (a .1) in
+        let a = passed (ltb (length s) (at + 9)) 2 at _ x next (rw (value-guards t s at i c) at h) in
+        let b = passed (not (valueRight t (record { code = c; value = leAt 8 s (at + 1) }))) 17 i _ x next (a .1) in
         let ex : record { code = c; value = leAt 8 s (at + 1) } ≡ x = item _ x (at + 9) next (b .1) in
         let r = ltb-false (length s) (at + 9) (a .0) in
         let one : Taken (c ∷ []) s at (at + 1) = record { stands = rw (sym e) (single s at l); next = refl } in
         rw (sym ex, v) (and-then (c ∷ []) (leBytes 8 (leAt 8 s (at + 1))) s at (at + 1) next one (leAt-taken 8 (at + 1) next (leAt 8 s (at + 1)) (omega arith) refl (omega (arith, L.next _ x (at + 9) next (b .1)))))
 
     op-taken : (x : Op) (at i next : ℕ) → opAt t s at i ≡ found x next → Taken (opBytes t x) s at next
-    unfolding opAt
     op-taken x at i next h =
         let c = getD s at 0 in
-        let a = passed (leb (length s) at) 2 at _ x next h in
+        let a = passed (leb (length s) at) 2 at _ x next (rw (op-guards t s at i) at h) in
         let d = passed (not (assigned t c)) 4 i _ x next (a .1) in
         go (valued t c) refl (leb-false (length s) at (a .0)) (d .1)
       where
-        go : (v : Bool) → valued t (getD s at 0) ≡ v → at < length s → cond v (valueAt s at i (getD s at 0)) (found (record { code = getD s at 0; value = 0 }) (at + 1)) ≡ found x next → Taken (opBytes t x) s at next
+        go : (v : Bool) → valued t (getD s at 0) ≡ v → at < length s → cond v (valueAt t s at i (getD s at 0)) (found (record { code = getD s at 0; value = 0 }) (at + 1)) ≡ found x next → Taken (opBytes t x) s at next
         go true v l e = valued-taken (getD s at 0) i x at next l refl v e
         go false v l e = plain-taken (getD s at 0) x at next l refl v e
 

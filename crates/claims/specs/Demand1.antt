@@ -37,16 +37,17 @@ ops a = length (blockIn a .ops)
 abbrev pub batches : Arena → ℕ
 batches a = length (blockIn a .records)
 
--- the refusals of each function, in document 01's order, where there are n operations and k batches; 15 has the batch total as a last place
+-- the refusals of each function, in document 01's order, where there are n operations and k batches; 4 and M-101's 17 go operation by operation, and 15
+-- has the batch total as a last place
 abbrev pub buildRefusals : ℕ → List Refusal
-buildRefusals n = 3 of 1 ∷ 14 of 1 ∷ 12 of 1 ∷ 4 of n ∷ 13 of 1 ∷ []
+buildRefusals n = 3 of 1 ∷ 14 of 1 ∷ 12 of 1 ∷ 4 of n ∷ 17 of n ∷ 13 of 1 ∷ []
 
 abbrev pub encodeRefusals : ℕ → ℕ → List Refusal
-encodeRefusals n k = 3 of 1 ∷ 14 of 1 ∷ 1 of 1 ∷ 15 of (k + 1) ∷ 4 of n ∷ 13 of 1 ∷ []
+encodeRefusals n k = 3 of 1 ∷ 14 of 1 ∷ 1 of 1 ∷ 15 of (k + 1) ∷ 4 of n ∷ 17 of n ∷ 13 of 1 ∷ []
 
--- of a buffer of this size: 2 has the byte where an item starts, which may be the buffer's end; 4 an operation; 6 to 10 a batch
+-- of a buffer of this size: 2 has the byte where an item starts, which may be the buffer's end; 4 and 17 an operation; 6 to 10 a batch
 abbrev pub decodeRefusals : ℕ → ℕ → ℕ → List Refusal
-decodeRefusals size n k = 3 of 1 ∷ 14 of 1 ∷ 1 of 1 ∷ 2 of (size + 1) ∷ 13 of 1 ∷ 4 of n ∷ 5 of 1 ∷ 6 of k ∷ 7 of k ∷ 8 of k ∷ 9 of k ∷ 10 of k ∷ 11 of 1 ∷ []
+decodeRefusals size n k = 3 of 1 ∷ 14 of 1 ∷ 1 of 1 ∷ 2 of (size + 1) ∷ 13 of 1 ∷ 4 of n ∷ 17 of n ∷ 5 of 1 ∷ 6 of k ∷ 7 of k ∷ 8 of k ∷ 9 of k ∷ 10 of k ∷ 11 of 1 ∷ []
 
 -- how many operations and batches the block at a place says that it has; 0 where its bytes do not come to say it
 abbrev pub told : Read ℕ → ℕ
@@ -59,14 +60,14 @@ toldBatches (refused n p) = 0
 
 -- of its head alone, which wants no room
 abbrev pub headRefusals : ℕ → ℕ → List Refusal
-headRefusals size n = 3 of 1 ∷ 14 of 1 ∷ 1 of 1 ∷ 2 of (size + 1) ∷ 4 of n ∷ 5 of 1 ∷ []
+headRefusals size n = 3 of 1 ∷ 14 of 1 ∷ 1 of 1 ∷ 2 of (size + 1) ∷ 4 of n ∷ 17 of n ∷ 5 of 1 ∷ []
 
 -- the reader's steps; the operation is the i-th
 abbrev pub countRefusals : ℕ → List Refusal
 countRefusals size = 3 of 1 ∷ 1 of 1 ∷ 2 of (size + 1) ∷ []
 
 abbrev pub opRefusals : ℕ → ℕ → List Refusal
-opRefusals size i = 3 of 1 ∷ 14 of 1 ∷ 1 of 1 ∷ 2 of (size + 1) ∷ 4 of (i + 1) ∷ []
+opRefusals size i = 3 of 1 ∷ 14 of 1 ∷ 1 of 1 ∷ 2 of (size + 1) ∷ 4 of (i + 1) ∷ 17 of (i + 1) ∷ []
 
 abbrev pub structureRefusals : ℕ → List Refusal
 structureRefusals k = 3 of 1 ∷ 15 of (k + 1) ∷ []
@@ -75,7 +76,7 @@ abbrev pub paddingRefusals : ℕ → List Refusal
 paddingRefusals k = 3 of 1 ∷ 15 of (k + 1) ∷ 10 of k ∷ []
 
 abbrev pub commitmentRefusals : ℕ → ℕ → List Refusal
-commitmentRefusals n k = 3 of 1 ∷ 14 of 1 ∷ 15 of (k + 1) ∷ 4 of n ∷ 16 of k ∷ 8 of k ∷ 9 of k ∷ []
+commitmentRefusals n k = 3 of 1 ∷ 14 of 1 ∷ 15 of (k + 1) ∷ 4 of n ∷ 17 of n ∷ 16 of k ∷ 8 of k ∷ 9 of k ∷ []
 
 abbrev pub tableRefusals : ℕ → List Refusal
 tableRefusals k = 3 of 1 ∷ 15 of (k + 1) ∷ 10 of k ∷ 13 of 1 ∷ []

@@ -9,10 +9,11 @@ use borrow.Author.Tests.{eq-eqb, ne-eqb}
 use lib.ListN.{length, getD, take, drop, drop-of-length-le, length-take, length-drop}
 use lib.Seq.{drop-cons, getD-take, getD-drop}
 use lib.Dec.{eqb}
+use Rattle.rules.specs.Answer.{orElse}
 use Rattle.rules.specs.Digits.{number}
 use Rattle.rules.specs.Operations.{Op, operations, codes, kindOf, hasImmediate}
 use Rattle.rules.specs.Record.{Record, differences, codesNumber, cut, immediates}
-use Rattle.rules.specs.Checks.{placingFault, begins, orElse, groupsFault, emptyZero}
+use Rattle.rules.specs.Checks.{placingFault, begins, groupsFault, emptyZero}
 use Rattle.rules.proofs.Operations.{op, drop-operations}
 use Rattle.checks.specs.Batch.{Apt, under, span}
 use Rattle.checks.proofs.Groups.{Lying, span-turn, span-none, under-start, under-turn, under-none, in-order, within-codes, bounds}

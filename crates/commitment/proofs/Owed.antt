@@ -4,9 +4,10 @@ use mathlib.Core.List.{List}
 use Prim.Native.Nat.{ℕ, _+_, _-_, _≤_, _<_}
 use native.Mathlib.Omega.{arith}
 use lib.ListN.{length, getD}
+use Rattle.rules.specs.Answer.{orElse}
 use Rattle.rules.specs.Operations.{Op, operations}
 use Rattle.rules.specs.Record.{Record, recordAt, codesNumber, immediates}
-use Rattle.rules.specs.Checks.{placingFault, orElse, commitmentFault}
+use Rattle.rules.specs.Checks.{placingFault, commitmentFault}
 use Rattle.rules.specs.Functions.{Arena}
 use Rattle.checks.specs.Batch.{under, span}
 use Rattle.commitment.specs.Walk.{slotsAfter, admissibleFrom, BatchRight}

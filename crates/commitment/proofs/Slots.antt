@@ -8,7 +8,7 @@ use native.Mathlib.Omega.{arith}
 use borrow.Author.Tests.{lt-ltb, le-leb, lt-leb, ne-eqb, leb-false, eqb-true}
 use lib.ListN.{length, getD, drop}
 use lib.Dec.{leb, eqb}
-use Rattle.rules.specs.Operations.{Op, operations, kindOf, hasImmediate, field, assigned, valued, valueRight, admissible, opFault}
+use Rattle.rules.specs.Operations.{Op, operations, kindOf, hasImmediate, field, assigned, valued, valueRight, codeFault, valueFault, opFault}
 use Rattle.rules.specs.Record.{codesNumber, immediates}
 use Rattle.rules.specs.Checks.{begins}
 use Rattle.rules.proofs.Digits.{split}
@@ -128,12 +128,12 @@ record Follows (t : List ℕ) (x : Op) (ns : List ℕ) (j k : ℕ) : Type 0 wher
 module _ (t : List ℕ) (x : Op) (c : x .code < 128) where
   -- of kind 0
   admits-plain : kindOf t (x .code) ≡ 0 → x .value ≡ 0 → opFault t x ≡ 0
-  unfolding opFault admissible assigned valueRight valued
+  unfolding opFault codeFault valueFault assigned valueRight valued
   admits-plain k v = rw (lt-ltb (x .code) 128 c, k, v)
 
   -- of kinds 1 and 2
   admits-valued : (k : ℕ) → kindOf t (x .code) ≡ k → 0 < k → k < 3 → x .value < field → opFault t x ≡ 0
-  unfolding opFault admissible assigned valueRight valued
+  unfolding opFault codeFault valueFault assigned valueRight valued
   admits-valued k e p q v = rw (lt-ltb (x .code) 128 c, e, lt-ltb k 3 q, ne-eqb k 0 (λ z. absurd (omega arith)), lt-ltb (x .value) field v)
 
   module _ (ns : List ℕ) (j : ℕ) (h : j ≤ 8) where

@@ -362,7 +362,7 @@ fn all_right(table: &[u8], codes: &[u8], values: &[u64], records: &[u8]) -> bool
 
 // ---- the check
 
-// Commitment: refusals 3, 14, 15, 4, then batch by batch 16, 8 or 9. Where not all is right, the walks above say what goes first.
+// Commitment: refusals 3, 14, 15, 4 or 17 (M-101), then batch by batch 16, 8 or 9. Where not all is right, the walks above say what goes first.
 pub fn commitment(table: &[u8], codes: &[u8], values: &[u64], records: &[u8]) -> Verdict
     ensures { λ r. ⌜ r ≡ verdictOf (commitmentChecked 8 (now (table .entry)) (arena (now (codes .entry)) (now (values .entry)) (now (records .entry)))) ⌝ }
 {

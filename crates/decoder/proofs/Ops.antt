@@ -14,10 +14,10 @@ use lib.Count.{trailingZeros}
 use Rattle.rules.specs.Digits.{leAt}
 use Rattle.rules.specs.Answer.{refused, Read, found, row}
 use Rattle.rules.specs.Refusals.{no-room₁₃}
-use Rattle.rules.specs.Operations.{Op, operations, codes, values, kindOf, assigned, valued, field}
+use Rattle.rules.specs.Operations.{Op, operations, codes, values, kindOf, assigned, valued, valueRight}
 use Rattle.rules.specs.Bytes.{least, countBy, countAt, opAt, valueAt, opsAt, batchCountAt}
 use Rattle.rules.specs.Block.{Head}
-use Rattle.rules.proofs.Operations.{op, true-left, codes-back}
+use Rattle.rules.proofs.Operations.{op, true-left, codes-back, op-guards, value-guards}
 use Rattle.wire.specs.declared.CountRead.{CountRead}
 use Rattle.wire.specs.declared.CountRead.the-variants as count
 use Rattle.wire.specs.Stages.{IfFound, Staged}
@@ -62,18 +62,18 @@ module _ (t s : List ℕ) (n at i : ℕ) where
 abbrev One : ℕ → Op → ℕ → Type 0
 One at x next = (x .code < 128) × (at ≤ next)
 
-value-found : (s : List ℕ) (at i c : ℕ) → c < 128 → IfFound (One at) (valueAt s at i c)
-unfolding valueAt
-value-found s at i c h =
-    if-refuse _ (ltb (length s) (at + 9)) 2 at _ (λ _. if-refuse _ (not (ltb (leAt 8 s (at + 1)) field)) 4 i _ (λ _. (h, omega arith)))
+value-found : (t s : List ℕ) (at i c : ℕ) → c < 128 → IfFound (One at) (valueAt t s at i c)
+value-found t s at i c h =
+    rw (value-guards t s at i c) (if-refuse _ (ltb (length s) (at + 9)) 2 at _ (λ _. if-refuse _ (not (valueRight t _)) 17 i _ (λ _. (h, omega arith))))
 
 op-found : (t s : List ℕ) (at i : ℕ) → IfFound (One at) (opAt t s at i)
-unfolding opAt assigned
+unfolding assigned
 op-found t s at i =
     let c = getD s at 0 in
-    if-refuse _ (leb (length s) at) 2 at _ (λ _. if-refuse _ (not (assigned t c)) 4 i _ (λ a.
+    rw (op-guards t s at i)
+    (if-refuse _ (leb (length s) at) 2 at _ (λ _. if-refuse _ (not (assigned t c)) 4 i _ (λ a.
     let h : c < 128 = ltb-true c 128 (true-left (ltb c 128) (ltb (kindOf t c) 3) (not-false (assigned t c) a)) in
-    kind (valued t c) (valueAt s at i c) (found (op c 0) (at + 1)) (value-found s at i c h) (h, omega arith)))
+    kind (valued t c) (valueAt t s at i c) (found (op c 0) (at + 1)) (value-found t s at i c h) (h, omega arith))))
   where
     kind : (b : Bool) (x y : Read Op) → IfFound (One at) x → IfFound (One at) y → IfFound (One at) (cond b x y)
     kind true x y p q = p

@@ -18,7 +18,7 @@ abbrev pub handVerdict : Verdict → Encoded
 handVerdict verdict.Passed = whole.Refused 0 0
 handVerdict (verdict.Refused n p) = whole.Refused n p
 
--- what is looked at before the block's length: 3, 14, 1, 15, 4
+-- what is looked at before the block's length: 3, 14, 1, 15, and 4 or 17
 unfoldable pub inputsChecked : ℕ → List ℕ → Arena → ℕ → ℕ → Answer Unit
 inputsChecked w t a size at =
     refuse (not (within a) || ltb 1048576 size) over-limit₃ 0

@@ -37,7 +37,7 @@ fn not_passed(v: Verdict) -> Encoded
     }
 }
 
-// 3, 14, 1, 15 and 4, for a buffer of this size.
+// 3, 14, 1, 15, and 4 or 17 (M-101), for a buffer of this size.
 fn check_inputs(
     width: usize,
     table: &[u8],

@@ -11,7 +11,7 @@ use lib.Count.{trailingZeros}
 use Rattle.rules.specs.Digits.{leAt}
 use Rattle.rules.specs.Answer.{Answer, good, refused, refuse, Read, found, _then_, row}
 use Rattle.rules.specs.Refusals.{no-room₁₃}
-use Rattle.rules.specs.Operations.{Op, goodTable, assigned, valued, field}
+use Rattle.rules.specs.Operations.{Op, goodTable, assigned, valued, valueRight}
 use Rattle.rules.specs.Bytes.{least, countBy, countAt, valueAt, opAt, opsAt, batchCountAt}
 use Rattle.rules.specs.Block.{Room, Head, headAt, blockAt}
 use Rattle.rules.specs.Functions.{most, decoded, headed}
@@ -20,6 +20,7 @@ use Rattle.wire.specs.Stages.{IfFound}
 use Rattle.wire.proofs.Stages.{if-then, held}
 use Rattle.head.specs.Enough.{Enough}
 use Rattle.head.proofs.Heads.{few-operations, few-batches}
+use Rattle.rules.proofs.Operations.{op-guards, value-guards}
 
 -- ---- a head that was found is found with less room, if it is enough
 
@@ -87,15 +88,14 @@ module _ (t s : List ℕ) where
       not-refuse (leb (length s) at) 2 at _ (λ e. omega arith) (not-refuse (ltb 2 k) 3 0 _ (λ e. omega arith) (not-refuse (ltb (length s) (at + k + 1)) 2 at _ (λ e. omega arith)
       (not-refuse (ltb v (least k)) 3 0 _ (λ e. omega arith) (not-refuse (ltb 65535 v) 3 0 _ (λ e. omega arith) (not-good _)))))
 
-  not-value : (at i c : ℕ) → Not13 (valueAt s at i c)
-  unfolding valueAt
-  not-value at i c = not-refuse (ltb (length s) (at + 9)) 2 at _ (λ e. omega arith) (not-refuse (not (ltb (leAt 8 s (at + 1)) field)) 4 i _ (λ e. omega arith) (not-good _))
+  not-value : (at i c : ℕ) → Not13 (valueAt t s at i c)
+  not-value at i c = rw (value-guards t s at i c) (not-refuse (ltb (length s) (at + 9)) 2 at _ (λ e. omega arith) (not-refuse (not (valueRight t _)) 17 i _ (λ e. omega arith) (not-good _)))
 
   not-op : (at i : ℕ) → Not13 (opAt t s at i)
-  unfolding opAt
   not-op at i =
       let c = getD s at 0 in
-      not-refuse (leb (length s) at) 2 at _ (λ e. omega arith) (not-refuse (not (assigned t c)) 4 i _ (λ e. omega arith) (not-cond (valued t c) (valueAt s at i c) _ (not-value at i c) (not-good _)))
+      rw (op-guards t s at i)
+      (not-refuse (leb (length s) at) 2 at _ (λ e. omega arith) (not-refuse (not (assigned t c)) 4 i _ (λ e. omega arith) (not-cond (valued t c) (valueAt t s at i c) _ (not-value at i c) (not-good _))))
 
   not-ops : (n at i : ℕ) → Not13 (opsAt t s n at i)
   unfolding row

@@ -65,7 +65,7 @@ pub fn value_right(kind: u8, v: u64) -> bool
     v < FIELD
 }
 
-// The number of refusal of one operation; 0 where it is admissible.
+// The number of refusal of one operation, whose opcode is looked at first; 0 where it is admissible.
 pub fn fault(table: &[u8], code: u8, v: u64) -> u8
     requires { ⌜ length (now table) ≡ 128 ⌝ }
     ensures { λ r. ⌜ r ≡ opFault (now (table .entry)) (op code v) ⌝ }
@@ -80,7 +80,7 @@ pub fn fault(table: &[u8], code: u8, v: u64) -> u8
     if value_right(kind, v) {
         return 0;
     }
-    4
+    17
 }
 
 // The first operation of a list that is not admissible.

@@ -1,6 +1,6 @@
 -- Laws of answers: what a good answer says of the guards and stages before it, and the walk to the first fault. Assumes nothing.
 use mathlib.Core.Path.{_≡_, refl, sym, ap, _∙_}
-use mathlib.Core.Bool.{Bool, true, false}
+use mathlib.Core.Bool.{Bool, true, false, cond, not}
 use mathlib.Core.List.{List, [], _∷_, _++_}
 use Prim.Native.Nat.{ℕ, zero, suc, _+_, _<_}
 use native.Mathlib.Omega.{arith}
@@ -36,6 +36,12 @@ module _ {A : Type 0} where
   pub first-done : (i : ℕ) (r : Answer A) → refuseFirst i [] r ≡ r
   unfolding refuseFirst
   first-done i r = refl
+
+  -- a single one is a guard
+  pub first-guard : (b : Bool) (n i : ℕ) (r : Answer A) → refuseFirst i (cond b 0 (suc n) ∷ []) r ≡ refuse (not b) (suc n) i r
+  unfolding refuseFirst
+  first-guard true n i r = refl
+  first-guard false n i r = refl
 
   -- no fault in a good answer
   pub no-fault : (i : ℕ) (ns : List ℕ) (r : Answer A) (a : A) → refuseFirst i ns r ≡ good a → ((k : ℕ) → k < length ns → getD ns k 0 ≡ 0) × (r ≡ good a)

@@ -1,6 +1,6 @@
 -- Laws of operations and their table. Assumes nothing.
 use mathlib.Core.Path.{_≡_, refl, sym, ap}
-use mathlib.Core.Bool.{Bool, true, false, cond, _&&_}
+use mathlib.Core.Bool.{Bool, true, false, cond, not, _&&_}
 use mathlib.Core.List.{List, [], _∷_}
 use Prim.Native.Nat.{ℕ, zero, suc, _+_, _≤_, _<_}
 use native.Mathlib.Nat.{le-of-suc-le-suc, not-suc-le-zero}
@@ -11,8 +11,12 @@ use lib.ListN.{length, getD, take, drop, drop-of-length-le}
 use lib.Seq.{drop-cons}
 use lib.Dec.{leb, ltb, eqb}
 use Rattle.rules.specs.Lists.{every}
-use Rattle.rules.specs.Operations.{Op, operations, codes, values, kindOf, goodTable, noop, assigned, valued, hasImmediate, field, valueRight, admissible, opFault}
+use Rattle.rules.specs.Operations.{Op, operations, codes, values, kindOf, goodTable, noop, assigned, valued, hasImmediate, field, valueRight, admissible, codeFault, valueFault, opFault}
+use Rattle.rules.specs.Answer.{found, refuse}
+use Rattle.rules.specs.Digits.{leAt}
+use Rattle.rules.specs.Bytes.{valueAt, opAt}
 use Rattle.rules.specs.Record.{part}
+use Rattle.rules.proofs.Answer.{first-guard}
 
 -- ---- tests
 
@@ -121,16 +125,60 @@ to-admissible t x h =
     }
 
 pub fault-none : (t : List ℕ) (x : Op) → admissible t x ≡ true → opFault t x ≡ 0
-unfolding opFault
-fault-none t x h = rw h
+unfolding opFault codeFault valueFault admissible
+fault-none t x h = rw (true-left (assigned t (x .code)) (valueRight t x) h, true-right (assigned t (x .code)) (valueRight t x) h)
+
+-- the two faults, however their tests are put: each case is computed
+code-fault : (t : List ℕ) (c : ℕ) → codeFault t c ≡ cond (assigned t c) 0 4
+unfolding codeFault assigned
+code-fault t c = go (ltb c 128) (ltb (kindOf t c) 3) refl refl
+  where
+    go : (a k : Bool) → ltb c 128 ≡ a → ltb (kindOf t c) 3 ≡ k → codeFault t c ≡ cond (assigned t c) 0 4
+    go true true p q = simp (p, q)
+    go true false p q = simp (p, q)
+    go false k p q = simp p
+
+value-fault : (t : List ℕ) (x : Op) → valueFault t x ≡ cond (valueRight t x) 0 17
+unfolding valueFault
+value-fault t x = go (valueRight t x) (valued t (x .code)) refl refl
+  where
+    go : (v k : Bool) → valueRight t x ≡ v → valued t (x .code) ≡ k → valueFault t x ≡ cond (valueRight t x) 0 17
+    go true k p q = simp p
+    go false true p q = simp (p, q)
+    go false false p q = simp (p, q)
+
+pub none-fault : (t : List ℕ) (x : Op) → opFault t x ≡ 0 → admissible t x ≡ true
+unfolding opFault admissible
+none-fault t x h = go (assigned t (x .code)) (valueRight t x) refl refl
+  where
+    go : (a v : Bool) → assigned t (x .code) ≡ a → valueRight t x ≡ v → (assigned t (x .code) && valueRight t x) ≡ true
+    go true true p q = simp (p, q)
+    go true false p q = let e : opFault t x ≡ 17 = simp (code-fault, value-fault, p, q) in absurd (omega arith)
+    go false v p q = let e : opFault t x ≡ 4 = simp (code-fault, p) in absurd (omega arith)
 
 pub admitted : (t : List ℕ) (x : Op) → opFault t x ≡ 0 → Admissible t x
-unfolding opFault
-admitted t x h = to-admissible t x (go (admissible t x) h)
-  where
-    go : (b : Bool) → _≡_ {A = ℕ} (cond b 0 4) 0 → b ≡ true
-    go true k = refl
-    go false k = absurd (omega arith)
+admitted t x h = to-admissible t x (none-fault t x h)
+
+-- ---- an operation in bytes, guard by guard
+
+module _ (t s : List ℕ) (at i : ℕ) where
+  pub op-guards : opAt t s at i
+      ≡ refuse (leb (length s) at) 2 at
+      (refuse (not (assigned t (getD s at 0))) 4 i
+      (cond (valued t (getD s at 0)) (valueAt t s at i (getD s at 0)) (found (record { code = getD s at 0; value = 0 }) (at + 1))))
+  unfolding opAt
+  op-guards = rw (code-fault t (getD s at 0), first-guard (assigned t (getD s at 0)) 3)
+
+  pub value-guards : (c : ℕ) → valueAt t s at i c
+      ≡ refuse (ltb (length s) (at + 9)) 2 at
+      (refuse (not (valueRight t (record { code = c; value = leAt 8 s (at + 1) }))) 17 i
+      (found (record { code = c; value = leAt 8 s (at + 1) }) (at + 9)))
+  unfolding valueAt
+  value-guards c = let x : Op = record { code = c; value = leAt 8 s (at + 1) } in rw (value-fault t x, first-guard (valueRight t x) 16)
+
+pub value-tested : (t : List ℕ) (x : Op) → valued t (x .code) ≡ true → valueRight t x ≡ ltb (x .value) field
+unfolding valueRight
+value-tested t x h = rw h
 
 -- ---- the operations of two runs, and of parts of them
 

@@ -11,11 +11,11 @@ use lib.ListN.{length, getD, take, drop, replicate, length-append, length-take, 
 use lib.Seq.{append-snoc, getD-append-seam}
 use lib.Dec.{ltb}
 use Rattle.rules.specs.Lists.{fitted, total}
-use Rattle.rules.specs.Answer.{Answer, good, refused, Read, found, refuse, refuseFirst, _then_, row}
+use Rattle.rules.specs.Answer.{Answer, good, refused, Read, found, refuse, orElse, refuseFirst, _then_, row}
 use Rattle.rules.specs.Refusals.{no-slot₈, slot-taken₉}
 use Rattle.rules.specs.Operations.{Op}
 use Rattle.rules.specs.Record.{Record, part, cut, immediates, codesNumber, recordBy}
-use Rattle.rules.specs.Checks.{orElse, placingFault, paddingRight}
+use Rattle.rules.specs.Checks.{placingFault, paddingRight}
 use Rattle.rules.specs.Block.{placingsFault, numbersFrom, countFrom, batchAt, batchesAt}
 use Rattle.rules.proofs.Answer.{no-fault}
 use Rattle.rules.proofs.Runs.{fitted-zeros}

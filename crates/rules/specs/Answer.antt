@@ -12,6 +12,11 @@ abbrev pub refuse : {A : Type 0} → Bool → ℕ → ℕ → Answer A → Answe
 refuse true n p r = refused n p
 refuse false n p r = r
 
+-- a fault is a number of refusal, or 0 for none: the first of two
+abbrev pub orElse : ℕ → ℕ → ℕ
+orElse zero n = n
+orElse (suc m) n = suc m
+
 -- Each element's fault, 0 where it has none: the first fault refuses, and its place is the element's ("A place counts from 0 and names the first at fault").
 -- The first element here is the i-th.
 unfoldable pub refuseFirst : {A : Type 0} → ℕ → List ℕ → Answer A → Answer A

@@ -6,11 +6,11 @@ use lib.ListN.{length, getD, take}
 use lib.Dec.{leb, ltb}
 use Rattle.rules.specs.Lists.{fitted, total}
 use Rattle.rules.specs.Digits.{leBytes}
-use Rattle.rules.specs.Answer.{Read, found, refuse, refuseFirst, _then_, row}
+use Rattle.rules.specs.Answer.{Read, found, refuse, orElse, refuseFirst, _then_, row}
 use Rattle.rules.specs.Refusals.{past-operations₇, bad-padding₁₀, left-over₁₁, no-room₁₃}
 use Rattle.rules.specs.Operations.{Op}
 use Rattle.rules.specs.Record.{Record, Block, startsFrom, cut, immediates, codesNumber}
-use Rattle.rules.specs.Checks.{orElse, placingFault, paddingRight}
+use Rattle.rules.specs.Checks.{placingFault, paddingRight}
 use Rattle.rules.specs.Bytes.{countAt, countBytes, opsAt, opsBytes, batchCountAt, nibblesAt, nibbleBytes, flagsAt, flagBytes}
 
 -- ---- writing: the five items, one after the other

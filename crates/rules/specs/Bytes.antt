@@ -7,9 +7,9 @@ use lib.Dec.{leb, ltb}
 use lib.Count.{trailingZeros}
 use Rattle.rules.specs.Lists.{every, inRow}
 use Rattle.rules.specs.Digits.{digits, number, leBytes, leAt}
-use Rattle.rules.specs.Answer.{Read, found, refuse, row}
-use Rattle.rules.specs.Refusals.{cut-short₂, over-limit₃, inadmissible₄, too-many-batches₅, bad-nibble₆}
-use Rattle.rules.specs.Operations.{Op, assigned, valued, field}
+use Rattle.rules.specs.Answer.{Read, found, refuse, refuseFirst, row}
+use Rattle.rules.specs.Refusals.{cut-short₂, over-limit₃, too-many-batches₅, bad-nibble₆}
+use Rattle.rules.specs.Operations.{Op, valued, codeFault, valueFault}
 use Rattle.rules.specs.Record.{Record, differences}
 
 -- ---- 1. "Count of padded operations."
@@ -44,20 +44,20 @@ countBytes v = leBytes (more v + 1) ((2 * v + 1) * 2 ^ more v)
 
 -- ---- 2. "Each operation: opcode byte; for kinds 1 and 2, the value as 8 bytes, little-endian."
 
-unfoldable pub valueAt : List ℕ → ℕ → ℕ → ℕ → Read Op
-valueAt s at i c =
+unfoldable pub valueAt : List ℕ → List ℕ → ℕ → ℕ → ℕ → Read Op
+valueAt t s at i c =
     refuse (ltb (length s) (at + 9)) cut-short₂ at
-    (let v = leAt 8 s (at + 1) in
-    refuse (not (ltb v field)) inadmissible₄ i
-    (found (record { code = c; value = v }) (at + 9)))
+    (let x : Op = record { code = c; value = leAt 8 s (at + 1) } in
+    refuseFirst i (valueFault t x ∷ [])
+    (found x (at + 9)))
 
--- the operation at a place, the i-th: "unassigned opcode 4 before missing value bytes 2"
+-- the operation at a place, the i-th: "unassigned opcode 4 before missing value bytes 2". M-101: "Opcode is looked at first, then missing bytes (2), then 17."
 unfoldable pub opAt : List ℕ → List ℕ → ℕ → ℕ → Read Op
 opAt t s at i =
     refuse (leb (length s) at) cut-short₂ at
     (let c = getD s at 0 in
-    refuse (not (assigned t c)) inadmissible₄ i
-    (cond (valued t c) (valueAt s at i c) (found (record { code = c; value = 0 }) (at + 1))))
+    refuseFirst i (codeFault t c ∷ [])
+    (cond (valued t c) (valueAt t s at i c) (found (record { code = c; value = 0 }) (at + 1))))
 
 -- n operations from a place on, the first of them the i-th
 abbrev pub opsAt : List ℕ → List ℕ → ℕ → ℕ → ℕ → Read (List Op)

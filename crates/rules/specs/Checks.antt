@@ -5,6 +5,7 @@ use Prim.Native.Nat.{ℕ, zero, suc, _+_}
 use lib.ListN.{length, getD, take}
 use lib.Dec.{leb, eqb}
 use Rattle.rules.specs.Lists.{total, every}
+use Rattle.rules.specs.Answer.{orElse}
 use Rattle.rules.specs.Operations.{Op}
 use Rattle.rules.specs.Record.{Record, Block, differences, cut, immediates, codesNumber}
 use Rattle.rules.specs.Refusals.{no-slot₈, slot-taken₉, bad-padding₁₀, bad-structure₁₅, bad-commitment₁₆}
@@ -86,11 +87,6 @@ unfoldable pub begins : List ℕ → List ℕ → Bool
 begins ns [] = true
 begins [] (v ∷ vs) = false
 begins (n ∷ ns) (v ∷ vs) = eqb n v && begins ns vs
-
--- the first of two faults
-abbrev pub orElse : ℕ → ℕ → ℕ
-orElse zero n = n
-orElse (suc m) n = suc m
 
 -- "group by group, number right, then immediates placed under 8 and under the count in empty groups, then their values right", for groups under the
 -- count and the numbers from the first of them on

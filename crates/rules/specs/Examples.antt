@@ -8,7 +8,7 @@ use Prim.Native.Nat.{ℕ, _+_, _-_, _*_}
 use lib.ListN.{length, replicate}
 use Rattle.rules.specs.Lists.{butLast}
 use Rattle.rules.specs.Answer.{Answer, good, refused, Read, found, itemOf}
-use Rattle.rules.specs.Operations.{Op, codes, values, kindOf, admissible}
+use Rattle.rules.specs.Operations.{Op, codes, values, kindOf, admissible, opFault}
 use Rattle.rules.specs.Batching.{target}
 use Rattle.rules.specs.Record.{Record, Block, recordsBytes, noBlock}
 use Rattle.rules.specs.Bytes.{countAt, countBytes}
@@ -146,11 +146,11 @@ pub record OfOperations : Type 0 where
   pub past-the-table : kindOf (zeros 5) 5 ≡ 3
   pub unassigned : build (op 2 0 ∷ op 4 0 ∷ []) ≡ refused 4 1
   -- value 0 for kind 0, below the field's size for kinds 1 and 2
-  pub valued-noop : build (op 2 0 ∷ op 2 0 ∷ op 2 1 ∷ []) ≡ refused 4 2
+  pub valued-noop : build (op 2 0 ∷ op 2 0 ∷ op 2 1 ∷ []) ≡ refused 17 2
   pub largest-1 : build (op 1 18446744069414584320 ∷ op 2 0 ∷ []) ≡ good (block (op 1 18446744069414584320 ∷ op 2 0 ∷ []) (is (0 ∷ replicate 8 2) (zeros 8) (257 ∷ 18446744069414584320 ∷ zeros 6) 2 ∷ []))
   pub largest-2 : build (op 3 18446744069414584320 ∷ []) ≡ good (block (op 3 18446744069414584320 ∷ []) (numbered (3 ∷ zeros 7) 1 ∷ []))
-  pub field-1 : build (op 2 0 ∷ op 1 18446744069414584321 ∷ []) ≡ refused 4 1
-  pub field-2 : build (op 2 0 ∷ op 3 18446744069414584321 ∷ []) ≡ refused 4 1
+  pub field-1 : build (op 2 0 ∷ op 1 18446744069414584321 ∷ []) ≡ refused 17 1
+  pub field-2 : build (op 2 0 ∷ op 3 18446744069414584321 ∷ []) ≡ refused 17 1
   -- "Limits": 16,384 operations in a list to batch, as many values
   pub list-16385 : (cs vs : List ℕ) → length cs ≡ 16385 → length vs ≡ 16385 → built 8 tableT cs vs ample ≡ refused 3 0
   pub list-16384 : (cs vs : List ℕ) → length cs ≡ 16384 → length vs ≡ 16384 → built 8 [] cs vs ample ≡ refused 14 0
@@ -219,7 +219,7 @@ pub record OfBytes : Type 0 where
   pub long-16383 : countAt (7 ∷ 0xfc ∷ 0xff ∷ 0x01 ∷ []) 1 ≡ refused 3 0
   pub count-65535 : (countBytes 65535 ≡ 0xfc ∷ 0xff ∷ 0x07 ∷ []) × (countAt (0xfc ∷ 0xff ∷ 0x07 ∷ []) 0 ≡ found 65535 3)
   pub count-65536 : countAt (0x04 ∷ 0x00 ∷ 0x08 ∷ []) 0 ≡ refused 3 0
-  -- an operation: 2 has the place of its opcode, 4 its number, and an unassigned opcode goes before a missing value
+  -- an operation: 2 has the place of its opcode, 4 and 17 its number, and an unassigned opcode goes before a missing value
   pub op-missing : read (3 ∷ []) 0 ≡ refused 2 1
   pub op-missing-later : read (5 ∷ 2 ∷ []) 0 ≡ refused 2 2
   pub value-cut : read (3 ∷ 1 ∷ 5 ∷ zeros 6) 0 ≡ refused 2 1
@@ -227,8 +227,8 @@ pub record OfBytes : Type 0 where
   pub value-whole : read (3 ∷ 1 ∷ 5 ∷ zeros 7) 0 ≡ refused 2 10
   pub opcode-unassigned : read (5 ∷ 2 ∷ 4 ∷ []) 0 ≡ refused 4 1
   pub opcode-high : decoded 8 (zeros 128) (5 ∷ 2 ∷ 128 ∷ []) 0 ample ≡ refused 4 1
-  pub value-over-1 : read (5 ∷ 2 ∷ 1 ∷ over) 0 ≡ refused 4 1
-  pub value-over-2 : read (5 ∷ 2 ∷ 3 ∷ over) 0 ≡ refused 4 1
+  pub value-over-1 : read (5 ∷ 2 ∷ 1 ∷ over) 0 ≡ refused 17 1
+  pub value-over-2 : read (5 ∷ 2 ∷ 3 ∷ over) 0 ≡ refused 17 1
   pub value-top : read (laid 1 (3 ∷ top) 1 (low 1) (0 ∷ [])) 0 ≡ found (block (op 3 18446744069414584320 ∷ []) (numbered (3 ∷ zeros 7) 1 ∷ [])) 19
   -- the batch count: cut short, all four bytes, (bytes left / 5) rounded down, over 16,384
   pub batches-missing : read (3 ∷ 2 ∷ []) 0 ≡ refused 2 2
@@ -465,7 +465,7 @@ pub record OfOrders : Type 0 where
   pub decode-2-13 : decoded 8 tableT [] 0 (room 0 0 0) ≡ refused 2 0
   pub decode-13-4 : decoded 8 tableT (3 ∷ 4 ∷ []) 0 (room 0 0 0) ≡ refused 13 0
   pub decode-4-2 : read (3 ∷ 4 ∷ []) 0 ≡ refused 4 0
-  pub decode-first : read (5 ∷ 1 ∷ (over ++ (4 ∷ []))) 0 ≡ refused 4 0
+  pub decode-first : read (5 ∷ 1 ∷ (over ++ (4 ∷ []))) 0 ≡ refused 17 0
   -- "batch count (2, 5, 3, 13), all nibbles, all flags, then batch by batch 7, 8 or 9, 10, and 11": 5 before 3, 3 before 13 are `five-first`, `read-16385`
   pub decode-4-5 : decoded 8 tableT (3 ∷ 4 ∷ 9 ∷ 0 ∷ 0 ∷ 0 ∷ []) 0 (room 9 9 0) ≡ refused 4 0
   pub decode-5-13 : decoded 8 tableT (1 ∷ 1 ∷ 0 ∷ 0 ∷ 0 ∷ []) 0 (room 9 9 0) ≡ refused 5 0
@@ -618,6 +618,80 @@ pub record OfKept : Type 0 where
   -- "Batches we build still have those bits clear"
   pub built-clear : build (op 1 5 ∷ []) ≡ good (p1flagged (1 ∷ zeros 7))
 
+-- ---- M-101: "Opcode is looked at first, then missing bytes (2), then 17. Build, encode, decode and the commitment check pass it on; all other orders stand."
+
+-- the faults of an opcode under T with the values 0, 1, the field's size less 1, and the field's size
+abbrev pub faults : ℕ → List ℕ
+faults c = map (λ (v : ℕ). opFault tableT (op c v)) (0 ∷ 1 ∷ 18446744069414584320 ∷ 18446744069414584321 ∷ [])
+
+-- two operations, each in a batch of its own
+abbrev pub pair : Op → Op → Block
+pair x y = block (x ∷ y ∷ []) (single ∷ single ∷ [])
+
+pub record OfFaults : Type 0 where
+  -- one operation: what value its kind may have; and the opcode goes before the value
+  pub kind-0 : faults 2 ≡ 0 ∷ 17 ∷ 17 ∷ 17 ∷ []
+  pub noop : faults 0 ≡ 0 ∷ 17 ∷ 17 ∷ 17 ∷ []
+  pub kind-1 : faults 1 ≡ 0 ∷ 0 ∷ 0 ∷ 17 ∷ []
+  pub kind-2 : faults 3 ≡ 0 ∷ 0 ∷ 0 ∷ 17 ∷ []
+  pub kind-3 : faults 4 ≡ replicate 4 4
+  pub opcode-128 : faults 128 ≡ replicate 4 4
+  pub last-opcode : (opFault (0 ∷ replicate 127 1) (op 127 18446744069414584321) ≡ 17) × (opFault (0 ∷ replicate 127 1) (op 128 18446744069414584321) ≡ 4) × (opFault (zeros 200) (op 128 0) ≡ 4)
+  -- a value on kind 0, the field's size under kinds 1 and 2, and one below it
+  pub build-0 : build (op 2 0 ∷ op 2 1 ∷ []) ≡ refused 17 1
+  pub build-1 : build (op 2 0 ∷ op 1 18446744069414584321 ∷ []) ≡ refused 17 1
+  pub build-2 : build (op 2 0 ∷ op 3 18446744069414584321 ∷ []) ≡ refused 17 1
+  pub build-below : build (op 3 18446744069414584320 ∷ op 1 18446744069414584320 ∷ op 2 0 ∷ [])
+      ≡ good (block (op 3 18446744069414584320 ∷ op 1 18446744069414584320 ∷ op 2 0 ∷ []) (is (0 ∷ replicate 8 3) (zeros 8) (32899 ∷ 18446744069414584320 ∷ zeros 6) 2 ∷ []))
+  pub encode-0 : write (pair (op 2 0) (op 2 1)) ≡ refused 17 1
+  pub encode-1 : write (pair (op 2 0) (op 1 18446744069414584321)) ≡ refused 17 1
+  pub encode-2 : write (pair (op 2 0) (op 3 18446744069414584321)) ≡ refused 17 1
+  pub encode-below : write (pair (op 1 18446744069414584320) (op 3 18446744069414584320)) ≡ good (laid 2 ((1 ∷ top) ++ (3 ∷ top)) 2 (low 1 ++ low 1) (0 ∷ 0 ∷ []))
+  pub commitment-0 : commitment (pair (op 2 0) (op 2 1)) ≡ refused 17 1
+  pub commitment-1 : commitment (pair (op 2 0) (op 1 18446744069414584321)) ≡ refused 17 1
+  pub commitment-2 : commitment (pair (op 2 0) (op 3 18446744069414584321)) ≡ refused 17 1
+  pub commitment-below : commitment (block (op 1 18446744069414584320 ∷ op 3 18446744069414584320 ∷ []) (numbered (1 ∷ 18446744069414584320 ∷ zeros 6) 2 ∷ numbered (3 ∷ zeros 7) 1 ∷ [])) ≡ good tt
+  -- an opcode of 128 or of kind 3 with a value that is wrong too
+  pub build-both : (build (op 2 0 ∷ op 128 1 ∷ []) ≡ refused 4 1) × (build (op 2 0 ∷ op 4 18446744069414584321 ∷ []) ≡ refused 4 1)
+  pub encode-both : (write (pair (op 2 0) (op 128 1)) ≡ refused 4 1) × (write (pair (op 2 0) (op 4 18446744069414584321)) ≡ refused 4 1)
+  pub commitment-both : (commitment (pair (op 2 0) (op 128 1)) ≡ refused 4 1) × (commitment (pair (op 2 0) (op 4 18446744069414584321)) ≡ refused 4 1)
+  -- of two operations at fault the first, with its own number: 17 before 4, 4 before 17
+  pub build-17-4 : build (op 2 0 ∷ op 2 1 ∷ op 4 0 ∷ []) ≡ refused 17 1
+  pub build-4-17 : build (op 2 0 ∷ op 4 0 ∷ op 2 1 ∷ []) ≡ refused 4 1
+  pub encode-17-4 : write (pair (op 2 1) (op 4 0)) ≡ refused 17 0
+  pub encode-4-17 : write (pair (op 4 0) (op 2 1)) ≡ refused 4 0
+  pub commitment-17-4 : commitment (pair (op 2 1) (op 4 0)) ≡ refused 17 0
+  pub commitment-4-17 : commitment (pair (op 4 0) (op 2 1)) ≡ refused 4 0
+  pub decode-17-4 : read (7 ∷ 2 ∷ 1 ∷ (over ++ (4 ∷ []))) 0 ≡ refused 17 1
+  pub decode-4-17 : read (7 ∷ 2 ∷ 4 ∷ 1 ∷ over) 0 ≡ refused 4 1
+  pub head-17-4 : headed tableT (7 ∷ 2 ∷ 3 ∷ (over ++ (4 ∷ []))) 0 ≡ refused 17 1
+  pub head-4-17 : headed tableT (7 ∷ 2 ∷ 4 ∷ 3 ∷ over) 0 ≡ refused 4 1
+  -- one operation in bytes, the seventh: kind 3 or 128 with no byte after it, and with a wrong value; kinds 1 and 2 with a byte missing, and whole; kind 0 has none
+  pub op-opcode : (opHere tableT (4 ∷ []) 0 7 ≡ refused 4 7) × (opHere tableT (128 ∷ []) 0 7 ≡ refused 4 7) × (opHere tableT (4 ∷ over) 0 7 ≡ refused 4 7) × (opHere tableT (128 ∷ over) 0 7 ≡ refused 4 7)
+  pub op-cut : (opHere tableT (1 ∷ replicate 7 255) 0 7 ≡ refused 2 0) × (opHere tableT (9 ∷ 3 ∷ replicate 7 255) 1 7 ≡ refused 2 1)
+  pub op-value : (opHere tableT (1 ∷ over) 0 7 ≡ refused 17 7) × (opHere tableT (9 ∷ 3 ∷ over) 1 7 ≡ refused 17 7)
+  pub op-below : (opHere tableT (1 ∷ top) 0 7 ≡ found (op 1 18446744069414584320) 9) × (opHere tableT (9 ∷ 3 ∷ top) 1 7 ≡ found (op 3 18446744069414584320) 10)
+  pub op-plain : opHere tableT (2 ∷ over) 0 7 ≡ found (op 2 0) 1
+  -- "all other orders stand": build 3, 14, 12, 17, 13; encode 3, 14, 1, 15, 17, 13; decode's 13 and 2 before, 2, 5 and 13 after; commitment 3, 14, 15, 17, 16
+  pub build-3-17 : built 8 tableT (2 ∷ []) (1 ∷ 0 ∷ []) ample ≡ refused 3 0
+  pub build-14-17 : built 8 (zeros 127) (2 ∷ []) (1 ∷ []) ample ≡ refused 14 0
+  pub build-17-13 : built 8 tableT (2 ∷ 2 ∷ []) (0 ∷ 1 ∷ []) (room 0 0 0) ≡ refused 17 1
+  pub encode-3-17 : encoded 8 tableT (arena (2 ∷ []) (1 ∷ 0 ∷ []) (recordsBytes (single ∷ []))) 1000 0 ≡ refused 3 0
+  pub encode-14-17 : encoded 8 (zeros 127) (lent (pair (op 2 0) (op 2 1))) 1000 0 ≡ refused 14 0
+  pub encode-1-17 : encoded 8 tableT (lent (pair (op 2 0) (op 2 1))) 20 21 ≡ refused 1 0
+  pub encode-15-17 : write (block (op 2 1 ∷ op 2 0 ∷ []) (single ∷ [])) ≡ refused 15 1
+  pub encode-17-13 : encoded 8 tableT (lent (pair (op 2 0) (op 2 1))) 0 0 ≡ refused 17 1
+  pub decode-13-17 : decoded 8 tableT (3 ∷ 1 ∷ over) 0 (room 0 0 0) ≡ refused 13 0
+  pub decode-17-cut : read (5 ∷ 1 ∷ (over ++ (1 ∷ replicate 7 255))) 0 ≡ refused 17 0
+  pub decode-17-2 : read (5 ∷ 1 ∷ over) 0 ≡ refused 17 0
+  pub decode-17-5 : decoded 8 tableT (3 ∷ 1 ∷ (over ++ (9 ∷ 0 ∷ 0 ∷ 0 ∷ []))) 0 (room 9 9 0) ≡ refused 17 0
+  pub commitment-3-17 : commitmentChecked 8 tableT (arena (2 ∷ []) (1 ∷ 0 ∷ []) (recordsBytes (single ∷ []))) ≡ refused 3 0
+  pub commitment-14-17 : commitmentChecked 8 (zeros 127) (lent (pair (op 2 0) (op 2 1))) ≡ refused 14 0
+  pub commitment-15-17 : commitment (block (op 2 1 ∷ op 2 0 ∷ []) (single ∷ [])) ≡ refused 15 1
+  pub commitment-17-16 : commitment (block (op 2 0 ∷ op 2 1 ∷ []) (numbered (3 ∷ zeros 7) 1 ∷ single ∷ [])) ≡ refused 17 1
+  -- what looks at no value: structure, padding, the tables
+  pub unlooked : (structure (pair (op 2 1) (op 4 0)) ≡ good tt) × (padding (pair (op 2 1) (op 4 0)) ≡ good tt) × (rawTabled 8 (lent (pair (op 2 1) (op 4 0))) 3 ≡ good (zeros 3)) × (paddedTabled 8 (lent (pair (op 2 1) (op 4 0))) 3 ≡ good (zeros 3))
+
 -- ---- "Numbers to check": "proved of the rules, together as a single table under one claim"
 
 pub record Numbers : Type 0 where
@@ -654,6 +728,7 @@ pub record Numbers : Type 0 where
   pub orders : OfOrders
   pub outputs : OfOutputs
   pub kept : OfKept
+  pub faults : OfFaults
 
 pub numbers : Numbers
 unfolding document
@@ -1031,5 +1106,61 @@ numbers =
         group = refl;
         next = refl;
         built-clear = refl;
+      };
+      faults = record {
+        kind-0 = refl;
+        noop = refl;
+        kind-1 = refl;
+        kind-2 = refl;
+        kind-3 = refl;
+        opcode-128 = refl;
+        last-opcode = (refl, refl, refl);
+        build-0 = refl;
+        build-1 = refl;
+        build-2 = refl;
+        build-below = refl;
+        encode-0 = refl;
+        encode-1 = refl;
+        encode-2 = refl;
+        encode-below = refl;
+        commitment-0 = refl;
+        commitment-1 = refl;
+        commitment-2 = refl;
+        commitment-below = refl;
+        build-both = (refl, refl);
+        encode-both = (refl, refl);
+        commitment-both = (refl, refl);
+        build-17-4 = refl;
+        build-4-17 = refl;
+        encode-17-4 = refl;
+        encode-4-17 = refl;
+        commitment-17-4 = refl;
+        commitment-4-17 = refl;
+        decode-17-4 = refl;
+        decode-4-17 = refl;
+        head-17-4 = refl;
+        head-4-17 = refl;
+        op-opcode = (refl, refl, refl, refl);
+        op-cut = (refl, refl);
+        op-value = (refl, refl);
+        op-below = (refl, refl);
+        op-plain = refl;
+        build-3-17 = refl;
+        build-14-17 = refl;
+        build-17-13 = refl;
+        encode-3-17 = refl;
+        encode-14-17 = refl;
+        encode-1-17 = refl;
+        encode-15-17 = refl;
+        encode-17-13 = refl;
+        decode-13-17 = refl;
+        decode-17-cut = refl;
+        decode-17-2 = refl;
+        decode-17-5 = refl;
+        commitment-3-17 = refl;
+        commitment-14-17 = refl;
+        commitment-15-17 = refl;
+        commitment-17-16 = refl;
+        unlooked = (refl, refl, refl, refl);
       };
     }

@@ -51,7 +51,7 @@ filled a b =
     (fitted (length (a .values)) (values (b .ops)))
     (fitted (length (a .records)) (recordsBytes (b .records)))
 
--- ---- build: "3, 14, 12, 4, 13"
+-- ---- build: "3, 14, 12, 4, 13"; for 4, M-101: 4 or 17, operation by operation
 
 -- 13, "lent output smaller than the result needs"
 unfoldable pub roomFor : Block → Room → Bool
@@ -73,7 +73,7 @@ abbrev pub leaves : {A : Type 0} → A → Answer A → A
 leaves empty (good a) = a
 leaves empty (refused n p) = empty
 
--- ---- encode: "3, 14, 1, 15, 4, 13"; the block's bytes, for a buffer of this size from a place on
+-- ---- encode: "3, 14, 1, 15, 4, 13" (M-101: 4 or 17); the block's bytes, for a buffer of this size from a place on
 
 unfoldable pub encoded : ℕ → List ℕ → Arena → ℕ → ℕ → Answer (List ℕ)
 encoded w t a size at =
@@ -146,7 +146,7 @@ headed t s at =
     (refuse (ltb (length s) at) past-end₁ 0
     (headAt t s at most)))
 
--- ---- checks: "structure 3, 15; padding 3, 15, 10; commitment 3, 14, 15, 4, then batch by batch the first fault"
+-- ---- checks: "structure 3, 15; padding 3, 15, 10; commitment 3, 14, 15, 4, then batch by batch the first fault" (M-101: 4 or 17)
 
 unfoldable pub structureChecked : ℕ → Arena → Answer Unit
 structureChecked w a =

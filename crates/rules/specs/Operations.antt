@@ -5,7 +5,8 @@ use Prim.Native.Nat.{ℕ}
 use lib.ListN.{length, getD}
 use lib.Dec.{leb, ltb, eqb}
 use Rattle.rules.specs.Lists.{every}
-use Rattle.rules.specs.Refusals.{inadmissible₄}
+use Rattle.rules.specs.Answer.{orElse}
+use Rattle.rules.specs.Refusals.{unassigned₄, bad-value₁₇}
 
 -- "An operation is an opcode 0..127 and a value"
 pub record Op : Type 0 where
@@ -58,6 +59,14 @@ valueRight t x = cond (valued t (x .code)) (ltb (x .value) field) (eqb (x .value
 unfoldable pub admissible : List ℕ → Op → Bool
 admissible t x = assigned t (x .code) && valueRight t x
 
--- 4, "operation not admissible"
+-- "operation not admissible" (document 01) is two faults. M-101: "4 stays for an opcode of 128 or more or of kind 3"
+unfoldable pub codeFault : List ℕ → ℕ → ℕ
+codeFault t c = cond (assigned t c) 0 unassigned₄
+
+-- "and a new 17 says that the value is not below the field size, or is nonzero on kind 0"
+unfoldable pub valueFault : List ℕ → Op → ℕ
+valueFault t x = cond (valueRight t x) 0 bad-value₁₇
+
+-- an operation's fault, 0 where it is admissible: "Opcode is looked at first"
 unfoldable pub opFault : List ℕ → Op → ℕ
-opFault t x = cond (admissible t x) 0 inadmissible₄
+opFault t x = orElse (codeFault t (x .code)) (valueFault t x)

@@ -1,4 +1,4 @@
--- Document 01, "Numbers of refusal": a name for each, which ends in the number.
+-- Document 01, "Numbers of refusal", and those that document 02 adds: a name for each, which ends in the number.
 use Prim.Native.Nat.{ℕ}
 
 -- "offset or write position past the buffer's end"
@@ -13,9 +13,9 @@ cut-short₂ = 2
 abbrev pub over-limit₃ : ℕ
 over-limit₃ = 3
 
--- "operation not admissible"
-abbrev pub inadmissible₄ : ℕ
-inadmissible₄ = 4
+-- "operation not admissible" (document 01). M-101: "4 stays for an opcode of 128 or more or of kind 3"
+abbrev pub unassigned₄ : ℕ
+unassigned₄ = 4
 
 -- "batch count over (bytes left / 5), rounded down"
 abbrev pub too-many-batches₅ : ℕ
@@ -64,3 +64,7 @@ bad-structure₁₅ = 15
 -- "commitment: a group number, immediate or empty group's 0 differs"
 abbrev pub bad-commitment₁₆ : ℕ
 bad-commitment₁₆ = 16
+
+-- M-101: "a new 17 says that the value is not below the field size, or is nonzero on kind 0"
+abbrev pub bad-value₁₇ : ℕ
+bad-value₁₇ = 17

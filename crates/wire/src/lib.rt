@@ -5,7 +5,7 @@ ghost use Prim.Native.Nat.{_+_, _/_, _^_, _≤_, _<_};
 ghost use lib.ListN.{length};
 ghost use lib.Seq.{sets};
 ghost use Rattle.rules.specs.Digits.{digits, number, leAt};
-ghost use Rattle.rules.specs.Bytes.{countAt, least, more, countBytes, opAt, valueAt, opBytes, batchCountAt, upTo};
+ghost use Rattle.rules.specs.Bytes.{countAt, least, more, countBytes, opAt, opBytes, batchCountAt, upTo};
 ghost use Rattle.operation.specs.Verdict.{op};
 ghost use Rattle.wire.specs.Replies.{countReadOf, opReadOf};
 ghost use Rattle.wire.specs.Stages.{handOp};
@@ -128,32 +128,7 @@ pub fn write_count(out: &mut [u8], at: usize, v: u64) -> usize
 
 // ---- 2. one operation
 
-// An opcode's value, in the eight bytes after it.
-fn read_value(s: &[u8], at: usize, i: usize, code: u8) -> OpRead
-    requires { ⌜ at < length (now s) ⌝ }
-    ensures { λ r. ⌜ r ≡ opReadOf (valueAt (now (s .entry)) at i code) ⌝ }
-{
-    if s.len() - at < 9 {
-        return OpRead::Refused {
-            number: 2,
-            place: at,
-        };
-    }
-    let value = word::le8(s, at + 1);
-    if value < operation::FIELD {
-        return OpRead::Found {
-            code,
-            value,
-            next: at + 9,
-        };
-    }
-    OpRead::Refused {
-        number: 4,
-        place: i,
-    }
-}
-
-// The operation at `at`, which is the i-th.
+// The operation at `at`, which is the i-th: its opcode is looked at first, then whether its value's bytes are there, then its value.
 pub fn read_op(table: &[u8], s: &[u8], at: usize, i: usize) -> OpRead
     requires { ⌜ length (now table) ≡ 128 ⌝ }
     ensures { λ r. ⌜ r ≡ opReadOf (opAt (now (table .entry)) (now (s .entry)) at i) ⌝ }
@@ -185,7 +160,24 @@ pub fn read_op(table: &[u8], s: &[u8], at: usize, i: usize) -> OpRead
             next: at + 1,
         };
     }
-    read_value(s, at, i, code)
+    if s.len() - at < 9 {
+        return OpRead::Refused {
+            number: 2,
+            place: at,
+        };
+    }
+    let value = word::le8(s, at + 1);
+    if operation::FIELD <= value {
+        return OpRead::Refused {
+            number: 17,
+            place: i,
+        };
+    }
+    OpRead::Found {
+        code,
+        value,
+        next: at + 9,
+    }
 }
 
 // A refused operation, handed on.
