@@ -21,5 +21,6 @@ pub mod Checked
 pub mod CheckedThenReturned
 pub mod Finished
 pub mod Kept
+pub mod Which
 pub mod OneList
 pub mod Claims

@@ -1,10 +1,11 @@
 -- What is promised of document 01's definitions, each statement whole, for a batch width. Proved for 8, document 01's, in proofs/Claims.antt (`claims-8`).
 use mathlib.Core.Path.{_≡_}
+use mathlib.Core.Bool.{true}
 use mathlib.Core.List.{List}
 use Prim.Native.Nat.{ℕ, _+_, _-_, _≤_}
 use lib.ListN.{length, take, drop}
 use Rattle.rules.specs.Answer.{good, found}
-use Rattle.rules.specs.Operations.{Op}
+use Rattle.rules.specs.Operations.{Op, goodTable}
 use Rattle.rules.specs.Batching.{batchesOf}
 use Rattle.rules.specs.Record.{Record, Block, blockOf, NineAndEight}
 use Rattle.rules.specs.Block.{Room, blockBytes}
@@ -16,6 +17,7 @@ use Rattle.claims.specs.Passes.{Passes}
 use Rattle.claims.specs.Finished.{Bytes, Finished}
 use Rattle.claims.specs.OneList.{OneList}
 use Rattle.claims.specs.Settled.{Returns, Needed}
+use Rattle.claims.specs.Which.{Which, PassedOn}
 use Rattle.claims.specs.Kept.{SameButKept, ArenasButKept, Unread, UnreadBy, Kept}
 use Rattle.rules.specs.Lists.{All}
 
@@ -49,6 +51,9 @@ pub record Claims (w : ℕ) : Type 0 where
   pub unread : (a c : Arena) → ArenasButKept a c → Unread w a c
   pub unread-by : (r q : Record) → SameButKept r q → UnreadBy w r q
   pub kept : (t s : List ℕ) → Bytes s → (at : ℕ) (room : Room) (b : Block) (next : ℕ) → Taken 8 t s at room b next → Kept 8 t s at room b next
+  -- M-101: which of 4 and 17 an operation has; who is told one of them knows which operation has it
+  pub which : (t : List ℕ) → goodTable t ≡ true → (x : Op) → Which t x
+  pub passed-on : PassedOn w
   -- sizes
   pub ended-count : EndedCount
   pub block-length : BlockLength

@@ -6,6 +6,7 @@ pub mod Passes
 pub mod Demand1
 pub mod Settled
 pub mod Kept
+pub mod Which
 pub mod Finished
 pub mod OneList
 pub mod Sizes
