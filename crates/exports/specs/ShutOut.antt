@@ -1,5 +1,6 @@
 -- At a named input each export has this reply and leaves this, and nothing else: so one that refuses everything, passes everything, answers the place 0, writes
--- nothing, leaves what it was lent, ignores the write position or tells an invented length is shut out. Lent runs are full of nines.
+-- nothing, leaves what it was lent, ignores the write position, tells an invented length or tells a wrong value as
+-- a wrong opcode is shut out. Lent runs are full of nines.
 use mathlib.Core.Path.{_≡_}
 use mathlib.Core.List.{List, [], _∷_, _++_}
 use Prim.Native.Nat.{ℕ}
@@ -7,7 +8,7 @@ use lib.ListN.{replicate}
 use Rattle.rules.specs.Record.{recordAt, recordsBytes, recordBytes, wordBytes}
 use Rattle.rules.specs.Lookups.{rawAt, paddedAt, paddedIndex, rawIndex}
 use Rattle.rules.specs.Functions.{Arena, arena, built, encoded, decoded, headed, structureChecked, paddingChecked, commitmentChecked, rawTabled, paddedTabled, groupLookup, nextLookup}
-use Rattle.rules.specs.Examples.{tableT, is, lent, p1, p2}
+use Rattle.rules.specs.Examples.{tableT, op, is, lent, pair, over, p1, p2}
 use Rattle.crossing.specs.Words.{wordsIn}
 use Rattle.exports.specs.declared.BuildReply.{BuildReply}
 use Rattle.exports.specs.declared.EncodeReply.{EncodeReply}
@@ -64,6 +65,15 @@ pub record ShutOut : Type 0 where
   pub oli-padded-table-le : (r : TableReply) (after : List ℕ) → TablesBytes (paddedTabled 8 (lent p1) 4) r (nines 33) after
       → (r ≡ record { number = 0; place = 0; entries = 3 }) × (after ≡ wordBytes (0 ∷ 0 ∷ 1 ∷ 0 ∷ []) ++ (0 ∷ []))
   pub oli-head : (headReply (headed tableT p2 0) ≡ record { number = 0; place = 0; batches = 1; operations = 2 }) × (headReply (headed tableT p2 20) ≡ record { number = 2; place = 20; batches = 0; operations = 0 })
+  -- a value on the second of two of opcode 2, and the field's size as a value after one of opcode 2 (M-101)
+  pub value-build : (r : BuildReply) (after : Arena) → Builds (built 8 tableT (2 ∷ 2 ∷ []) (0 ∷ 1 ∷ [])) r numbers after
+      → (r ≡ record { number = 17; place = 1; batches = 0; operations = 0 }) × (after ≡ arena (replicate 3 0) (replicate 3 0) (replicate 83 0))
+  pub value-encode : (r : EncodeReply) (after : List ℕ) → Writes (encoded 8 tableT (lent (pair (op 2 0) (op 2 1))) 30 3) 3 r (nines 30) after
+      → (r ≡ record { number = 17; place = 1; length = 0 }) × (after ≡ nines 30)
+  pub value-decode : (r : DecodeReply) (after : Arena) → Reads (decoded 8 tableT (5 ∷ 2 ∷ 1 ∷ over) 0) 0 r numbers after
+      → (r ≡ record { number = 17; place = 1; batches = 0; operations = 0; used = 0 }) × (after ≡ arena (replicate 3 0) (replicate 3 0) (replicate 83 0))
+  pub value-head : headReply (headed tableT (5 ∷ 2 ∷ 1 ∷ over) 0) ≡ record { number = 17; place = 1; batches = 0; operations = 0 }
+  pub value-commitment : checkReply (commitmentChecked 8 tableT (lent (pair (op 2 0) (op 2 1)))) ≡ record { number = 17; place = 1 }
   -- checks
   pub passed : (checkReply (structureChecked 8 (lent p1)) ≡ record { number = 0; place = 0 })
       × (checkReply (paddingChecked 8 (lent p1)) ≡ record { number = 0; place = 0 })

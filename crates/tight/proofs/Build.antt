@@ -24,9 +24,16 @@ at-two : builtOf (answer (2 ∷ 2 ∷ []) (0 ∷ 0 ∷ []) (roomIn lentRuns)) �
 unfolding document
 at-two = refl
 
+at-value : builtOf (answer (2 ∷ 2 ∷ []) (0 ∷ 1 ∷ []) (roomIn lentRuns)) ≡ Refused 17 1
+unfolding document
+at-value = refl
+
 -- two replies that are one
 same-totals : (a b c d : ℕ) → _≡_ {A = Built} (Made a b) (Made c d) → (a ≡ c) × (b ≡ d)
 same-totals a b c d h = (cc, cc)
+
+same-refusals : (n p m q : ℕ) → _≡_ {A = Built} (Refused n p) (Refused m q) → (n ≡ m) × (p ≡ q)
+same-refusals n p m q h = (cc, cc)
 
 not-both : (n p b o : ℕ) → _≡_ {A = Built} (Refused n p) (Made b o) → ⊥
 not-both n p b o h = let z : _≡_ {A = ℕ} 0 1 = cc in omega arith
@@ -49,4 +56,5 @@ shut-out =
       batch-per-operation = λ n after h. let e = same-totals 2 n 1 2 (h .reply ∙ at-two) in omega (arith, e .0);
       copies-the-first = copies;
       invented-totals = λ b o after h. same-totals b o 1 2 (h .reply ∙ at-p1);
+      value-told = λ n p after h. same-refusals n p 17 1 (h .reply ∙ at-value);
     }

@@ -1,13 +1,13 @@
 -- The wrong encoders and decoders are shut out. Assumes nothing.
 use mathlib.Core.Path.{_≡_, refl, ap, _∙_}
-use mathlib.Core.List.{List}
+use mathlib.Core.List.{List, _∷_}
 use Prim.Native.Nat.{ℕ}
 use native.Mathlib.Omega.{arith}
 use lib.ListN.{getD, replicate}
 use Rattle.rules.specs.Lists.{fitted}
 use Rattle.rules.specs.Functions as rules
 use Rattle.rules.specs.Functions.{Arena, roomIn}
-use Rattle.rules.specs.Examples.{tableT, p1, p2}
+use Rattle.rules.specs.Examples.{tableT, op, pair, over, p1, p2}
 use Rattle.rules.specs.Examples as examples
 use Rattle.rules.specs.Open.{document}
 use Rattle.encoder.specs.declared.Encoded.{Encoded}
@@ -27,6 +27,20 @@ written = refl
 read : decodedOf 0 (rules.decoded 8 tableT p2 0 (roomIn lentRuns)) ≡ decoded.Made 1 2 20
 unfolding document
 read = refl
+
+value-not-written : encodedOf (rules.encoded 8 tableT (examples.lent (pair (op 2 0) (op 2 1))) 30 3) ≡ encoded.Refused 17 1
+unfolding document
+value-not-written = refl
+
+value-not-read : decodedOf 0 (rules.decoded 8 tableT (5 ∷ 2 ∷ 1 ∷ over) 0 (roomIn lentRuns)) ≡ decoded.Refused 17 1
+unfolding document
+value-not-read = refl
+
+one-encoded : (n p m q : ℕ) → _≡_ {A = Encoded} (encoded.Refused n p) (encoded.Refused m q) → (n ≡ m) × (p ≡ q)
+one-encoded n p m q h = (cc, cc)
+
+one-decoded : (n p m q : ℕ) → _≡_ {A = Decoded} (decoded.Refused n p) (decoded.Refused m q) → (n ≡ m) × (p ≡ q)
+one-decoded n p m q h = (cc, cc)
 
 not-written : (n p : ℕ) → _≡_ {A = Encoded} (encoded.Refused n p) (encoded.Written 20) → ⊥
 not-written n p h = let z : _≡_ {A = ℕ} 0 1 = cc in omega arith
@@ -63,4 +77,6 @@ shut-out =
       decode-writes-nothing = fills;
       encode-length = λ n after h. same-length n (h .reply ∙ written);
       decode-totals = λ b o u after h. same-totals b o u (h .reply ∙ read);
+      encode-value-told = λ n p after h. one-encoded n p 17 1 (h .reply ∙ value-not-written);
+      decode-value-told = λ n p after h. one-decoded n p 17 1 (h .reply ∙ value-not-read);
     }

@@ -5,7 +5,7 @@ use native.Mathlib.Omega.{arith}
 use Rattle.rules.specs.Open.{document}
 use Rattle.operation.specs.declared.Verdict.{Verdict}
 use Rattle.operation.specs.declared.Verdict.the-variants.{Passed, Refused}
-use Rattle.rules.specs.Examples.{p1}
+use Rattle.rules.specs.Examples.{op, pair, p1}
 use Rattle.tight.specs.Checks.{Structure, Padding, Commitment, wrongCount, wrongFlag, stale, ShutOut}
 
 -- the right replies
@@ -13,10 +13,11 @@ record Right : Type 0 where
   structure : Structure wrongCount (Refused 15 1) × Structure p1 Passed
   padding : Padding wrongFlag (Refused 10 1) × Padding p1 Passed
   commitment : Commitment stale (Refused 16 1) × Commitment p1 Passed
+  value : Commitment (pair (op 2 0) (op 2 1)) (Refused 17 1)
 
 right : Right
 unfolding document
-right = record { structure = (refl, refl); padding = (refl, refl); commitment = (refl, refl) }
+right = record { structure = (refl, refl); padding = (refl, refl); commitment = (refl, refl); value = refl }
 
 not-both : (n p : ℕ) → _≡_ {A = Verdict} (Refused n p) Passed → ⊥
 not-both n p h = let z : _≡_ {A = ℕ} 0 1 = cc in omega arith
@@ -47,4 +48,5 @@ shut-out =
         λ h. one-place n 10 1 1 (h ∙ sym (right .padding .0)) .0,
         λ h. one-place n 16 1 1 (h ∙ sym (right .commitment .0)) .0,
       );
+      value-told = λ n p h. one-place n 17 p 1 (h ∙ sym (right .value));
     }

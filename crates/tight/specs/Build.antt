@@ -38,3 +38,5 @@ pub record ShutOut : Type 0 where
   pub copies-the-first : (r : Built) (cs vs : List ℕ) → Outcome (answer (replicate 8 1) (replicate 8 5)) r lentRuns (arena cs vs twice) → ⊥
   -- "one that replies with an invented length or batch total": at P1 there is one reply
   pub invented-totals : (b o : ℕ) (after : Arena) → Outcome (answer (1 ∷ []) (5 ∷ [])) (Made b o) lentRuns after → (b ≡ 1) × (o ≡ 2)
+  -- one that tells a wrong value as a wrong opcode: at a value on the second of two of opcode 2 there is one reply
+  pub value-told : (n p : ℕ) (after : Arena) → Outcome (answer (2 ∷ 2 ∷ []) (0 ∷ 1 ∷ [])) (Refused n p) lentRuns after → (n ≡ 17) × (p ≡ 1)

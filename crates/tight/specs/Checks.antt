@@ -5,7 +5,7 @@ use Prim.Native.Nat.{ℕ}
 use lib.ListN.{replicate}
 use Rattle.rules.specs.Record.{Record, Block}
 use Rattle.rules.specs.Functions.{structureChecked, paddingChecked, commitmentChecked}
-use Rattle.rules.specs.Examples.{tableT, is, block, lent, p1, p7more}
+use Rattle.rules.specs.Examples.{tableT, op, is, block, lent, pair, p1, p7more}
 use Rattle.operation.specs.declared.Verdict.{Verdict}
 use Rattle.operation.specs.declared.Verdict.the-variants.{Passed, Refused}
 use Rattle.operation.specs.Verdict.{verdictOf}
@@ -43,3 +43,5 @@ pub record ShutOut : Type 0 where
   pub place-zero : (n : ℕ) → (Structure wrongCount (Refused n 0) → ⊥) × (Padding wrongFlag (Refused n 0) → ⊥) × (Commitment stale (Refused n 0) → ⊥)
   -- one that answers another number
   pub number : (n : ℕ) → (Structure wrongCount (Refused n 1) → n ≡ 15) × (Padding wrongFlag (Refused n 1) → n ≡ 10) × (Commitment stale (Refused n 1) → n ≡ 16)
+  -- one that tells a wrong value as a wrong opcode
+  pub value-told : (n p : ℕ) → Commitment (pair (op 2 0) (op 2 1)) (Refused n p) → (n ≡ 17) × (p ≡ 1)
