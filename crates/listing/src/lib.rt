@@ -346,7 +346,7 @@ pub fn print_block(
 
 // ---- refusals
 
-// What a number of refusal means (document 01, "Numbers of refusal"), in the words of rust/oliastrofu.
+// What a number of refusal means (document 01, "Numbers of refusal", and M-101 for 4 and 17), in the words of rust/oliastrofu.
 fn print_meaning(page: &mut [u8], refusal: u8) {
     match refusal {
         1 => say(page, b"the place to begin at is past the end of the bytes"),
@@ -360,7 +360,7 @@ fn print_meaning(page: &mut [u8], refusal: u8) {
         ),
         4 => say(
             page,
-            b"an operation is not admissible: its opcode is unassigned or its value out of range",
+            b"an operation's opcode is unassigned: 128 or more, or of kind 3",
         ),
         5 => say(page, b"more batches than the bytes that are left can hold"),
         6 => say(page, b"a group's length is over 9"),
@@ -377,6 +377,10 @@ fn print_meaning(page: &mut [u8], refusal: u8) {
             page,
             b"a group number, an immediate or an empty group's 0 differs",
         ),
+        17 => say(
+            page,
+            b"an operation's value is not below the field's size, or not 0 where its kind has none",
+        ),
         _ => say(page, b"a number without a meaning"),
     }
 }
@@ -389,7 +393,7 @@ fn print_at(page: &mut [u8], what: &[u8], place: usize) {
 // What the place of a refusal counts; nothing where it is a byte or always 0.
 fn print_place(page: &mut [u8], refusal: u8, place: usize) {
     match refusal {
-        4 => print_at(page, b", operation ", place),
+        4 | 17 => print_at(page, b", operation ", place),
         6 | 7 | 8 | 9 | 10 | 15 | 16 => print_at(page, b", in batch ", place),
         _ => {}
     }

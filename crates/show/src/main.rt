@@ -59,7 +59,7 @@ fn place_byte(s: &[u8], refusal: u8, place: usize) -> usize {
     let CountRead::Found { value, next } = c else {
         return 0;
     };
-    if refusal == 4 {
+    if refusal == 4 || refusal == 17 {
         return operation_byte(s, next, place);
     }
     let at = operation_byte(s, next, value as usize);
@@ -78,7 +78,7 @@ fn say_byte(page: &mut [u8], what: &[u8], at: usize) {
 fn say_place(page: &mut [u8], s: &[u8], at: usize, refusal: u8, place: usize) {
     match refusal {
         2 => say_byte(page, b", in the item that starts at byte ", plus(at, place)),
-        3..=10 => say_byte(page, b", at byte ", plus(at, place_byte(s, refusal, place))),
+        3..=10 | 17 => say_byte(page, b", at byte ", plus(at, place_byte(s, refusal, place))),
         _ => {}
     }
 }
