@@ -5,7 +5,7 @@ use crate::{
     call::{Answer, Arena, Room},
     checks::{padding_holds, slots, structured, within},
     data::{
-        Batch, FIELD, MOST_BATCHES, MOST_BYTES, MOST_PADDED, Operation, RECORD, Refusal,
+        Batch, MOST_BATCHES, MOST_BYTES, MOST_PADDED, Operation, RECORD, Refusal, admissible,
         all_admissible, batches_of, good_table, kind, number_of, operations, refuse,
     },
 };
@@ -123,8 +123,9 @@ pub fn encode(table: &[u8], arena: Arena<'_>, buffer: &[u8], at: usize) -> Answe
     }
 }
 
-/// An operation and the bytes it takes, or 2 or 4.
-fn read_operation(
+/// An operation and the bytes it takes, or 2, 4 or 17. "Opcode is looked at first, then missing bytes
+/// (2), then 17" (M-101).
+pub fn read_operation(
     table: &[u8],
     bytes: &[u8],
     at: usize,
@@ -133,24 +134,23 @@ fn read_operation(
     if at >= bytes.len() {
         return refuse(2, at);
     }
-    let code = bytes[at];
-    match kind(table, code) {
-        0 => Ok((Operation { code, value: 0 }, 1)),
-        1 | 2 => {
-            if bytes.len() - at < 9 {
-                return refuse(2, at);
-            }
-            let mut value = 0u64;
-            for i in (1..9).rev() {
-                value = value * 256 + u64::from(bytes[at + i]);
-            }
-            if value >= FIELD {
-                return refuse(4, index);
-            }
-            Ok((Operation { code, value }, 9))
-        }
-        _ => refuse(4, index),
+    // With the value 0 only its opcode can be at fault.
+    let mut op = Operation {
+        code: bytes[at],
+        value: 0,
+    };
+    admissible(table, op, index)?;
+    if kind(table, op.code) == 0 {
+        return Ok((op, 1));
     }
+    if bytes.len() - at < 9 {
+        return refuse(2, at);
+    }
+    for i in (1..9).rev() {
+        op.value = op.value * 256 + u64::from(bytes[at + i]);
+    }
+    admissible(table, op, index)?;
+    Ok((op, 9))
 }
 
 /// The numbers and the count of a batch whose starts and flags are read.

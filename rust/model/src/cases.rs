@@ -6,7 +6,9 @@
 //! different things); where such a pair matters, there is a case of its own for it.
 //!
 //! Flags at or above a batch's count are no fault (M-100): there are cases of blocks that have them,
-//! alone and before each fault that comes later.
+//! alone and before each fault that comes later. Where an operation is at fault, opcode and value
+//! have numbers of their own (M-101): there are cases of both in one operation, and of one operation
+//! before another.
 
 use crate::{Arena, Batch, Call, FIELD, Operation, RECORD, Room, count_bytes};
 
@@ -224,6 +226,79 @@ fn kept_and_slot() -> Vec<(String, Block)> {
     kept().into_iter().map(spoilt).collect()
 }
 
+/// Operations to put at places of a list.
+type Places = Vec<(usize, Operation)>;
+
+fn put(places: &Places, codes: &mut [u8], values: &mut [u64]) {
+    for &(at, op) in places {
+        codes[at] = op.code;
+        values[at] = op.value;
+    }
+}
+
+/// M-101, for a list of four operations or more: what is put into it, and the number and place.
+fn faulty() -> Vec<(&'static str, Places, u8, usize)> {
+    let last = u64::MAX;
+    vec![
+        ("opcode 127, unassigned", vec![(0, op(127, 0))], 4, 0),
+        (
+            "opcode 128 with a value at the field's order",
+            vec![(2, op(128, FIELD))],
+            4,
+            2,
+        ),
+        (
+            "an unassigned opcode with the largest value",
+            vec![(3, op(4, last))],
+            4,
+            3,
+        ),
+        ("a Noop with a value", vec![(2, op(0, 1))], 17, 2),
+        (
+            "a plain operation with a value at the field's order",
+            vec![(1, op(2, FIELD))],
+            17,
+            1,
+        ),
+        (
+            "an immediate with the largest value",
+            vec![(2, op(1, last))],
+            17,
+            2,
+        ),
+        (
+            "a carried value at the field's order",
+            vec![(3, op(3, FIELD))],
+            17,
+            3,
+        ),
+        (
+            "an opcode before a value",
+            vec![(0, op(255, 0)), (1, op(3, FIELD))],
+            4,
+            0,
+        ),
+        (
+            "a value before an opcode",
+            vec![(0, op(1, FIELD)), (3, op(4, 0))],
+            17,
+            0,
+        ),
+        (
+            "a value before an opcode with a value",
+            vec![(1, op(2, last)), (2, op(128, last)), (3, op(1, FIELD))],
+            17,
+            1,
+        ),
+        (
+            "values one below the field's order",
+            vec![(0, op(1, FIELD - 1)), (1, op(3, FIELD - 1))],
+            0,
+            0,
+        ),
+    ]
+}
+
 // BUILD
 // ================================================================================================
 
@@ -264,27 +339,26 @@ fn build(visit: &mut Visit<'_>) {
         fault(14, 0, "no table", "t", |i| i.table.clear()),
         fault(14, 0, "kind 4", "t", |i| i.table[127] = 4),
         fault(14, 0, "Noop with a value", "t", |i| i.table[0] = 2),
-        fault(12, 0, "an empty list", "el", |i| {
+        fault(12, 0, "an empty list", "eabcdfm", |i| {
             i.codes.clear();
             i.values.clear();
         }),
-        fault(4, 0, "an immediate at the field's order", "l", |i| {
+        fault(17, 0, "an immediate at the field's order", "a", |i| {
             i.values[0] = FIELD
         }),
-        fault(4, 1, "a carried value at the field's order", "l", |i| {
+        fault(17, 1, "a carried value at the field's order", "b", |i| {
             i.values[1] = FIELD
         }),
-        fault(4, 2, "a value without need", "l", |i| i.values[2] = 1),
-        fault(4, 2, "opcode 128", "l", |i| i.codes[2] = 128),
-        fault(4, 3, "an unassigned opcode", "l", |i| i.codes[3] = 4),
-        fault(13, 0, "an opcode too few lent", "l", |i| i.room.codes = 5),
-        fault(13, 0, "a value too few lent", "l", |i| i.room.values = 5),
-        fault(13, 0, "a record's byte too few lent", "l", |i| {
+        fault(4, 2, "opcode 128", "c", |i| i.codes[2] = 128),
+        fault(17, 2, "a value without need", "d", |i| i.values[2] = 1),
+        fault(4, 3, "an unassigned opcode", "f", |i| i.codes[3] = 4),
+        fault(13, 0, "an opcode too few lent", "m", |i| i.room.codes = 5),
+        fault(13, 0, "a value too few lent", "m", |i| i.room.values = 5),
+        fault(13, 0, "a record's byte too few lent", "m", |i| {
             i.room.records = RECORD - 1
         }),
     ];
-    // An inadmissible operation and an empty list exclude each other; so do an empty list and too
-    // little room. 4 and 13 do not, nor do two 4s: those pairs follow by hand.
+    // An empty list has no operation at fault and needs no room.
     combine("build", &good, &faults, visit, |i, take| {
         take(Call::Build {
             table: &i.table,
@@ -293,22 +367,19 @@ fn build(visit: &mut Visit<'_>) {
             room: i.room,
         })
     });
-    let mut both = good.clone();
-    both.codes[3] = 4;
-    both.room.records = 0;
-    let mut two = both.clone();
-    two.values[2] = 1;
-    for (input, place, pair) in [(&both, 3, (4, 13)), (&two, 2, (4, 4))] {
+    for (name, places, number, place) in faulty() {
+        let mut input = good.clone();
+        put(&places, &mut input.codes, &mut input.values);
         visit(Case {
-            name: format!("build: {} before {}", pair.0, pair.1),
-            pair: Some(pair),
+            name: format!("build: {name} ({number})"),
+            pair: None,
             call: Call::Build {
                 table: &input.table,
                 codes: &input.codes,
                 values: &input.values,
                 room: input.room,
             },
-            number: 4,
+            number,
             place,
         });
     }
@@ -348,10 +419,11 @@ fn encode(visit: &mut Visit<'_>) {
             i.codes.push(2);
             i.values.push(0);
         }),
-        fault(4, 6, "an immediate at the field's order", "", |i| {
+        fault(17, 6, "an immediate at the field's order", "", |i| {
             i.values[6] = FIELD
         }),
-        fault(4, 10, "opcode 255", "", |i| i.codes[10] = 255),
+        fault(4, 7, "opcode 255", "", |i| i.codes[7] = 255),
+        fault(17, 10, "a Noop with a value", "", |i| i.values[10] = 1),
         fault(13, 0, "a byte too few lent", "b", |i| i.lent = 91),
         fault(13, 0, "nothing lent after the position", "b", |i| {
             i.lent = 2
@@ -381,6 +453,22 @@ fn encode(visit: &mut Visit<'_>) {
             },
             number: 0,
             place: 0,
+        });
+    }
+    for (name, places, number, place) in faulty() {
+        let mut block = two_batches();
+        put(&places, &mut block.codes, &mut block.values);
+        visit(Case {
+            name: format!("encode: {name} ({number})"),
+            pair: None,
+            call: Call::Encode {
+                table: &block.table,
+                arena: block.arena(&block.records),
+                buffer: &[0xa0; 100],
+                at: 2,
+            },
+            number,
+            place,
         });
     }
 }
@@ -454,10 +542,19 @@ impl Bytes {
     }
 }
 
-fn immediate(value: u64) -> Vec<u8> {
-    let mut bytes = vec![1];
+/// The bytes of an operation with a value.
+fn valued(code: u8, value: u64) -> Vec<u8> {
+    let mut bytes = vec![code];
     bytes.extend(value.to_le_bytes());
     bytes
+}
+
+fn immediate(value: u64) -> Vec<u8> {
+    valued(1, value)
+}
+
+fn carried(value: u64) -> Vec<u8> {
+    valued(3, value)
 }
 
 /// Two batches: an immediate and a flagged Noop; a plain operation.
@@ -517,7 +614,7 @@ fn decode(visit: &mut Visit<'_>) {
         fault(3, 0, "a count of 65,536", "c", |i| i.count = vec![4, 0, 8]),
         fault(13, 0, "an opcode too few lent", "", |i| i.room.codes = 2),
         fault(13, 0, "a value too few lent", "", |i| i.room.values = 2),
-        fault(4, 0, "a value at the field's order", "0", |i| {
+        fault(17, 0, "a value at the field's order", "0", |i| {
             i.ops[0] = immediate(FIELD)
         }),
         fault(4, 1, "an unassigned opcode", "0", |i| i.ops[1] = vec![4]),
@@ -632,9 +729,22 @@ fn decode(visit: &mut Visit<'_>) {
         i.ops[2] = vec![4, 0];
         i.end = Some(End::InOp(2));
     });
-    by_hand("the first of two operations", (2, 4), 2, 2 + 1 + 10, &|i| {
-        i.ops[2] = immediate(FIELD);
+    by_hand("missing bytes before the value", (2, 17), 2, 13, &|i| {
+        // Whole, its value would not be in the field.
+        i.ops[2] = immediate(u64::MAX);
         i.end = Some(End::InOp(2));
+    });
+    by_hand("an opcode before a later value", (4, 17), 4, 1, &|i| {
+        i.ops[1] = vec![128];
+        i.ops[2] = immediate(FIELD);
+    });
+    by_hand("a value before a later opcode", (17, 4), 17, 0, &|i| {
+        i.ops[0] = carried(u64::MAX);
+        i.ops[1] = vec![4];
+    });
+    by_hand("a value before a later value", (17, 17), 17, 0, &|i| {
+        i.ops[0] = immediate(FIELD);
+        i.ops[2] = immediate(FIELD);
     });
     by_hand("5 before 3 of the batch count", (5, 3), 5, 0, &|i| {
         i.batch_count = vec![1, 0x40, 0, 0];
@@ -714,8 +824,7 @@ fn decode(visit: &mut Visit<'_>) {
         },
     );
 
-    // Flags at or above the count, which is 2 in the first batch and 1 in the second.
-    let mut kept = |name: &str, number, place, spoil: &dyn Fn(&mut Bytes)| {
+    let mut single = |name: &str, number, place, spoil: &dyn Fn(&mut Bytes)| {
         let mut input = good.clone();
         spoil(&mut input);
         take_bytes(&input, &mut |call| {
@@ -728,13 +837,45 @@ fn decode(visit: &mut Visit<'_>) {
             })
         });
     };
-    kept("the flag at the count", 0, 0, &|i| i.flags[0] = 5);
-    kept("flag 7", 0, 0, &|i| i.flags[0] = 0x81);
-    kept("all flags above the counts", 0, 0, &|i| {
+    // M-101: the opcode, then missing bytes, then the value. The last operation is at byte 13.
+    let ends = |i: &mut Bytes, op: Vec<u8>| {
+        i.ops[2] = op;
+        i.end = Some(End::InOp(2));
+    };
+    single("opcode 127, unassigned", 4, 2, &|i| i.ops[2] = vec![127]);
+    single("opcode 128 with a bad value", 4, 2, &|i| {
+        i.ops[2] = valued(128, FIELD)
+    });
+    single("an unassigned opcode with a bad value", 4, 2, &|i| {
+        i.ops[2] = valued(4, u64::MAX)
+    });
+    single("opcode 128, cut", 4, 2, &|i| ends(i, valued(128, FIELD)));
+    single("an unassigned opcode, cut", 4, 2, &|i| {
+        ends(i, valued(4, FIELD))
+    });
+    single("an immediate, cut", 2, 13, &|i| ends(i, immediate(5)));
+    single("a carried value, cut", 2, 13, &|i| ends(i, carried(5)));
+    single("a bad carried value, cut", 2, 13, &|i| {
+        ends(i, carried(u64::MAX))
+    });
+    single("a carried value at the field's order", 17, 2, &|i| {
+        i.ops[2] = carried(FIELD)
+    });
+    single("the largest immediate", 17, 2, &|i| {
+        i.ops[2] = immediate(u64::MAX)
+    });
+    single("values one below the field's order", 0, 0, &|i| {
+        i.ops[0] = immediate(FIELD - 1);
+        i.ops[2] = carried(FIELD - 1);
+    });
+    // Flags at or above the count, which is 2 in the first batch and 1 in the second.
+    single("the flag at the count", 0, 0, &|i| i.flags[0] = 5);
+    single("flag 7", 0, 0, &|i| i.flags[0] = 0x81);
+    single("all flags above the counts", 0, 0, &|i| {
         i.flags = vec![0xfd, 0xfe]
     });
     for flags in [1, 0xff] {
-        kept(
+        single(
             &format!("flags {flags:x} of a batch without groups"),
             0,
             0,
@@ -746,7 +887,7 @@ fn decode(visit: &mut Visit<'_>) {
             },
         );
     }
-    kept(
+    single(
         "a group that ends in an immediate's operation",
         0,
         0,
@@ -759,16 +900,16 @@ fn decode(visit: &mut Visit<'_>) {
         },
     );
     // What comes later is looked for.
-    kept("a kept flag, then past the operations", 7, 1, &|i| {
+    single("a kept flag, then past the operations", 7, 1, &|i| {
         i.flags[0] = 5;
         i.nibbles[1] = [9, 0, 0, 0];
     });
-    kept("a kept flag, then a slot past 7", 8, 1, &|i| {
+    single("a kept flag, then a slot past 7", 8, 1, &|i| {
         i.flags[0] = 5;
         i.ops[2] = immediate(6);
         i.nibbles[1] = [0, 0, 0, 0x10];
     });
-    kept(
+    single(
         "a kept flag, then a slot that holds operations",
         9,
         1,
@@ -780,25 +921,25 @@ fn decode(visit: &mut Visit<'_>) {
             i.nibbles[1] = [0x11, 0, 0, 0];
         },
     );
-    kept(
+    single(
         "a kept flag, then a flagged group without Noop",
         10,
         1,
         &|i| i.flags = vec![5, 1],
     );
-    kept("kept flags and the slot's", 10, 0, &|i| i.flags[0] = 0xff);
-    kept(
+    single("kept flags and the slot's", 10, 0, &|i| i.flags[0] = 0xff);
+    single(
         "a kept flag and a flagged group without Noop",
         10,
         1,
         &|i| i.flags[1] = 3,
     );
-    kept("kept flags, then operations left over", 11, 0, &|i| {
+    single("kept flags, then operations left over", 11, 0, &|i| {
         i.ops.push(vec![2]);
         i.count = count_bytes(4);
         i.flags = vec![0xfd, 0xfe];
     });
-    kept(
+    single(
         "a batch without groups, then operations left over",
         11,
         0,
@@ -914,13 +1055,14 @@ fn checks(visit: &mut Visit<'_>) {
     faults.extend(structures());
     faults.extend([
         fault(
-            4,
+            17,
             3,
             "an immediate at the field's order",
             "",
             |i: &mut Block| i.values[3] = FIELD,
         ),
-        fault(4, 10, "an unassigned opcode", "", |i| i.codes[10] = 4),
+        fault(4, 7, "an unassigned opcode", "", |i| i.codes[7] = 4),
+        fault(17, 10, "a Noop with a value", "", |i| i.values[10] = 1),
         fault(16, 0, "a wrong group number", "", |i| {
             i.records[NUMBER] ^= 1
         }),
@@ -967,6 +1109,26 @@ fn checks(visit: &mut Visit<'_>) {
                 place: 0,
             });
         }
+    }
+    for (name, places, number, place) in faulty() {
+        let mut block = two_batches();
+        put(&places, &mut block.codes, &mut block.values);
+        if number == 0 {
+            // Records that go with it: the second batch's one immediate.
+            block = two_batches();
+            block.values[9] = FIELD - 1;
+            block.records[RECORD + NUMBER + 8..][..8].copy_from_slice(&(FIELD - 1).to_le_bytes());
+        }
+        visit(Case {
+            name: format!("commitment: {name} ({number})"),
+            pair: None,
+            call: Call::Commitment {
+                table: &block.table,
+                arena: block.arena(&block.records),
+            },
+            number,
+            place,
+        });
     }
     for (name, block) in kept_and_slot() {
         visit(Case {

@@ -60,20 +60,31 @@ pub(crate) fn has_immediate(table: &[u8], op: Operation) -> bool {
     kind(table, op.code) == 1
 }
 
-pub(crate) fn admissible(table: &[u8], op: Operation) -> bool {
-    match kind(table, op.code) {
-        0 => op.value == 0,
-        1 | 2 => op.value < FIELD,
-        _ => false,
+/// What is wrong with an operation (M-101): 4 an opcode of 128 or more or of kind 3, 17 a value that
+/// is not below the field's size, or is not 0 on kind 0. The opcode is looked at first.
+fn fault(table: &[u8], op: Operation) -> Option<u8> {
+    let kind = kind(table, op.code);
+    if kind == 3 {
+        Some(4)
+    } else if op.value >= FIELD || (kind == 0 && op.value != 0) {
+        Some(17)
+    } else {
+        None
     }
 }
 
-/// 4 at the first operation that is not admissible.
+/// 4 or 17 for an operation; the place is its index.
+pub(crate) fn admissible(table: &[u8], op: Operation, index: usize) -> Result<(), Refusal> {
+    match fault(table, op) {
+        Some(number) => refuse(number, index),
+        None => Ok(()),
+    }
+}
+
+/// 4 or 17 at the first operation that is not admissible.
 pub(crate) fn all_admissible(table: &[u8], list: &[Operation]) -> Result<(), Refusal> {
     for (i, &op) in list.iter().enumerate() {
-        if !admissible(table, op) {
-            return refuse(4, i);
-        }
+        admissible(table, op, i)?;
     }
     Ok(())
 }

@@ -1,8 +1,8 @@
 //! A model of document 01: every public function with its whole answer.
 //!
-//! It is written from the document and from docs/DECISIONS.md alone, apart from the port's code
-//! and its definitions, and is simple and slow on purpose: lists are `Vec`s, nothing is kept that
-//! can be worked out again, and each function reads like the paragraph that it models.
+//! It is written from the document, 02's requests and docs/DECISIONS.md alone, apart from the port's
+//! code and its definitions, and is simple and slow on purpose: lists are `Vec`s, nothing is kept
+//! that can be worked out again, and each function reads like the paragraph that it models.
 //!
 //! Data: opcodes are bytes, values are 64-bit numbers, batches are records of 82 bytes (nine
 //! starts, eight flags, eight numbers of eight bytes, little-endian, the count). A function that
@@ -17,7 +17,7 @@ mod data;
 mod lookups;
 
 pub use batching::build;
-pub use bytes::{count_bytes, decode, encode, head, read_count};
+pub use bytes::{count_bytes, decode, encode, head, read_count, read_operation};
 pub use call::{Answer, Arena, Call, Function, Room, answer};
 pub use checks::{commitment, padding, record_holds, structure};
 pub use data::{

@@ -1,9 +1,9 @@
 //! Document 01's "Numbers to check", and the offset cases.
 
 use model::{
-    Arena, Batch, FIELD, RECORD, Room, batches_of, build, cases::table_t, commitment, count_bytes,
-    decode, encode, group, next_group, padded_index, padded_table, padding, raw_index, raw_table,
-    read_count, structure,
+    Arena, Batch, FIELD, Operation, RECORD, Refusal, Room, batches_of, build, cases::table_t,
+    commitment, count_bytes, decode, encode, group, next_group, padded_index, padded_table,
+    padding, raw_index, raw_table, read_count, read_operation, structure,
 };
 
 /// Room for anything in these tests.
@@ -304,6 +304,93 @@ fn flags_above_the_count() {
         let answer = decode(&table, &bytes, 0, WIDE);
         assert_eq!((answer.number, answer.place), (number, place), "{bytes:?}");
     }
+}
+
+/// M-101: one operation read.
+#[test]
+fn opcode_then_missing_bytes_then_value() {
+    let table = table_t();
+    let read = |bytes: &[u8]| read_operation(&table, bytes, 1, 7);
+    let valued = |code: u8, value: u64, cut: usize| {
+        let bytes = [&[9, code][..], &value.to_le_bytes()].concat();
+        bytes[..bytes.len() - cut].to_vec()
+    };
+    let refused = |number, place| Err(Refusal { number, place });
+    // The bytes end before the opcode.
+    assert_eq!(read(&[9]), refused(2, 1));
+    assert_eq!(read(&[]), refused(2, 1));
+    for code in [0, 2] {
+        let op = Operation { code, value: 0 };
+        assert_eq!(read(&[9, code]), Ok((op, 1)));
+        assert_eq!(read(&valued(code, FIELD, 0)), Ok((op, 1)));
+    }
+    for code in [4, 127, 128, 255] {
+        for value in [0, FIELD - 1, FIELD, u64::MAX] {
+            for cut in 0..=8 {
+                assert_eq!(read(&valued(code, value, cut)), refused(4, 7));
+            }
+        }
+    }
+    for code in [1, 3] {
+        for value in [0, 5, FIELD - 1] {
+            assert_eq!(
+                read(&valued(code, value, 0)),
+                Ok((Operation { code, value }, 9))
+            );
+        }
+        for value in [FIELD, FIELD + 1, u64::MAX] {
+            assert_eq!(read(&valued(code, value, 0)), refused(17, 7));
+        }
+        for cut in 1..=8 {
+            assert_eq!(read(&valued(code, u64::MAX, cut)), refused(2, 1));
+        }
+    }
+}
+
+/// M-101: the first operation at fault, with its own number, in everything that looks at a list.
+#[test]
+fn two_faults_told_apart() {
+    let table = table_t();
+    // All lists of three, each operation of them good or at fault.
+    let letters = [
+        (2, 0, 0),
+        (3, FIELD - 1, 0),
+        (128, FIELD, 4),
+        (4, 1, 4),
+        (0, 1, 17),
+        (1, FIELD, 17),
+        (3, u64::MAX, 17),
+    ];
+    let mut seen = [0; 18];
+    for word in 0..letters.len().pow(3) {
+        let list = [0, 1, 2].map(|i| letters[word / letters.len().pow(i) % letters.len()]);
+        let codes = list.map(|op| op.0);
+        let values = list.map(|op| op.1);
+        let fault = list.iter().position(|op| op.2 != 0);
+        let want = fault.map_or((0, 0), |place| (list[place].2, place));
+        let batch = Batch {
+            starts: [0, 3, 3, 3, 3, 3, 3, 3, 3],
+            numbers: core::array::from_fn(|group| match group {
+                0 => (0..3).map(|i| u64::from(codes[i]) << (7 * i)).sum(),
+                _ => 0,
+            }),
+            count: 1,
+            ..Batch::default()
+        };
+        let records = batch.record();
+        let arena = Arena {
+            codes: &codes,
+            values: &values,
+            records: &records,
+        };
+        let number = |answer: model::Answer| (answer.number, answer.place);
+        assert_eq!(number(build(&table, &codes, &values, WIDE)), want);
+        assert_eq!(number(encode(&table, arena, &[0; 50], 0)), want);
+        assert_eq!(number(commitment(&table, arena)), want);
+        seen[usize::from(want.0)] += 1;
+    }
+    // Each of the five letters at fault is the first one in 67 lists.
+    assert_eq!((seen[0], seen[4], seen[17]), (8, 2 * 67, 3 * 67));
 }
 
 #[test]

@@ -35,25 +35,33 @@ fn each_number_and_place() {
     assert!(total > 1_000, "{total}");
 }
 
-/// The orders of refusal in document 01.
-const ORDERS: [(Function, &[u8]); 8] = [
+/// The orders of refusal in document 01; 17 stands where 4 does (M-101).
+const ORDERS: [(Function, &[u8]); 12] = [
     (Function::Build, &[3, 14, 12, 4, 13]),
+    (Function::Build, &[3, 14, 12, 17, 13]),
     (Function::Encode, &[3, 14, 1, 15, 4, 13]),
+    (Function::Encode, &[3, 14, 1, 15, 17, 13]),
     (
         Function::Decode,
         &[3, 14, 1, 2, 3, 13, 4, 2, 5, 3, 13, 6, 7, 8, 9, 10, 11],
     ),
+    (
+        Function::Decode,
+        &[3, 14, 1, 2, 3, 13, 17, 2, 5, 3, 13, 6, 7, 8, 9, 10, 11],
+    ),
     (Function::Structure, &[3, 15]),
     (Function::Padding, &[3, 15, 10]),
     (Function::Commitment, &[3, 14, 15, 4, 16, 8, 16, 9, 16]),
+    (Function::Commitment, &[3, 14, 15, 17, 16, 8, 16, 9, 16]),
     (Function::RawTable, &[3, 15, 10, 13]),
     (Function::PaddedTable, &[3, 15, 10, 13]),
 ];
 
 /// Neighbours that no input can have at once.
-const APART: [(Function, u8, u8); 3] = [
+const APART: [(Function, u8, u8); 4] = [
     // An empty list has no operation.
     (Function::Build, 12, 4),
+    (Function::Build, 12, 17),
     // An offset past the end is 1; only up to the end do bytes end inside anything.
     (Function::Decode, 1, 2),
     // The batch count is not there, so it can't be too large.
@@ -90,6 +98,18 @@ fn no_number_and_no_pair_is_left_out() {
             assert!(alone.contains(&(function, number)), "{function:?} {number}");
         }
     }
+    // Operation by operation.
+    for function in [
+        Function::Build,
+        Function::Encode,
+        Function::Decode,
+        Function::Commitment,
+    ] {
+        for (first, second) in [(4, 17), (17, 4), (17, 17)] {
+            let pair = (function, first, second);
+            assert!(pairs.contains(&pair), "{pair:?}");
+        }
+    }
     // Decode's finer orders.
     for (first, second) in [
         (3, 2),
@@ -97,8 +117,10 @@ fn no_number_and_no_pair_is_left_out() {
         (3, 13),
         (13, 2),
         (4, 2),
-        (2, 4),
+        (2, 17),
+        (17, 2),
         (4, 5),
+        (17, 5),
         (5, 13),
         (13, 7),
         (6, 8),
