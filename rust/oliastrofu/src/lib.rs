@@ -1,13 +1,14 @@
 //! Basic blocks: batches, checks, index tables, bytes written and read, by a proved library.
 //!
-//! Every function answers on every input: with a result, or with a [`Refusal`] that has document
-//! 01's number and place. Nothing here panics. The functions of the root make room of their own;
-//! those of [`lent`] work on the caller's slices and allocate nothing; so do those of [`le`], over
-//! bytes alone.
+//! Every function answers on every input: with a result, or with a [`Refusal`] that has a number and
+//! a place. Nothing here panics. The functions of the root make room of their own; those of [`lent`]
+//! work on the caller's slices and allocate nothing; so do those of [`le`], over bytes alone.
 //!
 //! An operation is an opcode and a value. What an opcode's value is, a table of 128 kinds says: 0
 //! none; 1 an immediate, placed in a group; 2 a value that is carried but never placed; 3 the
-//! opcode is unassigned. Opcode 0 is Noop, of kind 0. Values are below 2^64 - 2^32 + 1.
+//! opcode is unassigned. Opcode 0 is Noop, of kind 0. Values are below 2^64 - 2^32 + 1, the field's
+//! size. An unknown opcode ([`Cause::Opcode`], 4) is told from a value that is not to be had
+//! ([`Cause::Value`], 17), and the first operation at fault is named.
 //!
 //! ```
 //! // Opcodes 0 and 2 have no value, 1 an immediate, 3 a value that is only carried.

@@ -62,6 +62,17 @@ fn most(listed: usize, immediates: usize) -> (usize, usize) {
 /// assert_eq!(block.codes, [1, 0]);
 /// let batch = block.batches().next().unwrap();
 /// assert_eq!((batch.count, &batch.numbers[..2]), (2, &[1, 5][..]));
+///
+/// // An opcode that is unassigned is 4, a value at the field's size 17; the first of them is named.
+/// let order = 0xffff_ffff_0000_0001;
+/// let refused = |codes: &[u8], values: &[u64]| {
+///     let refusal = oliastrofu::build(&table, codes, values).unwrap_err();
+///     (refusal.number(), refusal.place)
+/// };
+/// assert_eq!(refused(&[2, 4, 1], &[0, 0, order]), (4, 1));
+/// assert_eq!(refused(&[2, 1, 4], &[0, order, 0]), (17, 1));
+/// // So is a value where the kind has none.
+/// assert_eq!(refused(&[2], &[1]), (17, 0));
 /// # Ok::<(), oliastrofu::Refusal>(())
 /// ```
 pub fn build(table: &[u8], codes: &[u8], values: &[u64]) -> Result<Block, Refusal> {
@@ -98,6 +109,12 @@ pub fn build(table: &[u8], codes: &[u8], values: &[u64]) -> Result<Block, Refusa
 /// let block = oliastrofu::build(&table, &[1], &[5])?;
 /// let bytes = oliastrofu::encode(&table, &block)?;
 /// assert_eq!(bytes, [5, 1, 5, 0, 0, 0, 0, 0, 0, 0, 0, 1, 0, 0, 0, 2, 0, 0, 0, 1]);
+///
+/// let mut other = block.clone();
+/// other.values[1] = 1;
+/// assert_eq!(oliastrofu::encode(&table, &other).unwrap_err().number(), 17);
+/// other.codes[1] = 4;
+/// assert_eq!(oliastrofu::encode(&table, &other).unwrap_err().number(), 4);
 /// # Ok::<(), oliastrofu::Refusal>(())
 /// ```
 pub fn encode(table: &[u8], block: &Block) -> Result<Vec<u8>, Refusal> {
@@ -127,8 +144,14 @@ pub fn encode(table: &[u8], block: &Block) -> Result<Vec<u8>, Refusal> {
 /// assert_eq!(used, 20);
 /// assert_eq!(block, oliastrofu::build(&table, &[1], &[5])?);
 ///
-/// let refusal = oliastrofu::decode(&table, &bytes[..4], 0).unwrap_err();
-/// assert_eq!((refusal.number(), refusal.place), (2, 1));
+/// let refused = |bytes: &[u8]| {
+///     let refusal = oliastrofu::decode(&table, bytes, 0).unwrap_err();
+///     (refusal.number(), refusal.place)
+/// };
+/// // The bytes end in the operation at byte 1; its value is not in the field; its opcode is none.
+/// assert_eq!(refused(&[5, 1, 255, 255, 255, 255, 255, 255, 255]), (2, 1));
+/// assert_eq!(refused(&[5, 1, 255, 255, 255, 255, 255, 255, 255, 255]), (17, 0));
+/// assert_eq!(refused(&[5, 4, 255, 255, 255]), (4, 0));
 /// # Ok::<(), oliastrofu::Refusal>(())
 /// ```
 pub fn decode(table: &[u8], bytes: &[u8], at: usize) -> Result<(Block, usize), Refusal> {
@@ -178,6 +201,10 @@ fn likely(bytes: &[u8], at: usize) -> Option<(usize, usize)> {
 /// table[..4].copy_from_slice(&[0, 1, 0, 2]);
 /// let bytes = [5, 1, 5, 0, 0, 0, 0, 0, 0, 0, 0, 1, 0, 0, 0, 2, 0, 0, 0, 1];
 /// assert_eq!(oliastrofu::head(&table, &bytes, 0)?, Head { batches: 1, operations: 2 });
+///
+/// let bytes = [3, 1, 255, 255, 255, 255, 255, 255, 255, 255];
+/// assert_eq!(oliastrofu::head(&table, &bytes, 0).unwrap_err().number(), 17);
+/// assert_eq!(oliastrofu::head(&table, &[3, 4], 0).unwrap_err().number(), 4);
 /// # Ok::<(), oliastrofu::Refusal>(())
 /// ```
 pub fn head(table: &[u8], bytes: &[u8], at: usize) -> Result<Head, Refusal> {
@@ -225,6 +252,10 @@ pub fn padding(block: &Block) -> Result<(), Refusal> {
 /// oliastrofu::commitment(&table, &block)?;
 /// block.values[0] = 6;
 /// assert_eq!(oliastrofu::commitment(&table, &block).unwrap_err().number(), 16);
+/// block.values[0] = u64::MAX;
+/// assert_eq!(oliastrofu::commitment(&table, &block).unwrap_err().number(), 17);
+/// block.codes[0] = 4;
+/// assert_eq!(oliastrofu::commitment(&table, &block).unwrap_err().number(), 4);
 /// # Ok::<(), oliastrofu::Refusal>(())
 /// ```
 pub fn commitment(table: &[u8], block: &Block) -> Result<(), Refusal> {

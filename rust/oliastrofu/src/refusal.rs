@@ -2,7 +2,7 @@
 
 use core::{error, fmt};
 
-/// Why a call was refused: document 01's numbers.
+/// Why a call was refused: document 01's numbers, and 17 of M-101.
 ///
 /// ```
 /// use oliastrofu::Cause;
@@ -17,8 +17,8 @@ pub enum Cause {
     BytesEnd,
     /// 3: over a limit; lists of unequal length; the count's form is wrong.
     Limit,
-    /// 4: an operation is not admissible.
-    Operation,
+    /// 4: an operation's opcode is unassigned: 128 or more, or of kind 3.
+    Opcode,
     /// 5: more batches than the bytes that are left can hold.
     BatchCount,
     /// 6: a nibble is over 9.
@@ -43,7 +43,10 @@ pub enum Cause {
     Structure,
     /// 16: the commitment check fails: a group number, an immediate or an empty group's 0 differs.
     Commitment,
-    /// A number that document 01 does not have.
+    /// 17: an operation's opcode is assigned, and its value is not below the field's size, or not 0
+    /// where its kind has none.
+    Value,
+    /// A number that stands for nothing.
     Other(u8),
 }
 
@@ -54,7 +57,7 @@ impl Cause {
             1 => Self::PastEnd,
             2 => Self::BytesEnd,
             3 => Self::Limit,
-            4 => Self::Operation,
+            4 => Self::Opcode,
             5 => Self::BatchCount,
             6 => Self::Nibble,
             7 => Self::PastOperations,
@@ -67,17 +70,18 @@ impl Cause {
             14 => Self::Table,
             15 => Self::Structure,
             16 => Self::Commitment,
+            17 => Self::Value,
             other => Self::Other(other),
         }
     }
 
-    /// Document 01's number.
+    /// The number.
     pub const fn number(self) -> u8 {
         match self {
             Self::PastEnd => 1,
             Self::BytesEnd => 2,
             Self::Limit => 3,
-            Self::Operation => 4,
+            Self::Opcode => 4,
             Self::BatchCount => 5,
             Self::Nibble => 6,
             Self::PastOperations => 7,
@@ -90,6 +94,7 @@ impl Cause {
             Self::Table => 14,
             Self::Structure => 15,
             Self::Commitment => 16,
+            Self::Value => 17,
             Self::Other(number) => number,
         }
     }
@@ -100,9 +105,7 @@ impl Cause {
             Self::PastEnd => "the place to begin at is past the end of the bytes",
             Self::BytesEnd => "the bytes end inside the count, an operation or the batch count",
             Self::Limit => "a count has a wrong form or is over a limit, or lengths do not match",
-            Self::Operation => {
-                "an operation is not admissible: its opcode is unassigned or its value out of range"
-            }
+            Self::Opcode => "an operation's opcode is unassigned: 128 or more, or of kind 3",
             Self::BatchCount => "more batches than the bytes that are left can hold",
             Self::Nibble => "a group's length is over 9",
             Self::PastOperations => "a batch runs past the operations",
@@ -115,6 +118,9 @@ impl Cause {
             Self::Table => "the table is not 128 bytes or not good",
             Self::Structure => "the batches' structure does not hold",
             Self::Commitment => "a group number, an immediate or an empty group's 0 differs",
+            Self::Value => {
+                "an operation's value is not below the field's size, or not 0 where its kind has none"
+            }
             Self::Other(_) => "a number without a meaning",
         }
     }
@@ -128,17 +134,28 @@ impl Cause {
 /// assert_eq!(refusal.number(), 6);
 /// assert_eq!(refusal.to_string(), "refusal 6: a group's length is over 9, in batch 2");
 /// ```
+///
+/// An opcode and a value at fault are two causes:
+///
+/// ```
+/// use oliastrofu::{Cause, VM_TABLE, build};
+/// let cause = |code, value| build(&VM_TABLE, &[code], &[value]).unwrap_err().cause;
+/// assert_eq!(cause(200, 0), Cause::Opcode);
+/// assert_eq!(cause(91, u64::MAX), Cause::Value);
+/// // In one operation the opcode is looked at first.
+/// assert_eq!(cause(200, u64::MAX), Cause::Opcode);
+/// ```
 #[derive(Clone, Copy, Debug, PartialEq, Eq, Hash)]
 pub struct Refusal {
     pub cause: Cause,
-    /// Counted from 0, the first at fault: a byte of the buffer for 2, an operation for 4, a batch
-    /// for 6 to 10, 15 and 16, otherwise 0. For 15 it is the number of batches if only their sum
-    /// is wrong.
+    /// Counted from 0, the first at fault: a byte of the buffer for 2, an operation for 4 and 17, a
+    /// batch for 6 to 10, 15 and 16, otherwise 0. For 15 it is the number of batches if only their
+    /// sum is wrong.
     pub place: usize,
 }
 
 impl Refusal {
-    /// Document 01's number.
+    /// The cause's number.
     pub const fn number(&self) -> u8 {
         self.cause.number()
     }
@@ -161,7 +178,7 @@ impl fmt::Display for Refusal {
         let place = self.place;
         match self.cause {
             Cause::BytesEnd => write!(f, ", in the item that starts at byte {place} of the buffer"),
-            Cause::Operation => write!(f, ", operation {place}"),
+            Cause::Opcode | Cause::Value => write!(f, ", operation {place}"),
             Cause::Nibble
             | Cause::PastOperations
             | Cause::SlotPastEnd

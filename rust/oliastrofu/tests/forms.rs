@@ -52,13 +52,130 @@ fn every_number_has_words() {
         };
         let words = refusal.to_string();
         assert!(words.starts_with(&format!("refusal {number}: ")));
-        let placed = [2, 4, 6, 7, 8, 9, 10, 15, 16].contains(&number);
+        let placed = [2, 4, 6, 7, 8, 9, 10, 15, 16, 17].contains(&number);
         assert_eq!(words.contains("9876"), placed, "{words}");
         assert_eq!(
             matches!(cause, Cause::Other(_)),
-            !(1..=16).contains(&number)
+            !(1..=17).contains(&number)
         );
     }
+}
+
+/// The programs print the same sentences, each for its number (`print_meaning`, crates/listing).
+#[test]
+fn the_words_of_the_programs() {
+    let listing = include_str!("../../../crates/listing/src/lib.rt");
+    for number in 1..=17 {
+        let (_, arm) = listing
+            .split_once(&format!("        {number} => say("))
+            .unwrap();
+        let (_, words) = arm.split_once("b\"").unwrap();
+        let (words, _) = words.split_once('"').unwrap();
+        let cause = Cause::of_number(number);
+        let ours = Refusal { cause, place: 0 }.to_string();
+        let rest = ours.strip_prefix(&format!("refusal {number}: {words}"));
+        assert!(
+            rest.is_some_and(|place| place.is_empty() || place.starts_with(", ")),
+            "{ours}"
+        );
+    }
+}
+
+#[test]
+fn the_words_of_an_operation_at_fault() {
+    let words = |number| {
+        let cause = Cause::of_number(number);
+        Refusal { cause, place: 3 }.to_string()
+    };
+    assert_eq!(
+        words(4),
+        "refusal 4: an operation's opcode is unassigned: 128 or more, or of kind 3, operation 3"
+    );
+    assert_eq!(
+        words(17),
+        "refusal 17: an operation's value is not below the field's size, or not 0 where its kind \
+         has none, operation 3"
+    );
+}
+
+/// The field's size.
+const FIELD: u64 = 0xffff_ffff_0000_0001;
+
+/// What is wrong with an operation of the virtual machine's, if anything; without the table.
+fn fault(code: u8, value: u64) -> u8 {
+    match code {
+        200 | 6 => 4,
+        91 | 32 if value >= FIELD => 17,
+        1 | 0 if value != 0 => 17,
+        _ => 0,
+    }
+}
+
+/// An opcode and a value at fault, in any order, in every function that looks at operations, in
+/// every form: the first operation at fault, with its own number.
+#[test]
+fn opcode_and_value_are_told_apart() {
+    let mut seed = Seed(0xd1b5_4a32_d192_ed03);
+    let mut seen = [0; 18];
+    for _ in 0..20_000 {
+        let size = 1 + seed.under(5);
+        let mut pick = |of: &[u64]| of[seed.under(of.len())];
+        let codes: Vec<u8> = (0..size)
+            .map(|_| pick(&[91, 91, 32, 32, 1, 0, 6, 200]) as u8)
+            .collect();
+        let values: Vec<u64> = (codes.iter())
+            .map(|code| match code {
+                91 | 32 => pick(&[0, 5, FIELD - 1, FIELD - 1, FIELD, u64::MAX]),
+                1 | 0 => pick(&[0, 0, 0, 1, FIELD]),
+                _ => pick(&[0, FIELD]),
+            })
+            .collect();
+        let faults = codes.iter().zip(&values).map(|(&c, &v)| fault(c, v));
+        let first = faults.enumerate().find(|&(_, number)| number != 0);
+        let want = first.map(|(place, number)| (number, place));
+        seen[want.map_or(0, |(number, _)| usize::from(number))] += 1;
+        let said = |refused: Option<Refusal>| refused.map(|r| (r.number(), r.place));
+
+        assert_eq!(said(build(&VM_TABLE, &codes, &values).err()), want);
+        // One group of them all: structure holds.
+        let batch = Batch {
+            starts: core::array::from_fn(|i| if i == 0 { 0 } else { size as u8 }),
+            count: 1,
+            ..Batch::default()
+        };
+        let block = Block::new(codes, values, &[batch]);
+        assert_eq!(said(encode(&VM_TABLE, &block).err()), want);
+        let checked = commitment(&VM_TABLE, &block).err();
+        if want.is_some() {
+            assert_eq!(said(checked), want);
+        } else {
+            assert_ne!(checked.map(|r| r.cause), Some(Cause::Opcode));
+            assert_ne!(checked.map(|r| r.cause), Some(Cause::Value));
+        }
+
+        // In bytes an operation without a value has none.
+        let mut bytes = vec![2 * size as u8 + 1];
+        for (&code, &value) in block.codes.iter().zip(&block.values) {
+            bytes.push(code);
+            if [91, 32].contains(&code) {
+                bytes.extend(value.to_le_bytes());
+            }
+        }
+        bytes.extend([0; 4]);
+        let read = (block.codes.iter().zip(&block.values))
+            .map(|(&code, &value)| match code {
+                0 | 1 => 0,
+                _ => fault(code, value),
+            })
+            .enumerate()
+            .find(|&(_, number)| number != 0)
+            .map(|(place, number)| (number, place));
+        assert_eq!(said(head(&VM_TABLE, &bytes, 0).err()), read);
+        // Without batches the operations are left over.
+        let left = Some(read.unwrap_or((11, 0)));
+        assert_eq!(said(decode(&VM_TABLE, &bytes, 0).err()), left);
+    }
+    assert!(seen[0] > 1_000 && seen[4] > 1_000 && seen[17] > 1_000);
 }
 
 #[test]
