@@ -77,6 +77,23 @@ impl Block {
     }
 }
 
+/// A list as one group of one batch. It may be none of a good block; structure holds.
+pub fn one_group(list: &List) -> Block {
+    let length = list.codes.len() as u8;
+    let mut batch = Batch {
+        count: 1,
+        ..Batch::default()
+    };
+    batch.starts[1..].fill(length);
+    batch.numbers[0] =
+        (list.codes.iter().rev()).fold(0u64, |number, &code| number << 7 | u64::from(code & 127));
+    Block {
+        codes: list.codes.clone(),
+        values: list.values.clone(),
+        records: batch.record(),
+    }
+}
+
 /// The opcodes of a table by kind, Noop apart.
 pub struct Kinds {
     pub plain: Vec<u8>,
@@ -118,6 +135,27 @@ pub fn bad_table(seed: &mut Seed, good: &[u8]) -> Vec<u8> {
         _ => table[0] = 1 + seed.under(3) as u8,
     }
     table
+}
+
+/// Operations of every kind: good ones with the least and the largest values, and with a fault of the
+/// opcode, of the value, or of both.
+pub fn letters(kinds: &Kinds) -> Vec<(u8, u64)> {
+    let (plain, immediate, carried) = (kinds.plain[0], kinds.immediate[0], kinds.carried[0]);
+    let unassigned = kinds.unassigned[0];
+    vec![
+        (plain, 0),
+        (immediate, FIELD - 1),
+        (carried, FIELD - 1),
+        (0, 1),
+        (plain, FIELD),
+        (immediate, FIELD),
+        (carried, FIELD),
+        (immediate, u64::MAX),
+        (unassigned, 0),
+        (unassigned, u64::MAX),
+        (128, 0),
+        (255, FIELD),
+    ]
 }
 
 /// A length of list: most of them small, many at the ends of groups and batches.

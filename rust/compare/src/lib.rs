@@ -1,5 +1,6 @@
 //! The comparison: calls, who answers them, and what is counted.
 
+pub mod answers;
 #[cfg(feature = "port")]
 pub mod bytes;
 pub mod inputs;

@@ -4,19 +4,25 @@
 //! `cargo run --release -p compare [-- SEED [COUNT]]`: COUNT is the number of random turns (each
 //! of them some dozens of comparisons); the rest is always run whole. The same SEED and COUNT make
 //! the same comparisons. Without the feature `port` the model takes the port's place.
+//!
+//! `cargo run --release -p compare -- answers FILE [SEED [COUNT]]` compares nothing: it writes the
+//! port's answers to a file, one line each (see `answers`), on lists that are shorter.
 
 use std::{
     env,
     io::Write as _,
+    path::Path,
     process::exit,
     time::{Duration, Instant},
 };
 
-use compare::{Run, Seed, Stopped, run::Tally, sections, theirs::Did};
+use compare::{Run, Seed, Stopped, answers::Answers, run::Tally, sections, theirs::Did};
 use model::Function;
 
 const SEED: u64 = 1;
 const COUNT: u64 = 300_000;
+/// Turns whose answers are written.
+const WRITTEN: u64 = 2_000;
 
 #[cfg(feature = "port")]
 const WHO: (&str, fn(model::Call<'_>) -> model::Answer, bool) =
@@ -25,15 +31,29 @@ const WHO: (&str, fn(model::Call<'_>) -> model::Answer, bool) =
 const WHO: (&str, fn(model::Call<'_>) -> model::Answer, bool) = ("model", model::answer, false);
 
 fn main() {
-    let mut args = env::args().skip(1);
+    let mut args = env::args().skip(1).peekable();
+    let file = args
+        .next_if(|word| word == "answers")
+        .map(|_| args.next().unwrap_or_else(|| fail("answers wants a FILE")));
     let mut number = |usual| match args.next() {
         None => usual,
-        Some(word) => word.parse().unwrap_or_else(|_| {
-            eprintln!("compare: SEED and COUNT are numbers");
-            exit(2)
-        }),
+        Some(word) => word
+            .parse()
+            .unwrap_or_else(|_| fail("SEED and COUNT are numbers")),
     };
-    let (seed, count) = (number(SEED), number(COUNT));
+    let seed = number(SEED);
+    match file {
+        None => compare(seed, number(COUNT)),
+        Some(file) => write(Path::new(&file), seed, number(WRITTEN)),
+    }
+}
+
+fn fail(words: &str) -> ! {
+    eprintln!("compare: {words}");
+    exit(2)
+}
+
+fn compare(seed: u64, count: u64) {
     let (name, answer, port) = WHO;
     let start = Instant::now();
     let mut run = Run::new(answer, port);
@@ -54,6 +74,25 @@ fn main() {
     );
 }
 
+fn write(file: &Path, seed: u64, count: u64) {
+    let (name, answer, _) = WHO;
+    let mut run = Run::new(answer, true);
+    let unwritten = |error| -> ! { fail(&format!("{}: {error}", file.display())) };
+    run.answers = Some(Answers::create(file).unwrap_or_else(|error| unwritten(error)));
+    let done = all(&mut run, seed, count, Instant::now());
+    eprintln!();
+    if let Err(Stopped(words)) = done {
+        fail(&words);
+    }
+    println!("seed {seed}, {count} turns");
+    numbers(&run.tally, name);
+    let lines = run.answers.map_or(Ok(0), Answers::finish);
+    println!(
+        "\n{} answers",
+        lines.unwrap_or_else(|error| unwritten(error))
+    );
+}
+
 fn all(run: &mut Run, seed: u64, count: u64, start: Instant) -> Result<(), Stopped> {
     let mut last = start;
     let mut line = |run: &Run, what: &str| {
@@ -67,16 +106,21 @@ fn all(run: &mut Run, seed: u64, count: u64, start: Instant) -> Result<(), Stopp
             let _ = std::io::stderr().flush();
         }
     };
+    // A file of answers would be too long with all lists.
+    let [four, two, flags] = match run.answers {
+        None => [7, 17, 4],
+        Some(_) => [4, 9, 2],
+    };
     if run.port {
         sections::cases(run)?;
     }
-    sections::four_kinds(run, 7, &mut |run| {
-        line(run, "all lists over four kinds up to 7")
+    sections::four_kinds(run, four, &mut |run| line(run, "all lists over four kinds"))?;
+    sections::two_kinds(run, two, &mut |run| line(run, "all lists over two kinds"))?;
+    sections::flags_above(run, flags, &mut |run| {
+        line(run, "flags at or above the count")
     })?;
-    sections::two_kinds(run, 17, &mut |run| {
-        line(run, "all lists over two kinds up to 17")
-    })?;
-    sections::flags_above(run, 4, &mut |run| line(run, "flags at or above the count"))?;
+    line(run, "operations at fault");
+    sections::operations(run, 3)?;
     line(run, "small blocks");
     sections::changes(run)?;
     line(run, "limits");
@@ -108,26 +152,17 @@ fn report(tally: &Tally, name: &str) {
             tally.original[at]
         );
     }
-    println!("{:<14}{:>14}", "head", tally.heads);
+    let heads: u64 = tally.heads.iter().sum();
+    println!("{:<14}{:>14}", "head", heads);
     println!(
         "{:<14}{:>14}{:>14}{:>16}",
         "all",
-        tally.model.iter().sum::<u64>() + tally.heads,
+        tally.model.iter().sum::<u64>() + heads,
         tally.bytes.iter().sum::<u64>(),
         tally.original.iter().sum::<u64>()
     );
 
-    println!("\nANSWERS (of the {name}, by number of refusal; 0 is none)");
-    for function in Function::ALL {
-        let numbers = &tally.numbers[function as usize];
-        let parts: Vec<String> = numbers
-            .iter()
-            .enumerate()
-            .filter(|(_, times)| **times > 0)
-            .map(|(number, times)| format!("{number}: {times}"))
-            .collect();
-        println!("{:<14}{}", function.name(), parts.join("  "));
-    }
+    numbers(tally, name);
 
     println!("\nKNOWN DIFFERENCES (docs/DIFFERENCES.md)");
     for ((function, fault, number, did), times) in &tally.known {
@@ -171,4 +206,21 @@ fn report(tally: &Tally, name: &str) {
         "{:>10}  place of a structure refusal whose sum is wrong (the number is compared)",
         tally.places
     );
+}
+
+fn numbers(tally: &Tally, name: &str) {
+    println!("\nANSWERS (of the {name}, by number of refusal; 0 is none)");
+    let line = |name: &str, numbers: &[u64]| {
+        let parts: Vec<String> = numbers
+            .iter()
+            .enumerate()
+            .filter(|(_, times)| **times > 0)
+            .map(|(number, times)| format!("{number}: {times}"))
+            .collect();
+        println!("{name:<14}{}", parts.join("  "));
+    };
+    for function in Function::ALL {
+        line(function.name(), &tally.numbers[function as usize]);
+    }
+    line("head", &tally.heads);
 }

@@ -9,6 +9,7 @@ use model::{
 use original::Refused;
 
 use crate::{
+    answers::{Answers, Form},
     known::{self, Fault},
     theirs::{self, Did, did},
 };
@@ -24,12 +25,12 @@ pub struct Tally {
     pub model: [u64; 12],
     /// The port's functions over bytes against the model, by function.
     pub bytes: [u64; 12],
-    /// The port's `oli_head` against the model, for every decode.
-    pub heads: u64,
+    /// The numbers of the port's `oli_head`, held against the model for every decode.
+    pub heads: [u64; 18],
     /// The port (or the model in its place) against the original, by function.
     pub original: [u64; 12],
     /// The numbers of all answers that were compared, by function; 0 is no refusal.
-    pub numbers: [[u64; 17]; 12],
+    pub numbers: [[u64; 18]; 12],
     /// The differences that are known.
     pub known: BTreeMap<(Function, Fault, u8, Did), u64>,
     /// Answers that are the same but for a place that the original names otherwise or not at all.
@@ -47,8 +48,8 @@ impl Tally {
         [&self.model, &self.bytes, &self.original]
             .iter()
             .flat_map(|counts| counts.iter())
-            .sum::<u64>()
-            + self.heads
+            .chain(&self.heads)
+            .sum()
     }
 }
 
@@ -59,6 +60,8 @@ pub struct Run {
     /// The original's own table.
     pub table: [u8; 128],
     pub tally: Tally,
+    /// Where the port's answers are written. Then they are held against nothing.
+    pub answers: Option<Answers>,
 }
 
 type Checked<T> = Result<T, Stopped>;
@@ -70,6 +73,18 @@ impl Run {
             port,
             table: original::table(),
             tally: Tally::default(),
+            answers: None,
+        }
+    }
+
+    /// Writes an answer of the port down, if answers are written.
+    fn written(&mut self, form: Form, call: Call<'_>, answer: Option<&Answer>) -> Checked<bool> {
+        let Some(answers) = &mut self.answers else {
+            return Ok(false);
+        };
+        match answers.put(form, call, answer) {
+            Ok(()) => Ok(true),
+            Err(error) => Err(Stopped(format!("an answer can't be written: {error}"))),
         }
     }
 
@@ -77,16 +92,17 @@ impl Run {
     pub fn check(&mut self, call: Call<'_>) -> Checked<Answer> {
         let ours = (self.ours)(call);
         if self.port {
-            let model = model::answer(call);
             self.tally.model[call.function() as usize] += 1;
-            if ours != model {
-                return Err(stopped("port and model differ", call, &ours, &show(&model)));
+            if !self.written(Form::Numbers, call, Some(&ours))? {
+                beside_model(call, &ours)?;
             }
             self.count(call.function(), ours.number);
             self.over_bytes(call, &ours)?;
-            self.head(call, &ours)?;
+            self.head(call)?;
         }
-        self.beside(call, &ours)?;
+        if self.answers.is_none() {
+            self.beside(call, &ours)?;
+        }
         Ok(ours)
     }
 
@@ -102,19 +118,30 @@ impl Run {
         let counts = &mut self.tally.bytes[call.function() as usize];
         let left = (*counts % 8) as usize;
         *counts += 1;
-        let ours = bytes::answer(call, 0, left);
-        if ours.as_ref() != Some(answer) {
-            return Err(stopped("over bytes", call, answer, &ours));
-        }
         let more = 1 + (*counts % 7) as usize;
+        self.bytes_say("over bytes", call, 0, left, answer)?;
         if let Some(refused) = bytes::broken(call) {
-            *counts += 1;
-            let ours = bytes::answer(call, more, left);
-            if ours.as_ref() != Some(&refused) {
-                return Err(stopped("not whole numbers", call, &refused, &ours));
-            }
+            self.tally.bytes[call.function() as usize] += 1;
+            self.bytes_say("not whole numbers", call, more, left, &refused)?;
         }
         Ok(())
+    }
+
+    #[cfg(feature = "port")]
+    fn bytes_say(
+        &mut self,
+        why: &str,
+        call: Call<'_>,
+        more: usize,
+        left: usize,
+        want: &Answer,
+    ) -> Checked<()> {
+        let ours = crate::bytes::answer(call, more, left);
+        let form = Form::Bytes { more, left };
+        if self.written(form, call, ours.as_ref())? || ours.as_ref() == Some(want) {
+            return Ok(());
+        }
+        Err(stopped(why, call, want, &ours))
     }
 
     #[cfg(not(feature = "port"))]
@@ -124,26 +151,32 @@ impl Run {
 
     /// What a block needs room for.
     #[cfg(feature = "port")]
-    fn head(&mut self, call: Call<'_>, answer: &Answer) -> Checked<()> {
-        if let Call::Decode {
+    fn head(&mut self, call: Call<'_>) -> Checked<()> {
+        let Call::Decode {
             table, bytes, at, ..
         } = call
-        {
-            self.tally.heads += 1;
-            if !crate::port::head_agrees(table, bytes, at) {
-                return Err(stopped("the head differs", call, answer, &"another head"));
-            }
+        else {
+            return Ok(());
+        };
+        let ours = crate::port::head(table, bytes, at);
+        self.tally.heads[counted(ours.number)] += 1;
+        if self.written(Form::Head, call, Some(&ours))? {
+            return Ok(());
         }
-        Ok(())
+        let model = model_head(table, bytes, at);
+        if ours == model {
+            return Ok(());
+        }
+        Err(stopped("the head differs", call, &ours, &show(&model)))
     }
 
     #[cfg(not(feature = "port"))]
-    fn head(&mut self, _: Call<'_>, _: &Answer) -> Checked<()> {
+    fn head(&mut self, _: Call<'_>) -> Checked<()> {
         Ok(())
     }
 
     fn count(&mut self, function: Function, number: u8) {
-        self.tally.numbers[function as usize][usize::from(number.min(16))] += 1;
+        self.tally.numbers[function as usize][counted(number)] += 1;
     }
 
     fn skip(&mut self, why: &'static str) -> Checked<()> {
@@ -160,6 +193,9 @@ impl Run {
         agree: bool,
         fault: impl FnOnce() -> Option<Fault>,
     ) -> Checked<()> {
+        if self.answers.is_some() {
+            return Ok(());
+        }
         let function = call.function();
         self.tally.original[function as usize] += 1;
         if !self.port {
@@ -513,6 +549,10 @@ impl Run {
     /// The functions with room of their own; the answer is for enough room.
     #[cfg(feature = "port")]
     pub fn owned(&mut self, call: Call<'_>, answer: &Answer) -> Checked<()> {
+        // They are the same functions, in room that is made for them.
+        if self.answers.is_some() {
+            return Ok(());
+        }
         self.tally.model[call.function() as usize] += 1;
         if crate::port::owned_agrees(call, answer) {
             return Ok(());
@@ -529,6 +569,34 @@ impl Run {
     pub fn owned(&mut self, _: Call<'_>, _: &Answer) -> Checked<()> {
         Ok(())
     }
+}
+
+fn beside_model(call: Call<'_>, ours: &Answer) -> Checked<()> {
+    let model = model::answer(call);
+    if *ours == model {
+        return Ok(());
+    }
+    Err(stopped("port and model differ", call, ours, &show(&model)))
+}
+
+#[cfg(feature = "port")]
+fn model_head(table: &[u8], bytes: &[u8], at: usize) -> Answer {
+    match model::head(table, bytes, at) {
+        Ok((batches, operations)) => Answer {
+            rest: [batches, operations, 0],
+            ..Answer::default()
+        },
+        Err(refusal) => Answer {
+            number: refusal.number,
+            place: refusal.place,
+            ..Answer::default()
+        },
+    }
+}
+
+/// Where a number is counted.
+fn counted(number: u8) -> usize {
+    usize::from(number.min(17))
 }
 
 fn same_refusal(ours: &Answer, theirs: &Refused) -> bool {

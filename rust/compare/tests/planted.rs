@@ -369,3 +369,268 @@ fn each_of_these_is_stopped() {
         assert!(tried(who).is_err(), "not found: {what}");
     }
 }
+
+/// All lists of up to two operations, good or at fault: beside the original or, in the port's place,
+/// beside the model, which is asked about every list.
+fn operations_tried(who: Who, in_ports_place: bool) -> Result<Tally, Stopped> {
+    let mut run = Run::new(who, in_ports_place);
+    sections::operations(&mut run, 2)?;
+    Ok(run.tally)
+}
+
+#[test]
+fn every_function_meets_opcodes_and_values_at_fault() {
+    let tried = |in_ports_place| {
+        operations_tried(model::answer, in_ports_place)
+            .unwrap_or_else(|Stopped(words)| panic!("{words}"))
+    };
+    let beside_model = tried(true);
+    let beside_original = tried(false);
+    let lists = [Function::Build, Function::Encode, Function::Commitment];
+    for function in lists.into_iter().chain([Function::Decode]) {
+        let numbers = beside_model.numbers[function as usize];
+        assert!(
+            numbers[4] > 100 && numbers[17] > 100,
+            "{function:?}: {numbers:?}"
+        );
+    }
+    for function in [Function::Build, Function::Decode] {
+        let numbers = beside_original.numbers[function as usize];
+        assert!(
+            numbers[4] > 50 && numbers[17] > 50,
+            "{function:?}: {numbers:?}"
+        );
+    }
+    if cfg!(feature = "port") {
+        let heads = beside_model.heads;
+        assert!(heads[4] > 100 && heads[17] > 100, "{heads:?}");
+    }
+}
+
+/// What a rule says of an operation: its kind, opcode and value give a number, or 0.
+type Rule = fn(u8, u8, u64) -> u8;
+
+/// The lists of a call that looks at operations.
+fn listed(call: Call<'_>) -> Option<(&[u8], &[u8], &[u64])> {
+    match call {
+        Call::Build {
+            table,
+            codes,
+            values,
+            ..
+        } => Some((table, codes, values)),
+        Call::Encode { table, arena, .. } | Call::Commitment { table, arena } => {
+            Some((table, arena.codes, arena.values))
+        }
+        _ => None,
+    }
+}
+
+/// Answers like the model, but an operation that is at fault is one by this rule, the first of them
+/// that is.
+fn by_rule(call: Call<'_>, rule: Rule) -> Answer {
+    let mut answer = model::answer(call);
+    let Some((table, codes, values)) = listed(call) else {
+        return answer;
+    };
+    let numbers = codes
+        .iter()
+        .zip(values)
+        .map(|(&code, &value)| rule(model::kind(table, code), code, value));
+    let first = numbers.enumerate().find(|&(_, number)| number != 0);
+    if [4, 17].contains(&answer.number)
+        && let Some((place, number)) = first
+    {
+        answer.number = number;
+        answer.place = place;
+    }
+    answer
+}
+
+fn out_of_range(kind: u8, value: u64) -> bool {
+    if kind == 0 {
+        value != 0
+    } else {
+        value >= model::FIELD
+    }
+}
+
+fn value_first(kind: u8, _: u8, value: u64) -> u8 {
+    match (out_of_range(kind, value), kind) {
+        (true, _) => 17,
+        (false, 3) => 4,
+        _ => 0,
+    }
+}
+
+fn value_for_kind_3(kind: u8, code: u8, value: u64) -> u8 {
+    match kind {
+        3 if code >= 128 => 4,
+        3 => 17,
+        _ if out_of_range(kind, value) => 17,
+        _ => 0,
+    }
+}
+
+fn opcode_for_a_value_without_need(kind: u8, _: u8, value: u64) -> u8 {
+    match kind {
+        3 => 4,
+        0 if value != 0 => 4,
+        _ if out_of_range(kind, value) => 17,
+        _ => 0,
+    }
+}
+
+fn opcode_for_all(kind: u8, _: u8, value: u64) -> u8 {
+    if kind == 3 || out_of_range(kind, value) {
+        4
+    } else {
+        0
+    }
+}
+
+fn opcodes_alone(kind: u8, _: u8, _: u64) -> u8 {
+    if kind == 3 { 4 } else { 0 }
+}
+
+/// Where the operations of a block's bytes begin, up to one that can't be read.
+fn begins(table: &[u8], bytes: &[u8], at: usize) -> Vec<usize> {
+    let mut all = Vec::new();
+    if let Ok((count, length)) = model::read_count(bytes, at) {
+        let mut here = at + length;
+        for index in 0..count {
+            all.push(here);
+            match model::read_operation(table, bytes, here, index) {
+                Ok((_, length)) => here += length,
+                Err(_) => break,
+            }
+        }
+    }
+    all
+}
+
+/// Programs in which one function knows that an operation is at fault, but not in what.
+macro_rules! mixed_up {
+    ($function:expr) => {{
+        fn there(call: Call<'_>, rule: Rule) -> Answer {
+            if call.function() == $function {
+                by_rule(call, rule)
+            } else {
+                model::answer(call)
+            }
+        }
+        let all: [(&str, Who); 6] = [
+            ("the value is looked at before the opcode", |call| {
+                there(call, value_first)
+            }),
+            ("kind 3 is 17", |call| there(call, value_for_kind_3)),
+            ("a value on kind 0 is 4", |call| {
+                there(call, opcode_for_a_value_without_need)
+            }),
+            ("every value is 4", |call| there(call, opcode_for_all)),
+            // Where no opcode is at fault the rule says nothing, and the model's answer stands.
+            ("all 4s come before any 17", |call| {
+                there(call, opcodes_alone)
+            }),
+            (
+                "17 names the operation after",
+                liar!(call, answer, {
+                    if call.function() == $function && answer.number == 17 {
+                        answer.place += 1;
+                    }
+                }),
+            ),
+        ];
+        all
+    }};
+}
+
+/// The same for the bytes of operations.
+fn misread() -> [(&'static str, Who); 5] {
+    [
+        (
+            "decode says 17 for kind 3",
+            liar!(call, answer, {
+                if let Call::Decode {
+                    table, bytes, at, ..
+                } = call
+                    && answer.number == 4
+                    && bytes[begins(table, bytes, at)[answer.place]] < 128
+                {
+                    answer.number = 17;
+                }
+            }),
+        ),
+        (
+            "decode says 17 for an opcode of 128 or more",
+            liar!(call, answer, {
+                if let Call::Decode {
+                    table, bytes, at, ..
+                } = call
+                    && answer.number == 4
+                    && bytes[begins(table, bytes, at)[answer.place]] >= 128
+                {
+                    answer.number = 17;
+                }
+            }),
+        ),
+        (
+            "decode says 4 for a value",
+            liar!(call, answer, {
+                if matches!(call, Call::Decode { .. }) && answer.number == 17 {
+                    answer.number = 4;
+                }
+            }),
+        ),
+        (
+            "decode looks at a value before its missing bytes",
+            liar!(call, answer, {
+                if let Call::Decode {
+                    table, bytes, at, ..
+                } = call
+                    && answer.number == 2
+                    && bytes.last() == Some(&255)
+                    && let Some(index) = begins(table, bytes, at)
+                        .iter()
+                        .position(|&begin| begin == answer.place)
+                {
+                    answer.number = 17;
+                    answer.place = index;
+                }
+            }),
+        ),
+        (
+            "decode looks for missing bytes before the opcode",
+            liar!(call, answer, {
+                if let Call::Decode {
+                    table, bytes, at, ..
+                } = call
+                    && answer.number == 4
+                {
+                    let begin = begins(table, bytes, at)[answer.place];
+                    if bytes.len() - begin < 9 {
+                        answer.number = 2;
+                        answer.place = begin;
+                    }
+                }
+            }),
+        ),
+    ]
+}
+
+#[test]
+fn each_that_mixes_opcode_and_value_up_is_stopped() {
+    // The original can be asked about lists to batch and bytes to read.
+    for (what, who) in mixed_up!(Function::Build).into_iter().chain(misread()) {
+        for in_ports_place in [false, true] {
+            let found = operations_tried(who, in_ports_place).is_err();
+            assert!(found, "not found: {what}, {in_ports_place}");
+        }
+    }
+    for (what, who) in mixed_up!(Function::Encode) {
+        assert!(operations_tried(who, true).is_err(), "encode: {what}");
+    }
+    for (what, who) in mixed_up!(Function::Commitment) {
+        assert!(operations_tried(who, true).is_err(), "commitment: {what}");
+    }
+}

@@ -79,12 +79,20 @@ fn parts(op: &Operation) -> (u8, u64) {
     (opcode, u64::from_le_bytes(value))
 }
 
+/// The original has no such operation: 17 if it takes the opcode with the value 0, otherwise 4.
+fn no_operation(opcode: u8, place: usize) -> Refused {
+    let number = match operation(opcode, 0) {
+        None => 4,
+        Some(_) => 17,
+    };
+    Refused::new(number, Some(place), "the original has no such operation")
+}
+
 fn operations(list: &[(u8, u64)]) -> Result<Vec<Operation>, Refused> {
     list.iter()
         .enumerate()
         .map(|(place, &(opcode, value))| {
-            operation(opcode, value)
-                .ok_or_else(|| Refused::new(4, Some(place), "the original has no such operation"))
+            operation(opcode, value).ok_or_else(|| no_operation(opcode, place))
         })
         .collect()
 }

@@ -1,5 +1,5 @@
-//! What the original says when it refuses, in document 01's numbers, and what it does when it
-//! panics.
+//! What the original says when it refuses, in document 01's numbers and 17 of M-101, and what it does
+//! when it panics.
 
 use std::{
     cell::Cell,
@@ -13,7 +13,7 @@ use crate::serde::DeserializationError;
 /// A refusal or a panic of the original.
 #[derive(Clone, Debug, PartialEq, Eq)]
 pub struct Refused {
-    /// Document 01's number for what the original says, or 0 where there is none (a panic; a call
+    /// The number for what the original says, or 0 where there is none (a panic; a call
     /// that could not be made).
     pub number: u8,
     /// The batch or operation that the original names, if it names one.
@@ -62,7 +62,7 @@ impl Refused {
         let words = match error {
             DeserializationError::UnexpectedEOF => return Self::new(2, None, "end of bytes"),
             DeserializationError::CountForm => return Self::new(3, None, "form of a count"),
-            DeserializationError::NotInField => return Self::new(4, None, "value not in field"),
+            DeserializationError::NotInField => return Self::new(17, None, "value not in field"),
             DeserializationError::InvalidValue(words) => words,
         };
         // A word or two of each of the original's sentences is enough to tell them apart.

@@ -58,6 +58,30 @@ fn the_table_is_good() {
     }
 }
 
+/// What the original does not have, by this crate: 4 for an opcode, 17 for a value; the first of them.
+#[test]
+fn operations_that_it_does_not_have() {
+    const FIELD: u64 = 18_446_744_069_414_584_321;
+    let refused = |list: &[(u8, u64)]| {
+        let refused = batch(list).unwrap_err();
+        (refused.number, refused.place)
+    };
+    let kinds = table();
+    for opcode in 0..=255u8 {
+        let kind = kinds.get(usize::from(opcode)).copied().unwrap_or(3);
+        let number = if kind == 3 { 4 } else { 17 };
+        assert_eq!(
+            refused(&[(PUSH, FIELD - 1), (opcode, FIELD)]),
+            (number, Some(1))
+        );
+        if kind == 0 {
+            assert_eq!(refused(&[(opcode, 1)]), (17, Some(0)));
+        }
+    }
+    assert_eq!(refused(&[(PUSH, FIELD), (200, 0)]), (17, Some(0)));
+    assert_eq!(refused(&[(200, 0), (PUSH, FIELD)]), (4, Some(0)));
+}
+
 #[test]
 fn p1_p2_p3() {
     let batches = batch(&[(PUSH, 5)]).unwrap();
@@ -190,7 +214,9 @@ fn every_refusal_of_the_decoder() {
     assert_eq!(number(&[4]), 2);
     assert_eq!(number(&[3, 6]), 4); // unassigned
     assert_eq!(number(&[3, 200]), 4);
-    assert_eq!(number(&[3, PUSH, 1, 0, 0, 0, 255, 255, 255, 255]), 4); // not in the field
+    assert_eq!(number(&[3, PUSH, 1, 0, 0, 0, 255, 255, 255, 255]), 17); // not in the field
+    assert_eq!(number(&[3, PUSH, 255, 255, 255, 255, 255, 255, 255]), 2); // nor all there
+    assert_eq!(number(&[3, 200, 255, 255]), 4); // unassigned, before all that
     assert_eq!(number(&[1, 1, 0, 0, 0, 0, 0, 0, 0]), 5);
     assert_eq!(number(&[1, 1, 0, 0, 0, 0xa0, 0, 0, 0, 0]), 6);
     assert_eq!(number(&[1, 1, 0, 0, 0, 1, 0, 0, 0, 0]), 7);

@@ -54,7 +54,7 @@ impl Serializable for Felt {
     }
 }
 
-/// Eight bytes, little-endian; a number at or over the order is refused (document 01, 4).
+/// Eight bytes, little-endian; a number at or over the order is refused (M-101, 17).
 impl Deserializable for Felt {
     #[inline]
     fn read_from<R: ByteReader>(source: &mut R) -> Result<Self, DeserializationError> {
