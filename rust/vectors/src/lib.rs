@@ -553,8 +553,10 @@ impl Original {
                 },
             };
             let answer = model::answer(call);
-            // What the stand-in decides is not the original's: the form and the end of a count.
-            let stand_in = answer.number == 3 || (answer.number == 2 && answer.place == at);
+            // What the stand-in decides is not the original's: the form and the end of a count, and
+            // whether a value is in the field.
+            let stand_in =
+                [3, 17].contains(&answer.number) || (answer.number == 2 && answer.place == at);
             let times = seen.entry((Function::Decode, answer.number)).or_default();
             if !stand_in && *times < 6 && self.put(call).is_some() {
                 *times += 1;
