@@ -15,7 +15,7 @@ use Rattle.claims.proofs.Checked.{shaped-in}
 use Rattle.claims.proofs.CheckedThenReturned.{returns, needed}
 use Rattle.claims.proofs.Finished.{finished}
 use Rattle.claims.proofs.OneList.{one-list}
-use Rattle.claims.proofs.Which.{which, handed-on}
+use Rattle.claims.proofs.Which.{which, passed-on}
 use Rattle.claims.proofs.Kept.{unread, unread-by, kept}
 
 pub claims : (w : ℕ) → Width w → Claims w
@@ -35,7 +35,7 @@ claims w width =
       unread-by = λ r q e. unread-by r q e w;
       kept = kept;
       which = which;
-      passed-on = handed-on w;
+      passed-on = passed-on w;
       ended-count = ended-count;
       block-length = block-length;
       lent-sized = shaped-in;

@@ -136,13 +136,13 @@ module _ {A : Type 0} where
   later r (good a) e = tt
   later r (refused n p) e = λ two. sym e
 
-  passed-on : (r d : Answer A) (n p : ℕ) → Holds (Later r) Any d → Told d n p → Told r n p
-  passed-on r (good a) n p h k = absurd (not-good a n p (k .0))
-  passed-on r (refused m q) n p h k = (h (rw (same-number m q n p (k .0)) (k .1)) ∙ k .0, k .1)
+  to-later : (r d : Answer A) (n p : ℕ) → Holds (Later r) Any d → Told d n p → Told r n p
+  to-later r (good a) n p h k = absurd (not-good a n p (k .0))
+  to-later r (refused m q) n p h k = (h (rw (same-number m q n p (k .0)) (k .1)) ∙ k .0, k .1)
 
   past-structure : (w : ℕ) (b : Block) (r : Answer A) (n p : ℕ) → Told (refuseFirst 0 (structureFaults w b) r) n p → Told r n p
   past-structure w b r n p k =
-      passed-on r _ n p (by-structure (Later r) Any w b r (λ q l two. absurd (other 15 refl q two)) (later r r refl)) k
+      to-later r _ n p (by-structure (Later r) Any w b r (λ q l two. absurd (other 15 refl q two)) (later r r refl)) k
 
   -- 3, 14 and 1 of whatever reads bytes
   past-first : (t s : List ℕ) (at : ℕ) (r : Answer A) (n p : ℕ)
@@ -357,5 +357,5 @@ module _ (w : ℕ) where
   unfolding opHere
   reader t s at i n p k = let h = past-first t s at _ n p k in fault-there t s at i n p (h .0) (h .1)
 
-  pub handed-on : PassedOn w
-  handed-on = record { build = build; encode = encode; commitment = commitment; decode = decode; head = head; reader = reader }
+  pub passed-on : PassedOn w
+  passed-on = record { build = build; encode = encode; commitment = commitment; decode = decode; head = head; reader = reader }

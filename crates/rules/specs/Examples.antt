@@ -621,8 +621,8 @@ pub record OfKept : Type 0 where
 -- ---- M-101: "Opcode is looked at first, then missing bytes (2), then 17. Build, encode, decode and the commitment check pass it on; all other orders stand."
 
 -- the faults of an opcode under T with the values 0, 1, the field's size less 1, and the field's size
-abbrev pub faults : ℕ → List ℕ
-faults c = map (λ (v : ℕ). opFault tableT (op c v)) (0 ∷ 1 ∷ 18446744069414584320 ∷ 18446744069414584321 ∷ [])
+abbrev pub faultsOf : ℕ → List ℕ
+faultsOf c = map (λ (v : ℕ). opFault tableT (op c v)) (0 ∷ 1 ∷ 18446744069414584320 ∷ 18446744069414584321 ∷ [])
 
 -- two operations, each in a batch of its own
 abbrev pub pair : Op → Op → Block
@@ -630,12 +630,12 @@ pair x y = block (x ∷ y ∷ []) (single ∷ single ∷ [])
 
 pub record OfFaults : Type 0 where
   -- one operation: what value its kind may have; and the opcode goes before the value
-  pub kind-0 : faults 2 ≡ 0 ∷ 17 ∷ 17 ∷ 17 ∷ []
-  pub noop : faults 0 ≡ 0 ∷ 17 ∷ 17 ∷ 17 ∷ []
-  pub kind-1 : faults 1 ≡ 0 ∷ 0 ∷ 0 ∷ 17 ∷ []
-  pub kind-2 : faults 3 ≡ 0 ∷ 0 ∷ 0 ∷ 17 ∷ []
-  pub kind-3 : faults 4 ≡ replicate 4 4
-  pub opcode-128 : faults 128 ≡ replicate 4 4
+  pub kind-0 : faultsOf 2 ≡ 0 ∷ 17 ∷ 17 ∷ 17 ∷ []
+  pub noop : faultsOf 0 ≡ 0 ∷ 17 ∷ 17 ∷ 17 ∷ []
+  pub kind-1 : faultsOf 1 ≡ 0 ∷ 0 ∷ 0 ∷ 17 ∷ []
+  pub kind-2 : faultsOf 3 ≡ 0 ∷ 0 ∷ 0 ∷ 17 ∷ []
+  pub kind-3 : faultsOf 4 ≡ replicate 4 4
+  pub opcode-128 : faultsOf 128 ≡ replicate 4 4
   pub last-opcode : (opFault (0 ∷ replicate 127 1) (op 127 18446744069414584321) ≡ 17) × (opFault (0 ∷ replicate 127 1) (op 128 18446744069414584321) ≡ 4) × (opFault (zeros 200) (op 128 0) ≡ 4)
   -- a value on kind 0, the field's size under kinds 1 and 2, and one below it
   pub build-0 : build (op 2 0 ∷ op 2 1 ∷ []) ≡ refused 17 1
@@ -666,27 +666,35 @@ pub record OfFaults : Type 0 where
   pub decode-4-17 : read (7 ∷ 2 ∷ 4 ∷ 1 ∷ over) 0 ≡ refused 4 1
   pub head-17-4 : headed tableT (7 ∷ 2 ∷ 3 ∷ (over ++ (4 ∷ []))) 0 ≡ refused 17 1
   pub head-4-17 : headed tableT (7 ∷ 2 ∷ 4 ∷ 3 ∷ over) 0 ≡ refused 4 1
-  -- one operation in bytes, the seventh: kind 3 or 128 with no byte after it, and with a wrong value; kinds 1 and 2 with a byte missing, and whole; kind 0 has none
+  -- one operation in bytes, number 7: kind 3 or 128 with no byte after it, and with a wrong value; kinds 1 and 2 with a byte missing, and whole; kind 0 has none
   pub op-opcode : (opHere tableT (4 ∷ []) 0 7 ≡ refused 4 7) × (opHere tableT (128 ∷ []) 0 7 ≡ refused 4 7) × (opHere tableT (4 ∷ over) 0 7 ≡ refused 4 7) × (opHere tableT (128 ∷ over) 0 7 ≡ refused 4 7)
   pub op-cut : (opHere tableT (1 ∷ replicate 7 255) 0 7 ≡ refused 2 0) × (opHere tableT (9 ∷ 3 ∷ replicate 7 255) 1 7 ≡ refused 2 1)
   pub op-value : (opHere tableT (1 ∷ over) 0 7 ≡ refused 17 7) × (opHere tableT (9 ∷ 3 ∷ over) 1 7 ≡ refused 17 7)
   pub op-below : (opHere tableT (1 ∷ top) 0 7 ≡ found (op 1 18446744069414584320) 9) × (opHere tableT (9 ∷ 3 ∷ top) 1 7 ≡ found (op 3 18446744069414584320) 10)
   pub op-plain : opHere tableT (2 ∷ over) 0 7 ≡ found (op 2 0) 1
-  -- "all other orders stand": build 3, 14, 12, 17, 13; encode 3, 14, 1, 15, 17, 13; decode's 13 and 2 before, 2, 5 and 13 after; commitment 3, 14, 15, 17, 16
+  -- "all other orders stand": build 3, 14, 12, 17, 13; encode 3, 14, 1, 15, 17, 13; decode 3, 14, 13, 17, then 2, 5 and 13; head and reader 3, 14, 17;
+  -- commitment 3, 14, 15, 17, 16. For 14 the table is T without its last byte.
   pub build-3-17 : built 8 tableT (2 ∷ []) (1 ∷ 0 ∷ []) ample ≡ refused 3 0
-  pub build-14-17 : built 8 (zeros 127) (2 ∷ []) (1 ∷ []) ample ≡ refused 14 0
+  pub build-14-17 : built 8 (butLast tableT) (2 ∷ []) (1 ∷ []) ample ≡ refused 14 0
   pub build-17-13 : built 8 tableT (2 ∷ 2 ∷ []) (0 ∷ 1 ∷ []) (room 0 0 0) ≡ refused 17 1
   pub encode-3-17 : encoded 8 tableT (arena (2 ∷ []) (1 ∷ 0 ∷ []) (recordsBytes (single ∷ []))) 1000 0 ≡ refused 3 0
-  pub encode-14-17 : encoded 8 (zeros 127) (lent (pair (op 2 0) (op 2 1))) 1000 0 ≡ refused 14 0
+  pub encode-14-17 : encoded 8 (butLast tableT) (lent (pair (op 2 0) (op 2 1))) 1000 0 ≡ refused 14 0
   pub encode-1-17 : encoded 8 tableT (lent (pair (op 2 0) (op 2 1))) 20 21 ≡ refused 1 0
   pub encode-15-17 : write (block (op 2 1 ∷ op 2 0 ∷ []) (single ∷ [])) ≡ refused 15 1
   pub encode-17-13 : encoded 8 tableT (lent (pair (op 2 0) (op 2 1))) 0 0 ≡ refused 17 1
+  pub decode-3-17 : (s : List ℕ) → length s ≡ 1048567 → decoded 8 tableT (3 ∷ 1 ∷ (over ++ s)) 0 ample ≡ refused 3 0
+  pub decode-14-17 : decoded 8 (butLast tableT) (3 ∷ 1 ∷ over) 0 ample ≡ refused 14 0
   pub decode-13-17 : decoded 8 tableT (3 ∷ 1 ∷ over) 0 (room 0 0 0) ≡ refused 13 0
   pub decode-17-cut : read (5 ∷ 1 ∷ (over ++ (1 ∷ replicate 7 255))) 0 ≡ refused 17 0
   pub decode-17-2 : read (5 ∷ 1 ∷ over) 0 ≡ refused 17 0
   pub decode-17-5 : decoded 8 tableT (3 ∷ 1 ∷ (over ++ (9 ∷ 0 ∷ 0 ∷ 0 ∷ []))) 0 (room 9 9 0) ≡ refused 17 0
+  pub decode-17-13 : decoded 8 tableT (laid 1 (1 ∷ over) 1 (low 1) (0 ∷ [])) 0 (room 9 9 0) ≡ refused 17 0
+  pub head-3-17 : (s : List ℕ) → length s ≡ 1048567 → headed tableT (3 ∷ 1 ∷ (over ++ s)) 0 ≡ refused 3 0
+  pub head-14-17 : headed (butLast tableT) (3 ∷ 1 ∷ over) 0 ≡ refused 14 0
+  pub op-3-17 : (s : List ℕ) → length s ≡ 1048568 → opHere tableT (1 ∷ (over ++ s)) 0 7 ≡ refused 3 0
+  pub op-14-17 : opHere (butLast tableT) (1 ∷ over) 0 7 ≡ refused 14 0
   pub commitment-3-17 : commitmentChecked 8 tableT (arena (2 ∷ []) (1 ∷ 0 ∷ []) (recordsBytes (single ∷ []))) ≡ refused 3 0
-  pub commitment-14-17 : commitmentChecked 8 (zeros 127) (lent (pair (op 2 0) (op 2 1))) ≡ refused 14 0
+  pub commitment-14-17 : commitmentChecked 8 (butLast tableT) (lent (pair (op 2 0) (op 2 1))) ≡ refused 14 0
   pub commitment-15-17 : commitment (block (op 2 1 ∷ op 2 0 ∷ []) (single ∷ [])) ≡ refused 15 1
   pub commitment-17-16 : commitment (block (op 2 0 ∷ op 2 1 ∷ []) (numbered (3 ∷ zeros 7) 1 ∷ single ∷ [])) ≡ refused 17 1
   -- what looks at no value: structure, padding, the tables
@@ -1153,10 +1161,17 @@ numbers =
         encode-1-17 = refl;
         encode-15-17 = refl;
         encode-17-13 = refl;
+        decode-3-17 = λ s h. rw h;
+        decode-14-17 = refl;
         decode-13-17 = refl;
         decode-17-cut = refl;
         decode-17-2 = refl;
         decode-17-5 = refl;
+        decode-17-13 = refl;
+        head-3-17 = λ s h. rw h;
+        head-14-17 = refl;
+        op-3-17 = λ s h. rw h;
+        op-14-17 = refl;
         commitment-3-17 = refl;
         commitment-14-17 = refl;
         commitment-15-17 = refl;
