@@ -7,14 +7,15 @@ use mathlib.Core.Option.{Option, none, some}
 use Prim.Native.Nat.{ℕ, _+_, _-_, _*_}
 use lib.ListN.{length, replicate}
 use Rattle.rules.specs.Lists.{butLast}
-use Rattle.rules.specs.Answer.{Answer, good, refused, Read, found, itemOf}
+use Rattle.rules.specs.Answer.{Answer, good, refused, Read, found, itemOf, refuseFirst}
 use Rattle.rules.specs.Operations.{Op, codes, values, kindOf, admissible, opFault}
-use Rattle.rules.specs.Batching.{target}
-use Rattle.rules.specs.Record.{Record, Block, recordsBytes, noBlock}
+use Rattle.rules.specs.Batching.{target, batchesOf}
+use Rattle.rules.specs.Record.{Record, Block, recordOf, recordsBytes, noBlock}
 use Rattle.rules.specs.Bytes.{countAt, countBytes}
 use Rattle.rules.specs.Block.{Room, Head}
 use Rattle.rules.specs.Lookups.{Place, nextGroup, rawAt, paddedAt, paddedIndex, rawIndex}
-use Rattle.rules.specs.Functions.{Arena, arena, blockIn, roomIn, filled, built, encoded, written, decoded, Totals, totals, lengthTold, used, countHere, opHere, headed, structureChecked, paddingChecked, commitmentChecked, rawTabled, paddedTabled, tableLeft, groupLookup, nextLookup, leaves}
+use Rattle.rules.specs.Strict.{ownList, differing, refuseUnfinished}
+use Rattle.rules.specs.Functions.{Arena, arena, blockIn, roomIn, filled, built, encoded, written, decoded, strictlyDecoded, Totals, totals, lengthTold, used, countHere, opHere, headed, structureChecked, paddingChecked, commitmentChecked, rawTabled, paddedTabled, tableLeft, groupLookup, nextLookup, leaves}
 use Rattle.rules.specs.Open.{document}
 
 -- "Table T: opcodes 0 and 2 kind 0, opcode 1 kind 1, opcode 3 kind 2, the rest 3."
@@ -700,6 +701,117 @@ pub record OfFaults : Type 0 where
   -- what looks at no value: structure, padding, the tables
   pub unlooked : (structure (pair (op 2 1) (op 4 0)) ≡ good tt) × (padding (pair (op 2 1) (op 4 0)) ≡ good tt) × (rawTabled 8 (lent (pair (op 2 1) (op 4 0))) 3 ≡ good (zeros 3)) × (paddedTabled 8 (lent (pair (op 2 1) (op 4 0))) 3 ≡ good (zeros 3))
 
+-- ---- M-107: "a block the decoder takes passes exactly if some .. list .. writes those very bytes", else "a new 18 with the first batch that differs"
+
+abbrev pub strict : List ℕ → ℕ → Read Block
+strict s at = strictlyDecoded 8 tableT s at ample
+
+-- how much decode takes from bytes
+abbrev pub size : List ℕ → Totals
+size s = totals (leaves noBlock (itemOf (read s 0)))
+
+-- bytes: eight of opcode 1, with the paddings of their two batches
+abbrev pub eightPushes : List ℕ
+eightPushes = push ++ (push ++ (push ++ (push ++ (push ++ (push ++ (push ++ (0 ∷ (push ++ (0 ∷ [])))))))))
+
+-- bytes: 37 of opcode 2, 36 of them in a batch of four groups
+abbrev pub wideAs4 : List ℕ
+wideAs4 = laid 37 (replicate 37 2) 2 ((0x99 ∷ 0x99 ∷ 0 ∷ 0 ∷ []) ++ low 1) (0 ∷ 0 ∷ [])
+
+pub record OfStrict : Type 0 where
+  -- finished blocks pass, at any offset, into as much room as decode needs; a Noop of the caller's own stays in the list
+  pub P1 : strict p2 0 ≡ found p1 20
+  pub P1-within : strict ((7 ∷ 7 ∷ []) ++ (p2 ++ (7 ∷ []))) 2 ≡ found p1 22
+  pub P1-room : strictlyDecoded 8 tableT p2 0 (room 2 2 1) ≡ found p1 20
+  pub P6 : strict (laid 11 (replicate 8 2 ++ (push ++ (0 ∷ 0 ∷ []))) 1 (0x28 ∷ 0x10 ∷ 0 ∷ 0 ∷ []) (0x0a ∷ [])) 0 ≡ found p6 29
+  pub P7-more : strict (laid 10 eightPushes 2 (low 8 ++ low 2) (1 ∷ 1 ∷ [])) 0 ≡ found p7more 89
+  pub own-noop : strict (laid 1 (0 ∷ []) 1 (low 1) (0 ∷ [])) 0 ≡ found (block (op 0 0 ∷ []) (is (0 ∷ replicate 8 1) (zeros 8) (zeros 8) 1 ∷ [])) 11
+  pub own-noop-last : strict (laid 2 (2 ∷ 0 ∷ []) 1 (low 2) (0 ∷ [])) 0 ≡ found (block (op 2 0 ∷ op 0 0 ∷ []) (is (0 ∷ replicate 8 2) (zeros 8) (2 ∷ zeros 7) 1 ∷ [])) 12
+  pub noop-after-push : strict (laid 2 (push ++ (0 ∷ [])) 1 (low 2) (0 ∷ [])) 0 ≡ found (block (p1 .ops) (is (0 ∷ replicate 8 2) (zeros 8) (1 ∷ 5 ∷ zeros 6) 2 ∷ [])) 20
+  -- "the block's own list, flagged padding dropped": a flag at or above the count drops nothing, and what no record covers stays
+  pub own-list : (ownList p6 ≡ twos 8 ++ (op 1 5 ∷ [])) × (ownList p7more ≡ pushes 8) × (ownList (p1flagged above) ≡ op 1 5 ∷ [])
+  pub own-rest : ownList (block (twos 3) (single ∷ [])) ≡ twos 3
+  -- the own list is empty: no batch, one without operations, padding alone; the place is 0, also where a later batch is the first that differs
+  pub empty-block : (read (laid 0 [] 0 [] []) 0 ≡ found noBlock 5) × (strict (laid 0 [] 0 [] []) 0 ≡ refused 18 0)
+  pub empty-batch : (size (bare 0 (low 0)) ≡ told 1 0) × (strict (bare 0 (low 0)) 0 ≡ refused 18 0)
+  pub empty-batches : (size (laid 0 [] 2 (low 0 ++ low 0) (0 ∷ 0 ∷ [])) ≡ told 2 0) × (strict (laid 0 [] 2 (low 0 ++ low 0) (0 ∷ 0 ∷ [])) 0 ≡ refused 18 0)
+  pub padding-alone : (size (laid 1 (0 ∷ []) 1 (low 1) (1 ∷ [])) ≡ told 1 1) × (strict (laid 1 (0 ∷ []) 1 (low 1) (1 ∷ [])) 0 ≡ refused 18 0)
+  pub padding-and-empty : (size (laid 1 (0 ∷ []) 2 (low 1 ++ low 0) (1 ∷ 0 ∷ [])) ≡ told 2 1) × (strict (laid 1 (0 ∷ []) 2 (low 1 ++ low 0) (1 ∷ 0 ∷ [])) 0 ≡ refused 18 0)
+  -- 16,384 operations, and one more: of every block with so many (crates/replay/data/limits.txt has two)
+  pub list-16384 : (b : Block) (r : Answer Unit) → length (ownList b) ≡ 16384 → refuseUnfinished 8 tableT b r ≡ refuseFirst 0 (differing (b .records) (map recordOf (batchesOf 8 tableT (ownList b)))) r
+  pub list-16385 : (b : Block) (r : Answer Unit) → length (ownList b) ≡ 16385 → refuseUnfinished 8 tableT b r ≡ refused 18 0
+  pub read-16385 : (s : List ℕ) (b : Block) (next : ℕ) → read s 0 ≡ found b next → length (ownList b) ≡ 16385 → strict s 0 ≡ refused 18 0
+  pub list-1 : (b : Block) (r : Answer Unit) → length (ownList b) ≡ 1 → refuseUnfinished 8 tableT b r ≡ refuseFirst 0 (differing (b .records) (map recordOf (batchesOf 8 tableT (ownList b)))) r
+  -- an empty batch: the first, in the middle, at the end ("an extra batch counting as different"), one of padding alone
+  pub empty-first : (size (laid 1 (2 ∷ []) 2 (low 0 ++ low 1) (0 ∷ 0 ∷ [])) ≡ told 2 1) × (strict (laid 1 (2 ∷ []) 2 (low 0 ++ low 1) (0 ∷ 0 ∷ [])) 0 ≡ refused 18 0)
+  pub empty-middle : (size (laid 10 eightPushes 3 (low 8 ++ (low 0 ++ low 2)) (1 ∷ 0 ∷ 1 ∷ [])) ≡ told 3 10) × (strict (laid 10 eightPushes 3 (low 8 ++ (low 0 ++ low 2)) (1 ∷ 0 ∷ 1 ∷ [])) 0 ≡ refused 18 1)
+  pub empty-last : (size (laid 10 eightPushes 3 (low 8 ++ (low 2 ++ low 0)) (1 ∷ 1 ∷ 0 ∷ [])) ≡ told 3 10) × (strict (laid 10 eightPushes 3 (low 8 ++ (low 2 ++ low 0)) (1 ∷ 1 ∷ 0 ∷ [])) 0 ≡ refused 18 2)
+  pub empty-after-P1 : (size (laid 2 (push ++ (0 ∷ [])) 2 (low 2 ++ low 0) (1 ∷ 0 ∷ [])) ≡ told 2 2) × (strict (laid 2 (push ++ (0 ∷ [])) 2 (low 2 ++ low 0) (1 ∷ 0 ∷ [])) 0 ≡ refused 18 1)
+  pub two-after-P1 : (size (laid 2 (push ++ (0 ∷ [])) 3 (low 2 ++ (low 0 ++ low 0)) (1 ∷ 0 ∷ 0 ∷ [])) ≡ told 3 2) × (strict (laid 2 (push ++ (0 ∷ [])) 3 (low 2 ++ (low 0 ++ low 0)) (1 ∷ 0 ∷ 0 ∷ [])) 0 ≡ refused 18 1)
+  pub padding-after-P1 : (size (laid 3 (push ++ (0 ∷ 0 ∷ [])) 2 (low 2 ++ low 1) (1 ∷ 1 ∷ [])) ≡ told 2 3) × (strict (laid 3 (push ++ (0 ∷ 0 ∷ [])) 2 (low 2 ++ low 1) (1 ∷ 1 ∷ [])) 0 ≡ refused 18 1)
+  -- a stray empty group under the count: before the operations, between them, in a later batch; a count that is no power of two
+  pub stray-first : (size (bare 1 (low 0x10)) ≡ told 1 1) × (strict (bare 1 (low 0x10)) 0 ≡ refused 18 0)
+  pub stray-between : (size (laid 10 (replicate 10 2) 1 (0x09 ∷ 0x01 ∷ 0 ∷ 0 ∷ []) (0 ∷ [])) ≡ told 1 10) × (strict (laid 10 (replicate 10 2) 1 (0x09 ∷ 0x01 ∷ 0 ∷ 0 ∷ []) (0 ∷ [])) 0 ≡ refused 18 0)
+  pub stray-later : (size (laid 10 eightPushes 2 (low 8 ++ low 0x20) (1 ∷ 2 ∷ [])) ≡ told 2 10) × (strict (laid 10 eightPushes 2 (low 8 ++ low 0x20) (1 ∷ 2 ∷ [])) 0 ≡ refused 18 1)
+  pub three-groups : (size (laid 19 (replicate 19 2) 1 (0x99 ∷ 0x01 ∷ 0 ∷ 0 ∷ []) (0 ∷ [])) ≡ told 1 19) × (strict (laid 19 (replicate 19 2) 1 (0x99 ∷ 0x01 ∷ 0 ∷ 0 ∷ []) (0 ∷ [])) 0 ≡ refused 18 0)
+  -- "a bit kept under M-100": at the count, the last, all above, in a later batch, in an empty one that is there too many
+  pub kept-at-count : (size (laid 1 (2 ∷ []) 1 (low 1) (0x02 ∷ [])) ≡ told 1 1) × (strict (laid 1 (2 ∷ []) 1 (low 1) (0x02 ∷ [])) 0 ≡ refused 18 0)
+  pub kept-last : (size (laid 1 (2 ∷ []) 1 (low 1) (0x80 ∷ [])) ≡ told 1 1) × (strict (laid 1 (2 ∷ []) 1 (low 1) (0x80 ∷ [])) 0 ≡ refused 18 0)
+  pub kept-all : (size (laid 2 (push ++ (0 ∷ [])) 1 (low 2) (0xfd ∷ [])) ≡ told 1 2) × (strict (laid 2 (push ++ (0 ∷ [])) 1 (low 2) (0xfd ∷ [])) 0 ≡ refused 18 0)
+  pub kept-later : (size (laid 10 eightPushes 2 (low 8 ++ low 2) (1 ∷ 0x05 ∷ [])) ≡ told 2 10) × (strict (laid 10 eightPushes 2 (low 8 ++ low 2) (1 ∷ 0x05 ∷ [])) 0 ≡ refused 18 1)
+  pub kept-and-empty : (size (laid 2 (push ++ (0 ∷ [])) 2 (low 2 ++ low 0) (1 ∷ 1 ∷ [])) ≡ told 2 2) × (strict (laid 2 (push ++ (0 ∷ [])) 2 (low 2 ++ low 0) (1 ∷ 1 ∷ [])) 0 ≡ refused 18 1)
+  -- a Noop flagged where the batcher would not have padded, a group of padding alone, and a padding that is missing
+  pub flagged-noop : (size (laid 2 (2 ∷ 0 ∷ []) 1 (low 2) (1 ∷ [])) ≡ told 1 2) × (strict (laid 2 (2 ∷ 0 ∷ []) 1 (low 2) (1 ∷ [])) 0 ≡ refused 18 0)
+  pub padding-group : (size (laid 10 (replicate 9 2 ++ (0 ∷ [])) 1 (low 0x19) (2 ∷ [])) ≡ told 1 10) × (strict (laid 10 (replicate 9 2 ++ (0 ∷ [])) 1 (low 0x19) (2 ∷ [])) 0 ≡ refused 18 0)
+  pub no-padding : (size (laid 1 push 1 (low 1) (0 ∷ [])) ≡ told 1 1) × (strict (laid 1 push 1 (low 1) (0 ∷ [])) 0 ≡ refused 18 0)
+  -- a group closed early, and late; a batch closed early, the first and a later one
+  pub group-early : (size (bare 9 (low 0x18)) ≡ told 1 9) × (strict (bare 9 (low 0x18)) 0 ≡ refused 18 0)
+  pub group-late : (size (laid 9 (replicate 8 2 ++ push) 1 (low 9) (0 ∷ [])) ≡ told 1 9) × (strict (laid 9 (replicate 8 2 ++ push) 1 (low 9) (0 ∷ [])) 0 ≡ refused 18 0)
+  pub batch-early : (size (laid 2 (2 ∷ 2 ∷ []) 2 (low 1 ++ low 1) (0 ∷ 0 ∷ [])) ≡ told 2 2) × (strict (laid 2 (2 ∷ 2 ∷ []) 2 (low 1 ++ low 1) (0 ∷ 0 ∷ [])) 0 ≡ refused 18 0)
+  pub batch-early-later : (size (laid 11 (eightPushes ++ (2 ∷ [])) 3 (low 8 ++ (low 2 ++ low 1)) (1 ∷ 1 ∷ 0 ∷ [])) ≡ told 3 11) × (strict (laid 11 (eightPushes ++ (2 ∷ [])) 3 (low 8 ++ (low 2 ++ low 1)) (1 ∷ 1 ∷ 0 ∷ [])) 0 ≡ refused 18 1)
+  -- where numbers and counts are the same, for all operations are Noops: one flag, and the last of nine starts
+  pub flag-alone : (size (laid 73 (zeros 73) 2 ((0x99 ∷ 0x99 ∷ 0x99 ∷ 0x99 ∷ []) ++ low 1) (1 ∷ 0 ∷ [])) ≡ told 2 73) × (strict (laid 73 (zeros 73) 2 ((0x99 ∷ 0x99 ∷ 0x99 ∷ 0x99 ∷ []) ++ low 1) (1 ∷ 0 ∷ [])) 0 ≡ refused 18 0)
+  pub start-alone : (size (laid 72 (zeros 72) 2 ((0x99 ∷ 0x99 ∷ 0x99 ∷ 0x89 ∷ []) ++ low 1) (0 ∷ 0 ∷ [])) ≡ told 2 72) × (strict (laid 72 (zeros 72) 2 ((0x99 ∷ 0x99 ∷ 0x99 ∷ 0x89 ∷ []) ++ low 1) (0 ∷ 0 ∷ [])) 0 ≡ refused 18 0)
+  -- batch data of an older list: eleven of opcode 2 in groups of 8 and 3, and under the starts and flags of two of opcode 1 and nine of opcode 2, which pass with their own operations
+  pub stale : (size (bare 11 (low 0x38)) ≡ told 1 11) × (strict (bare 11 (low 0x38)) 0 ≡ refused 18 0)
+  pub fresh : itemOf (strict (laid 11 (push ++ (push ++ replicate 9 2)) 1 (0x09 ∷ 0x20 ∷ 0 ∷ 0 ∷ []) (0 ∷ [])) 0) ≡ build (pushes 2 ++ twos 9)
+  pub stale-of-fresh : (size (laid 11 (replicate 11 2) 1 (0x09 ∷ 0x20 ∷ 0 ∷ 0 ∷ []) (0 ∷ [])) ≡ told 1 11) × (strict (laid 11 (replicate 11 2) 1 (0x09 ∷ 0x20 ∷ 0 ∷ 0 ∷ []) (0 ∷ [])) 0 ≡ refused 18 0)
+  -- "Otherwise the ordinary refusal comes if there is one": of P1 cut short; and each before 18, where the first batch was closed early
+  pub cut-value : strict (0x05 ∷ 0x01 ∷ 0x05 ∷ []) 0 ≡ refused 2 1
+  pub cut-batch : strict (butLast p2) 0 ≡ refused 5 0
+  pub order-3 : (s : List ℕ) → length s ≡ 1048577 → strict s 0 ≡ refused 3 0
+  pub order-14 : strictlyDecoded 8 (zeros 127) (laid 2 (2 ∷ 2 ∷ []) 2 (low 1 ++ low 1) (0 ∷ 0 ∷ [])) 0 ample ≡ refused 14 0
+  pub order-1 : strict (laid 2 (2 ∷ 2 ∷ []) 2 (low 1 ++ low 1) (0 ∷ 0 ∷ [])) 18 ≡ refused 1 0
+  pub order-13 : (strictlyDecoded 8 tableT (laid 2 (2 ∷ 2 ∷ []) 2 (low 1 ++ low 1) (0 ∷ 0 ∷ [])) 0 (room 1 2 2) ≡ refused 13 0) × (strictlyDecoded 8 tableT (laid 2 (2 ∷ 2 ∷ []) 2 (low 1 ++ low 1) (0 ∷ 0 ∷ [])) 0 (room 2 2 1) ≡ refused 13 0)
+  pub order-4 : strict (laid 2 (2 ∷ 4 ∷ []) 2 (low 1 ++ low 1) (0 ∷ 0 ∷ [])) 0 ≡ refused 4 1
+  pub order-17 : strict (laid 2 (2 ∷ 1 ∷ over) 2 (low 1 ++ low 1) (0 ∷ 0 ∷ [])) 0 ≡ refused 17 1
+  pub order-2 : strict (laid 2 (2 ∷ 2 ∷ []) 2 (low 1 ++ low 1) (0 ∷ 0 ∷ [])) 17 ≡ refused 2 17
+  pub order-2-value : strict (laid 2 (2 ∷ 1 ∷ 5 ∷ []) 0 [] []) 0 ≡ refused 2 2
+  pub order-5 : strict (butLast (laid 2 (2 ∷ 2 ∷ []) 2 (low 1 ++ low 1) (0 ∷ 0 ∷ []))) 0 ≡ refused 5 0
+  pub order-6 : strict (laid 2 (2 ∷ 2 ∷ []) 2 (low 1 ++ low 10) (0 ∷ 0 ∷ [])) 0 ≡ refused 6 1
+  pub order-7 : strict (laid 2 (2 ∷ 2 ∷ []) 2 (low 1 ++ low 2) (0 ∷ 0 ∷ [])) 0 ≡ refused 7 1
+  pub order-8 : strict (laid 2 (2 ∷ push) 2 (low 1 ++ high 0x10) (0 ∷ 0 ∷ [])) 0 ≡ refused 8 1
+  pub order-9 : strict (laid 3 (2 ∷ (push ++ (2 ∷ []))) 2 (low 1 ++ low 0x11) (0 ∷ 0 ∷ [])) 0 ≡ refused 9 1
+  pub order-10 : strict (laid 2 (2 ∷ 2 ∷ []) 2 (low 1 ++ low 1) (0 ∷ 1 ∷ [])) 0 ≡ refused 10 1
+  pub order-11 : strict (laid 3 (2 ∷ 2 ∷ 2 ∷ []) 2 (low 1 ++ low 1) (0 ∷ 0 ∷ [])) 0 ≡ refused 11 0
+  -- two batches are the same in starts, flags, numbers and count; an extra one on either side has nothing to be like
+  pub alike : differing (single ∷ single ∷ []) (single ∷ single ∷ []) ≡ 0 ∷ 0 ∷ []
+  pub other-starts : differing (single ∷ single ∷ []) (single ∷ is (0 ∷ 0 ∷ replicate 7 1) (zeros 8) (2 ∷ zeros 7) 1 ∷ []) ≡ 0 ∷ 18 ∷ []
+  pub other-flags : differing (single ∷ single ∷ []) (flagged (zeros 7 ++ (1 ∷ [])) ∷ single ∷ []) ≡ 18 ∷ 0 ∷ []
+  pub other-numbers : (differing (single ∷ []) (numbered (2 ∷ (zeros 6 ++ (1 ∷ []))) 1 ∷ []) ≡ 18 ∷ []) × (differing (single ∷ []) (numbered (3 ∷ zeros 7) 1 ∷ []) ≡ 18 ∷ [])
+  pub other-count : (differing (single ∷ []) (numbered (2 ∷ zeros 7) 2 ∷ []) ≡ 18 ∷ []) × (differing (numbered (2 ∷ zeros 7) 2 ∷ []) (single ∷ []) ≡ 18 ∷ [])
+  pub more-flags : (differing (single ∷ []) (flagged (zeros 9) ∷ []) ≡ 18 ∷ []) × (differing (single ∷ []) (flagged (zeros 7) ∷ []) ≡ 18 ∷ [])
+  pub extra-read : (differing (single ∷ single ∷ []) (single ∷ []) ≡ 0 ∷ 18 ∷ []) × (differing (single ∷ []) [] ≡ 18 ∷ [])
+  pub extra-built : (differing (single ∷ []) (single ∷ single ∷ []) ≡ 0 ∷ 18 ∷ []) × (differing [] (single ∷ []) ≡ 18 ∷ [])
+  pub no-batches : differing [] [] ≡ []
+  -- a list in batches of four groups is finished at a width of 4, and not at 8
+  pub by-width : (strictlyDecoded 4 tableT wideAs4 0 ample ≡ decoded 4 tableT wideAs4 0 ample) × (strict wideAs4 0 ≡ refused 18 0) × (used 0 (strictlyDecoded 4 tableT wideAs4 0 ample) ≡ 52)
+  pub width-ordinary : (strictlyDecoded 4 tableT (bare 1 (0 ∷ 0 ∷ 1 ∷ 0 ∷ [])) 0 ample ≡ refused 6 0) × (strict (bare 1 (0 ∷ 0 ∷ 1 ∷ 0 ∷ [])) 0 ≡ refused 18 0)
+  -- what is left and told: the block, then zeros; zeros alone and 0 where it is not finished
+  pub leaves-block : filled (arena (replicate 3 7) (replicate 4 7) (replicate 85 7)) (leaves noBlock (itemOf (strict p2 0))) ≡ arena (1 ∷ 0 ∷ 0 ∷ []) (5 ∷ 0 ∷ 0 ∷ 0 ∷ []) (p1record ++ zeros 3)
+  pub leaves-zeros : filled (arena (replicate 3 7) (replicate 4 7) (replicate 85 7)) (leaves noBlock (itemOf (strict (laid 1 (2 ∷ []) 1 (low 1) (0x02 ∷ [])) 0))) ≡ arena (zeros 3) (zeros 4) (zeros 85)
+  pub used-told : (used 2 (strict ((7 ∷ 7 ∷ []) ++ (p2 ++ (7 ∷ []))) 2) ≡ 20) × (used 0 (strict (laid 1 (2 ∷ []) 1 (low 1) (0x02 ∷ [])) 0) ≡ 0)
+
 -- ---- "Numbers to check": "proved of the rules, together as a single table under one claim"
 
 pub record Numbers : Type 0 where
@@ -737,6 +849,7 @@ pub record Numbers : Type 0 where
   pub outputs : OfOutputs
   pub kept : OfKept
   pub faults : OfFaults
+  pub strict-reading : OfStrict
 
 pub numbers : Numbers
 unfolding document
@@ -1178,4 +1291,84 @@ numbers =
         commitment-17-16 = refl;
         unlooked = (refl, refl, refl, refl);
       };
+      strict-reading =
+          record {
+            P1 = refl;
+            P1-within = refl;
+            P1-room = refl;
+            P6 = refl;
+            P7-more = refl;
+            own-noop = refl;
+            own-noop-last = refl;
+            noop-after-push = refl;
+            own-list = (refl, refl, refl);
+            own-rest = refl;
+            empty-block = (refl, refl);
+            empty-batch = (refl, refl);
+            empty-batches = (refl, refl);
+            padding-alone = (refl, refl);
+            padding-and-empty = (refl, refl);
+            list-16384 = λ b r h. rw h;
+            list-16385 = λ b r h. rw h;
+            read-16385 = λ s b next d h. rw (d, h);
+            list-1 = λ b r h. rw h;
+            empty-first = (refl, refl);
+            empty-middle = (refl, refl);
+            empty-last = (refl, refl);
+            empty-after-P1 = (refl, refl);
+            two-after-P1 = (refl, refl);
+            padding-after-P1 = (refl, refl);
+            stray-first = (refl, refl);
+            stray-between = (refl, refl);
+            stray-later = (refl, refl);
+            three-groups = (refl, refl);
+            kept-at-count = (refl, refl);
+            kept-last = (refl, refl);
+            kept-all = (refl, refl);
+            kept-later = (refl, refl);
+            kept-and-empty = (refl, refl);
+            flagged-noop = (refl, refl);
+            padding-group = (refl, refl);
+            no-padding = (refl, refl);
+            group-early = (refl, refl);
+            group-late = (refl, refl);
+            batch-early = (refl, refl);
+            batch-early-later = (refl, refl);
+            flag-alone = (refl, refl);
+            start-alone = (refl, refl);
+            stale = (refl, refl);
+            fresh = refl;
+            stale-of-fresh = (refl, refl);
+            cut-value = refl;
+            cut-batch = refl;
+            order-3 = λ s h. rw h;
+            order-14 = refl;
+            order-1 = refl;
+            order-13 = (refl, refl);
+            order-4 = refl;
+            order-17 = refl;
+            order-2 = refl;
+            order-2-value = refl;
+            order-5 = refl;
+            order-6 = refl;
+            order-7 = refl;
+            order-8 = refl;
+            order-9 = refl;
+            order-10 = refl;
+            order-11 = refl;
+            alike = refl;
+            other-starts = refl;
+            other-flags = refl;
+            other-numbers = (refl, refl);
+            other-count = (refl, refl);
+            more-flags = (refl, refl);
+            extra-read = (refl, refl);
+            extra-built = (refl, refl);
+            no-batches = refl;
+            by-width = (refl, refl, refl);
+            width-ordinary = (refl, refl);
+            leaves-block = refl;
+            leaves-zeros = refl;
+            used-told = (refl, refl);
+          };
     }

@@ -7,7 +7,7 @@ use lib.ListN.{length}
 use lib.Dec.{leb, ltb, eqb}
 use lib.Seq.{sets}
 use Rattle.rules.specs.Lists.{fitted}
-use Rattle.rules.specs.Answer.{Answer, good, refused, Read, refuse, refuseFirst}
+use Rattle.rules.specs.Answer.{Answer, good, refused, Read, found, refuse, refuseFirst, _then_}
 use Rattle.rules.specs.Refusals.{past-end₁, over-limit₃, empty-list₁₂, no-room₁₃, bad-table₁₄, bad-structure₁₅}
 use Rattle.rules.specs.Operations.{Op, operations, codes, values, goodTable, opFault}
 use Rattle.rules.specs.Batching.{batchesOf}
@@ -16,6 +16,7 @@ use Rattle.rules.specs.Bytes.{countAt, opAt}
 use Rattle.rules.specs.Block.{Room, Head, blockBytes, headAt, blockAt}
 use Rattle.rules.specs.Checks.{recordRight, structureFaults, paddingFaults, commitmentFaults}
 use Rattle.rules.specs.Lookups.{Place, groupOf, nextGroup, rawTable, paddedTable}
+use Rattle.rules.specs.Strict.{refuseUnfinished}
 
 -- ---- an arena: the three lent runs of a block
 
@@ -98,6 +99,10 @@ decoded w t s at room =
     (refuse (not (goodTable t)) bad-table₁₄ 0
     (refuse (ltb (length s) at) past-end₁ 0
     (blockAt w t s at room)))
+
+-- strictly, M-107: "the ordinary refusal comes if there is one, else a new 18"
+unfoldable pub strictlyDecoded : ℕ → List ℕ → List ℕ → ℕ → Room → Read Block
+strictlyDecoded w t s at room = decoded w t s at room then λ b next. refuseUnfinished w t b (found b next)
 
 -- ---- what a reply tells: "A refusal replies with every length and total 0", as these are those of what is left
 

@@ -9,6 +9,7 @@ pub mod Bytes
 pub mod Checks
 pub mod Block
 pub mod Lookups
+pub mod Strict
 pub mod Functions
 pub mod Open
 pub mod Examples

@@ -68,3 +68,7 @@ bad-commitment₁₆ = 16
 -- M-101: "a new 17 says that the value is not below the field size, or is nonzero on kind 0"
 abbrev pub bad-value₁₇ : ℕ
 bad-value₁₇ = 17
+
+-- M-107: "else a new 18 with the first batch that differs from batching the block's own list"
+abbrev pub unfinished₁₈ : ℕ
+unfinished₁₈ = 18
