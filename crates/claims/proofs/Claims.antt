@@ -14,6 +14,7 @@ use Rattle.claims.proofs.Passes.{build-passes, decode-passes}
 use Rattle.claims.proofs.Checked.{shaped-in}
 use Rattle.claims.proofs.CheckedThenReturned.{returns, needed}
 use Rattle.claims.proofs.Finished.{finished}
+use Rattle.claims.proofs.Strict.{strict-reading}
 use Rattle.claims.proofs.OneList.{one-list}
 use Rattle.claims.proofs.Which.{which, passed-on}
 use Rattle.claims.proofs.Kept.{unread, unread-by, kept}
@@ -21,13 +22,14 @@ use Rattle.claims.proofs.Kept.{unread, unread-by, kept}
 pub claims : (w : ℕ) → Width w → Claims w
 claims w width =
     record {
-      demand1 = demand1 w;
+      demand1 = demand1 w width;
       demand3 = demand3 w width;
       build-passes = build-passes w width;
       decode-passes = decode-passes w;
       finished = finished w (width .eight);
       again = again w;
       once = once w;
+      strict = strict-reading w width;
       one-list = one-list w (width .eight);
       returns = returns;
       needed = needed;

@@ -1,7 +1,7 @@
 -- Demand 1: every answer is a result or one of document 01's refusals, and a refusal leaves nothing behind. Assumes nothing.
 use mathlib.Core.Path.{_≡_, refl, sym, ap, subst, _∙_}
 use mathlib.Core.Logic.{_⊎_, inl, inr}
-use mathlib.Core.List.{List, [], _∷_, map}
+use mathlib.Core.List.{List, [], _∷_, _++_, map}
 use mathlib.Core.Bool.{Bool, true, false, cond, not, _&&_, _||_}
 use Prim.Native.Nat.{ℕ, zero, suc, _+_, _-_, _/_, _≤_, _<_, _^_}
 use native.Mathlib.Omega.{arith}
@@ -19,11 +19,16 @@ use Rattle.rules.specs.Bytes.{least, countBy, countAt, valueAt, opAt, opsAt, ba
 use Rattle.rules.specs.Block.{Room, Head, Layout, blockBytes, placingsFault, countFrom, batchAt, batchesAt, headAt, layoutAt, batchesBy, blockAt}
 use Rattle.rules.specs.Checks.{Held, ninth, recordRight, structureFaults, heldFrom, held, paddingFault, paddingFaults, underCount, placingFault, begins, groupsFault, emptyZero, commitmentFault, commitmentFaults, paddingRight}
 use Rattle.rules.specs.Lookups.{groupOf, nextGroup}
-use Rattle.rules.specs.Functions.{Arena, arena, blockIn, within, filled, roomFor, built, encoded, written, decoded, most, headed, countHere, opHere, structureChecked, paddingChecked, commitmentChecked, tableOf, tableLeft, groupLookup, nextLookup}
+use Rattle.rules.specs.Functions.{Arena, arena, blockIn, within, filled, roomFor, built, encoded, written, decoded, strictlyDecoded, most, headed, countHere, opHere, structureChecked, paddingChecked, commitmentChecked, tableOf, tableLeft, groupLookup, nextLookup}
 use Rattle.rules.proofs.Answer.{first-append}
 use Rattle.rules.proofs.Runs.{zeros-fitted}
-use Rattle.claims.proofs.ReadThenChecked.{count-limit, batchCount-limit}
-use Rattle.claims.specs.Demand1.{Refusal, OneOf, Replies, zeros, ops, batches, buildRefusals, encodeRefusals, decodeRefusals, headRefusals, told, toldBatches, countRefusals, opRefusals, structureRefusals, paddingRefusals, commitmentRefusals, tableRefusals, lookupRefusals, Demand1}
+use Rattle.claims.proofs.Lists.{true-false}
+use Rattle.claims.proofs.Found.{stages}
+use Rattle.claims.proofs.Row.{row-made}
+use Rattle.claims.proofs.Right.{Width}
+use Rattle.claims.proofs.ReadThenChecked.{nibbles-made, count-limit, batchCount-limit}
+use Rattle.claims.proofs.FirstDifference.{Verdict, passes, unlisted, differs, verdict}
+use Rattle.claims.specs.Demand1.{Refusal, _of_, OneOf, Replies, zeros, ops, batches, buildRefusals, encodeRefusals, decodeRefusals, strictRefusals, headRefusals, told, toldBatches, countRefusals, opRefusals, structureRefusals, paddingRefusals, commitmentRefusals, tableRefusals, lookupRefusals, Demand1}
 
 -- ---- answers whose results have one property, and whose refusals another
 
@@ -255,9 +260,6 @@ lists-same [] vs = omega arith
 lists-same (c ∷ cs) [] = omega arith
 lists-same (c ∷ cs) (v ∷ vs) = omega (arith, lists-same cs vs)
 
-pub true-false : true ≡ false → ⊥
-true-false h = let z : _≡_ {A = ℕ} 1 0 = ap (λ (b : Bool). cond b 1 0) h in omega arith
-
 -- how many places a number has among some refusals
 placesFor : ℕ → List Refusal → ℕ
 placesFor n [] = 0
@@ -271,6 +273,16 @@ listed n (r ∷ rs) p l = go (eqb n (r .number)) refl l (listed n rs p)
     go : (b : Bool) → eqb n (r .number) ≡ b → p < cond b (r .places) (placesFor n rs) → (p < placesFor n rs → OneOf rs n p) → OneOf (r ∷ rs) n p
     go true e l f = inl (eqb-true n (r .number) e, l)
     go false e l f = inr (f l)
+
+-- among these or more
+sooner : (rs qs : List Refusal) (n p : ℕ) → OneOf rs n p → OneOf (rs ++ qs) n p
+sooner [] qs n p h = elim h [ ]
+sooner (r ∷ rs) qs n p (inl h) = inl h
+sooner (r ∷ rs) qs n p (inr h) = inr (sooner rs qs n p h)
+
+later : (rs qs : List Refusal) (n p : ℕ) → OneOf qs n p → OneOf (rs ++ qs) n p
+later [] qs n p h = h
+later (r ∷ rs) qs n p h = inr (later rs qs n p h)
 
 as-many : (rs : List Record) (xs : List Op) (at : ℕ) → length (heldFrom rs xs at) ≡ length rs
 unfolding heldFrom
@@ -329,6 +341,38 @@ module _ (w : ℕ) where
       by-stage P (Any P) Q (headAt t s at room) _ (by-head P s two t at room three four five (λ n e f. thirteen) (λ n i e f. thirteen) (ltb-false (length s) at e₃)) λ h e q₁.
       by-then P _ Q (layoutAt w s (h .item .batches) (h .next)) _ (by-layout P s k batch eleven w (h .item .batches) (h .next) (omega (arith, ap toldBatches e))) λ l q₂.
       by-then P _ Q (batchesBy w t (h .item .ops) (l .item)) _ (by-records P s k batch eleven w t (h .item .ops) (l .item) q₂) λ r q₃. tt)
+
+  -- the block has as many batches as it says
+  as-told : (t s : List ℕ) (at : ℕ) (room : Room) (b : Block) (next : ℕ) → decoded w t s at room ≡ found b next → toldBatches (headAt t s at room) ≡ length (b .records)
+  unfolding batchesAt
+  as-told t s at room b next h =
+      let f = stages w t s at room b next h in
+      let l = f .layout in
+      let i = f .items in
+      ap toldBatches (f .head .is)
+      ∙ omega (arith, nibbles-made s w (f .k) (f .a₁) 0 (l .sizes) (i .a₁) (i .sizes) .0, row-made _ (λ (r : Record). Unit {0}) (λ at i r next e. tt) _ 0 0 (b .records) (f .used) (f .records .batches) .0)
+
+  strict : Width w → (t s : List ℕ) (at : ℕ) (room : Room) → Replies (strictRefusals (length s) (told (countAt s at)) (toldBatches (headAt t s at room))) (strictlyDecoded w t s at room)
+  unfolding strictlyDecoded
+  strict width t s at room = go (decoded w t s at room) refl (decode t s at room)
+    where
+      k : ℕ
+      k = toldBatches (headAt t s at room)
+
+      rs : List Refusal
+      rs = decodeRefusals (length s) (told (countAt s at)) k
+
+      more : List Refusal
+      more = 18 of 1 ∷ 18 of k ∷ []
+
+      took : (i : Item Block) → decoded w t s at room ≡ good i → Verdict w t s at room (i .item) (i .next) → Replies (rs ++ more) (strictlyDecoded w t s at room)
+      took i e (passes l q r) = rw r tt
+      took i e (unlisted l r) = rw r (later rs more 18 0 (inl (refl, omega arith)))
+      took i e (differs p q r) = rw r (later rs more 18 p (inr (inl (refl, omega (arith, q .own, as-told t s at room (i .item) (i .next) e)))))
+
+      go : (d : Read Block) → decoded w t s at room ≡ d → Replies rs d → Replies (rs ++ more) (strictlyDecoded w t s at room)
+      go (good i) e h = took i e (verdict w width t s at room (i .item) (i .next) e)
+      go (refused n p) e h = rw e (sooner rs more n p h)
 
   head : (t s : List ℕ) (at : ℕ) → Replies (headRefusals (length s) (told (countAt s at))) (headed t s at)
   unfolding headed placesFor Narrow Scarce
@@ -439,12 +483,13 @@ module _ (w : ℕ) where
   unfolding written
   nothing-written out at n p = refl
 
-  pub demand1 : Demand1 w
-  demand1 =
+  pub demand1 : Width w → Demand1 w
+  demand1 width =
       record {
         build = build;
         encode = encode;
         decode = decode;
+        strict = strict width;
         head = head;
         reader-count = reader-count;
         reader-op = reader-op;

@@ -95,7 +95,7 @@ module _ (t : List ℕ) where
   most n is4 = omega arith
   most n is8 = omega arith
 
-  each : (w : ℕ) (bs : List (List Group)) → RightBatches w t bs → All (RightBatch w t) bs
+  pub each : (w : ℕ) (bs : List (List Group)) → RightBatches w t bs → All (RightBatch w t) bs
   each w [] r = tt
   each w (gs ∷ []) r = (r, tt)
   each w (gs ∷ hs ∷ bs) r = (r .1, each w (hs ∷ bs) (r .2))

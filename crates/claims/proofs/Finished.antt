@@ -25,7 +25,7 @@ use Rattle.claims.proofs.ReadThenChecked.{Encodable, encodable, had-roo
 use Rattle.claims.proofs.Passes.{decode-passes}
 use Rattle.claims.proofs.CheckedThenReturned.{returns-clear}
 
-most-fits : (b : Block) → length (b .ops) ≤ 65535 → length (b .records) ≤ 16384 → roomFor b most ≡ true
+pub most-fits : (b : Block) → length (b .ops) ≤ 65535 → length (b .records) ≤ 16384 → roomFor b most ≡ true
 unfolding roomFor
 most-fits b h k = rw (le-leb (length (b .ops)) 65535 h, le-leb (length (b .records)) 16384 k)
 

@@ -1,5 +1,5 @@
 -- What a decoded block says of each stage. Assumes nothing.
-use mathlib.Core.Path.{_≡_}
+use mathlib.Core.Path.{_≡_, sym, _∙_}
 use mathlib.Core.List.{List}
 use mathlib.Core.Bool.{Bool, true, false, not, _&&_}
 use Prim.Native.Nat.{ℕ, _≤_}
@@ -38,6 +38,7 @@ pub record FoundHead (t s : List ℕ) (at : ℕ) (room : Room) (h : Head) (end :
   pub batches : batchCountAt s a₂ ≡ found (h .batches) end
   pub wide : (leb n (room .codes) && leb n (room .values)) ≡ true
   pub many : h .batches ≤ room .records
+  pub is : headAt t s at room ≡ found h end
 
 found-head : (t s : List ℕ) (at : ℕ) (room : Room) (h : Head) (end : ℕ) → headAt t s at room ≡ found h end → FoundHead t s at room h end
 unfolding headAt
@@ -48,7 +49,7 @@ found-head t s at room h end e =
     let b = came (batchCountAt s (o .to)) _ h end (o .rest) in
     let k = passed (ltb (room .records) (b .got)) 13 0 _ h end (b .rest) in
     settle (λ h end. FoundHead t s at room h end) (record { ops = o .got; batches = b .got }) h (b .to) end (k .1)
-    (record { n = c .got; a₁ = c .to; a₂ = o .to; count = c .first; codes = o .first; batches = b .first; wide = not-false _ (g .0); many = ltb-false (room .records) (b .got) (k .0) })
+    (record { n = c .got; a₁ = c .to; a₂ = o .to; count = c .first; codes = o .first; batches = b .first; wide = not-false _ (g .0); many = ltb-false (room .records) (b .got) (k .0); is = e ∙ sym (k .1) })
 
 module _ (w : ℕ) where
   pub record FoundLayout (s : List ℕ) (k at : ℕ) (l : Layout) (end : ℕ) : Type 0 where

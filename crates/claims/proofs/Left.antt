@@ -14,11 +14,12 @@ use Rattle.rules.specs.Record.{cut, immediates, opsIn, sizeOf, flagOf, codesNum
 use Rattle.rules.specs.Block.{numbersFrom}
 use Rattle.rules.specs.Checks.{Held, heldFrom, held, ninth}
 use Rattle.rules.specs.Lookups.{marksIn, marksOf, marks}
+use Rattle.rules.specs.Strict.{unmarked}
 use Rattle.rules.proofs.Operations.{noop-plain}
 use Rattle.rules.proofs.Runs.{fitted-length, fitted-zeros}
 use Rattle.rules.proofs.Sizes.{marks-in}
 use Rattle.claims.proofs.Shape.{rawIn, raw, raws, RightGroup, Follow, RightBatch, RightBatches}
-use Rattle.claims.specs.Left.{unmarked, Counts, endsInImmediate, LeftGroup, Flagged, plain, padding, AllFlagged, together, allHeld, LeftBatch, Left}
+use Rattle.claims.specs.Left.{Counts, endsInImmediate, LeftGroup, Flagged, plain, padding, AllFlagged, together, allHeld, LeftBatch, Left}
 use Rattle.claims.proofs.Batching.{list-back}
 use Rattle.claims.proofs.Right.{Width, right-batches}
 use Rattle.claims.proofs.WrittenThenRead.{differences-starts, fitted-is, part-at, total-sizes}
@@ -26,29 +27,29 @@ use Rattle.claims.proofs.ReadThenChecked.{start-at}
 
 -- ---- marks
 
-none-marked : (xs : List Op) → unmarked (marksIn (length xs) 0) xs ≡ xs
+pub none-marked : {A : Type 0} (xs : List A) → unmarked (marksIn (length xs) 0) xs ≡ xs
 unfolding marksIn
 none-marked [] = refl
 none-marked (x ∷ []) = refl
-none-marked (x ∷ y ∷ xs) = ap (λ (l : List Op). x ∷ l) (none-marked (y ∷ xs))
+none-marked {A} (x ∷ y ∷ xs) = ap (λ (l : List A). x ∷ l) (none-marked (y ∷ xs))
 
-last-marked : (xs : List Op) → unmarked (marksIn (length xs) 1) xs ≡ butLast xs
+pub last-marked : {A : Type 0} (xs : List A) → unmarked (marksIn (length xs) 1) xs ≡ butLast xs
 unfolding marksIn
 last-marked [] = refl
 last-marked (x ∷ []) = refl
-last-marked (x ∷ y ∷ xs) = ap (λ (l : List Op). x ∷ l) (last-marked (y ∷ xs))
+last-marked {A} (x ∷ y ∷ xs) = ap (λ (l : List A). x ∷ l) (last-marked (y ∷ xs))
 
-unmarked-append : (ms ns : List Bool) (xs ys : List Op) → length ms ≡ length xs → unmarked (ms ++ ns) (xs ++ ys) ≡ unmarked ms xs ++ unmarked ns ys
+pub unmarked-append : {A : Type 0} (ms ns : List Bool) (xs ys : List A) → length ms ≡ length xs → unmarked (ms ++ ns) (xs ++ ys) ≡ unmarked ms xs ++ unmarked ns ys
 unmarked-append [] ns [] ys e = refl
 unmarked-append [] ns (x ∷ xs) ys e = absurd (omega arith)
 unmarked-append (m ∷ ms) ns [] ys e = absurd (omega arith)
 unmarked-append (true ∷ ms) ns (x ∷ xs) ys e = unmarked-append ms ns xs ys (omega arith)
-unmarked-append (false ∷ ms) ns (x ∷ xs) ys e = ap (λ (l : List Op). x ∷ l) (unmarked-append ms ns xs ys (omega arith))
+unmarked-append {A} (false ∷ ms) ns (x ∷ xs) ys e = ap (λ (l : List A). x ∷ l) (unmarked-append ms ns xs ys (omega arith))
 
 -- a list of marks, the operations that they are for, and those that stay
-record Marked (ms : List Bool) (xs ys : List Op) : Type 0 where
-  as-many : length ms ≡ length xs
-  stay : unmarked ms xs ≡ ys
+pub record Marked (ms : List Bool) (xs ys : List Op) : Type 0 where
+  pub as-many : length ms ≡ length xs
+  pub stay : unmarked ms xs ≡ ys
 
 marked-append : (ms ns : List Bool) (xs ys us vs : List Op) → Marked ms xs us → Marked ns ys vs → Marked (ms ++ ns) (xs ++ ys) (us ++ vs)
 marked-append ms ns xs ys us vs h k =
@@ -71,7 +72,7 @@ marked-batch (g ∷ gs) k = marked-append _ _ (opsIn g) (opsOf gs) (rawIn g) (ra
 
 -- ---- the record of a batch that has at most eight groups
 
-abbrev Short : List Group → Type 0
+abbrev pub Short : List Group → Type 0
 Short gs = length gs ≤ 8
 
 sizes-are : (gs : List Group) → Short gs → differences (recordOf gs .starts) ≡ map sizeOf gs ++ replicate (8 - length gs) 0
@@ -86,11 +87,11 @@ numbers-are : (gs : List Group) → Short gs → recordOf gs .numbers ≡ map nu
 unfolding recordOf recordBy
 numbers-are gs h = let m = length-map gs numberOf in fitted-is 8 (map numberOf gs) (omega arith) ∙ rw m
 
-count-is : (gs : List Group) → recordOf gs .count ≡ length gs
+pub count-is : (gs : List Group) → recordOf gs .count ≡ length gs
 unfolding recordOf recordBy
 count-is gs = length-map gs numberOf
 
-marked-record : (gs : List Group) → Short gs → Marked (marksOf (differences (recordOf gs .starts)) (recordOf gs .flags)) (opsOf gs) (raw gs)
+pub marked-record : (gs : List Group) → Short gs → Marked (marksOf (differences (recordOf gs .starts)) (recordOf gs .flags)) (opsOf gs) (raw gs)
 marked-record gs h = rw (sizes-are gs h, flags-are gs h) (marked-batch gs (8 - length gs))
 
 marked-block : (bs : List (List Group)) → All Short bs → Marked (marks (map recordOf bs)) (paddedOf bs) (raws bs)
@@ -112,7 +113,7 @@ ninth-is gs h =
 abbrev groupsOf : List Group → List (List Op)
 groupsOf gs = map opsIn gs ++ replicate (8 - length gs) []
 
-abbrev heldOf : List Group → Held
+abbrev pub heldOf : List Group → Held
 heldOf gs = record { batch = recordOf gs; groups = groupsOf gs }
 
 cut-none : (k : ℕ) (xs : List Op) (at : ℕ) → cut (replicate k 0) xs at ≡ replicate k []
@@ -140,7 +141,7 @@ held-from (gs ∷ bs) pre post h =
     let rest : heldFrom (map recordOf bs) (pre ++ (x ++ (r ++ post))) (length pre + length x) ≡ map heldOf bs = rw (append-assoc pre x (r ++ post), length-append pre x) at ih in
     rw (append-assoc x r post, sizes-are gs (h .0), ninth-is gs (h .0), cut-groups gs (8 - length gs) pre (r ++ post), rest)
 
-held-is : (bs : List (List Group)) → All Short bs → held (blockOf bs) ≡ map heldOf bs
+pub held-is : (bs : List (List Group)) → All Short bs → held (blockOf bs) ≡ map heldOf bs
 unfolding held blockOf
 held-is bs h = rw (append-nil (paddedOf bs)) at (held-from bs [] [] h)
 
@@ -150,7 +151,7 @@ together-none : (k : ℕ) → together (replicate k []) ≡ []
 together-none zero = refl
 together-none (suc k) = together-none k
 
-together-groups : (gs : List Group) (k : ℕ) → together (map opsIn gs ++ replicate k []) ≡ opsOf gs
+pub together-groups : (gs : List Group) (k : ℕ) → together (map opsIn gs ++ replicate k []) ≡ opsOf gs
 unfolding inRow
 together-groups [] k = together-none k
 together-groups (g ∷ gs) k = ap (λ (l : List Op). opsIn g ++ l) (together-groups gs k)
@@ -225,7 +226,7 @@ module _ (t : List ℕ) where
   unfolding recordOf recordBy
   numbers-right gs s f h = rw (numbers-follow gs [] (8 - length gs) f h) (sym (fitted-zeros 8 (map numberOf gs) (8 - length gs)))
 
-  left-batch : (w : ℕ) (gs : List Group) → Short gs → RightBatch w t gs → LeftBatch t (heldOf gs)
+  pub left-batch : (w : ℕ) (gs : List Group) → Short gs → RightBatch w t gs → LeftBatch t (heldOf gs)
   left-batch w gs s h =
       record {
         eight = length-append (map opsIn gs) (replicate (8 - length gs) []) ∙ omega (arith, length-map gs opsIn, length-replicate {A = List Op} (8 - length gs) []);
@@ -247,7 +248,7 @@ module _ (t : List ℕ) where
   counts w (gs ∷ []) h = (rw (count-is gs) (h .power), rw (count-is gs) (h .most))
   counts w (gs ∷ hs ∷ bs) h = (rw (count-is gs) (h .1 .power), count-is gs ∙ h .0, counts w (hs ∷ bs) (h .2))
 
-  shorts : (w : ℕ) → w ≤ 8 → (bs : List (List Group)) → RightBatches w t bs → All Short bs
+  pub shorts : (w : ℕ) → w ≤ 8 → (bs : List (List Group)) → RightBatches w t bs → All Short bs
   shorts w l [] h = tt
   shorts w l (gs ∷ []) h = (omega (arith, h .most), tt)
   shorts w l (gs ∷ hs ∷ bs) h = (omega (arith, h .1 .most), shorts w l (hs ∷ bs) (h .2))

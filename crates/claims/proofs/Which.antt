@@ -21,7 +21,8 @@ use Rattle.rules.specs.Checks.{Held, structureFaults, commitmentFault, commitme
 use Rattle.rules.specs.Functions.{Arena, blockIn, within, roomFor, built, encoded, decoded, most, headed, opHere, commitmentChecked}
 use Rattle.rules.proofs.Answer.{clash}
 use Rattle.rules.proofs.Operations.{true-left, true-right, op-guards, value-guards}
-use Rattle.claims.proofs.Demand1.{true-false, Holds, Fault, by-structure, by-first, by-commitment, by-layout, by-records}
+use Rattle.claims.proofs.Lists.{true-false}
+use Rattle.claims.proofs.Demand1.{Holds, Fault, by-structure, by-first, by-commitment, by-layout, by-records}
 use Rattle.claims.specs.Which.{BadOpcode, BadValue, Which, Told, FirstAtFault, FaultThere, ReadToFault, PassedOn}
 
 -- ---- one operation
@@ -109,7 +110,7 @@ module _ {A : Type 0} where
   same-number : (m q n p : ℕ) → _≡_ {A = Answer A} (refused m q) (refused n p) → m ≡ n
   same-number m q n p h = cc
 
-  same-place : (m q n p : ℕ) → _≡_ {A = Answer A} (refused m q) (refused n p) → q ≡ p
+  pub same-place : (m q n p : ℕ) → _≡_ {A = Answer A} (refused m q) (refused n p) → q ≡ p
   same-place m q n p h = cc
 
   -- in whatever it was refused

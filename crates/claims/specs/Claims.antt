@@ -15,6 +15,7 @@ use Rattle.claims.specs.Demand1.{Demand1}
 use Rattle.claims.specs.Demand3.{lent, Premises, Demand3}
 use Rattle.claims.specs.Passes.{Passes}
 use Rattle.claims.specs.Finished.{Bytes, Finished}
+use Rattle.claims.specs.Strict.{Strict}
 use Rattle.claims.specs.OneList.{OneList}
 use Rattle.claims.specs.Settled.{Returns, Needed}
 use Rattle.claims.specs.Which.{Which, PassedOn}
@@ -31,7 +32,7 @@ pub record Claims (w : ℕ) : Type 0 where
   -- what build makes passes all three checks, and so does what decode takes
   pub build-passes : (t : List ℕ) (xs : List Op) → Premises t xs → Passes w t (blockOf (batchesOf w t xs))
   pub decode-passes : (t s : List ℕ) (at : ℕ) (room : Room) (b : Block) (next : ℕ) → Taken w t s at room b next → Passes w t b
-  -- "How do you know a file is finished?"
+  -- what decode took is whole
   pub finished : (t s : List ℕ) → Bytes s → (at : ℕ) (room : Room) (b : Block) (next : ℕ) → Taken w t s at room b next → Finished w t s at b next
   -- what decode took, encode writes again byte for byte
   pub again : (t s : List ℕ) → Bytes s → (at : ℕ) (room : Room) (b : Block) (next : ℕ) → Taken w t s at room b next
@@ -40,6 +41,8 @@ pub record Claims (w : ℕ) : Type 0 where
   -- no two byte strings for one block
   pub once : (t s s′ : List ℕ) → Bytes s → Bytes s′ → (at at′ : ℕ) (room room′ : Room) (b : Block) (next next′ : ℕ)
       → Taken w t s at room b next → Taken w t s′ at′ room′ b next′ → take (next - at) (drop at s) ≡ take (next′ - at′) (drop at′ s′)
+  -- "How do you know a file is finished?" M-107: what passes strict reading, and what its 18 says
+  pub strict : Strict w
   -- batch data that passes commitment belongs to one list
   pub one-list : OneList w
   -- what passes the checks, encoded and decoded; and that the condition for getting the same back is needed. This and `kept` are said of width 8: at a

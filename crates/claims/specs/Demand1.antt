@@ -4,14 +4,14 @@
 -- answer, once for all of them.
 use mathlib.Core.Path.{_≡_}
 use mathlib.Core.Logic.{_⊎_}
-use mathlib.Core.List.{List, [], _∷_}
+use mathlib.Core.List.{List, [], _∷_, _++_}
 use Prim.Native.Nat.{ℕ, _+_, _<_}
 use lib.ListN.{length, replicate}
 use Rattle.rules.specs.Answer.{Answer, good, refused, Read, itemOf}
 use Rattle.rules.specs.Record.{Record, Block, noBlock}
 use Rattle.rules.specs.Bytes.{countAt}
 use Rattle.rules.specs.Block.{Room, Head, headAt}
-use Rattle.rules.specs.Functions.{Arena, arena, blockIn, filled, built, encoded, written, decoded, headed, countHere, opHere, structureChecked, paddingChecked, commitmentChecked, tableOf, tableLeft, groupLookup, nextLookup, leaves}
+use Rattle.rules.specs.Functions.{Arena, arena, blockIn, filled, built, encoded, written, decoded, strictlyDecoded, headed, countHere, opHere, structureChecked, paddingChecked, commitmentChecked, tableOf, tableLeft, groupLookup, nextLookup, leaves}
 
 -- a number of refusal, and how many places it can have: its place is under that, so it is 0 where there is one
 pub record Refusal : Type 0 where
@@ -48,6 +48,10 @@ encodeRefusals n k = 3 of 1 ∷ 14 of 1 ∷ 1 of 1 ∷ 15 of (k + 1) ∷ 4 of n 
 -- of a buffer of this size: 2 has the byte where an item starts, which may be the buffer's end; 4 and 17 an operation; 6 to 10 a batch
 abbrev pub decodeRefusals : ℕ → ℕ → ℕ → List Refusal
 decodeRefusals size n k = 3 of 1 ∷ 14 of 1 ∷ 1 of 1 ∷ 2 of (size + 1) ∷ 13 of 1 ∷ 4 of n ∷ 17 of n ∷ 5 of 1 ∷ 6 of k ∷ 7 of k ∷ 8 of k ∷ 9 of k ∷ 10 of k ∷ 11 of 1 ∷ []
+
+-- M-107: "the ordinary refusal comes if there is one, else a new 18", with place 0 for the block's list, else one of its batches
+abbrev pub strictRefusals : ℕ → ℕ → ℕ → List Refusal
+strictRefusals size n k = decodeRefusals size n k ++ (18 of 1 ∷ 18 of k ∷ [])
 
 -- how many operations and batches the block at a place says that it has; 0 where its bytes do not come to say it
 abbrev pub told : Read ℕ → ℕ
@@ -93,6 +97,7 @@ pub record Demand1 (w : ℕ) : Type 0 where
   pub build : (t cs vs : List ℕ) (room : Room) → Replies (buildRefusals (length cs)) (built w t cs vs room)
   pub encode : (t : List ℕ) (a : Arena) (size at : ℕ) → Replies (encodeRefusals (ops a) (batches a)) (encoded w t a size at)
   pub decode : (t s : List ℕ) (at : ℕ) (room : Room) → Replies (decodeRefusals (length s) (told (countAt s at)) (toldBatches (headAt t s at room))) (decoded w t s at room)
+  pub strict : (t s : List ℕ) (at : ℕ) (room : Room) → Replies (strictRefusals (length s) (told (countAt s at)) (toldBatches (headAt t s at room))) (strictlyDecoded w t s at room)
   pub head : (t s : List ℕ) (at : ℕ) → Replies (headRefusals (length s) (told (countAt s at))) (headed t s at)
   pub reader-count : (s : List ℕ) (at : ℕ) → Replies (countRefusals (length s)) (countHere s at)
   pub reader-op : (t s : List ℕ) (at i : ℕ) → Replies (opRefusals (length s) i) (opHere t s at i)

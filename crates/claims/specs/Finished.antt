@@ -1,4 +1,4 @@
--- "How do you know a file is finished?" Where decode took a block from a file, its bytes say the same block in any surroundings, and the file cut short
+-- A block that was taken is whole: where decode took it from a file, its bytes say the same block in any surroundings, and the file cut short
 -- anywhere before the block's end is refused.
 use mathlib.Core.Path.{_≡_}
 use mathlib.Core.Bool.{true}

@@ -1,6 +1,6 @@
 -- Demand 3, said of a block as it is left: of its operations, and of the starts, flags, numbers and counts of its records, and of nothing else.
 use mathlib.Core.Path.{_≡_}
-use mathlib.Core.Bool.{Bool, true, false}
+use mathlib.Core.Bool.{Bool, false}
 use mathlib.Core.List.{List, [], _∷_, _++_}
 use Prim.Native.Nat.{ℕ, _≤_}
 use lib.ListN.{length, drop}
@@ -10,14 +10,8 @@ use Rattle.rules.specs.Record.{Record, Block, differences}
 use Rattle.rules.specs.Checks.{Held, held}
 use Rattle.rules.specs.Block.{numbersFrom}
 use Rattle.rules.specs.Lookups.{marks}
+use Rattle.rules.specs.Strict.{ownList}
 use Rattle.claims.specs.Shape.{EndsInNoop, PowerOfTwo}
-
--- the operations that are not marked
-abbrev pub unmarked : List Bool → List Op → List Op
-unmarked [] xs = xs
-unmarked (m ∷ ms) [] = []
-unmarked (true ∷ ms) (x ∷ xs) = unmarked ms xs
-unmarked (false ∷ ms) (x ∷ xs) = x ∷ unmarked ms xs
 
 -- "every batch has 1, 2, 4 or 8 groups, each but the last has 8" (the width)
 abbrev pub Counts : ℕ → List Record → Type 0
@@ -73,7 +67,7 @@ pub record LeftBatch (t : List ℕ) (h : Held) : Type 0 where
 pub record Left (w : ℕ) (t : List ℕ) (xs : List Op) (b : Block) : Type 0 where
   -- "dropping the flagged padding .. gives the list back": each operation has its mark, and those that are not marked are the list
   pub marked : length (marks (b .records)) ≡ length (b .ops)
-  pub back : unmarked (marks (b .records)) (b .ops) ≡ xs
+  pub back : ownList b ≡ xs
   pub counts : Counts w (b .records)
   -- each operation lies in one group
   pub whole : allHeld (held b) ≡ b .ops

@@ -8,6 +8,7 @@ pub mod Settled
 pub mod Kept
 pub mod Which
 pub mod Finished
+pub mod Strict
 pub mod OneList
 pub mod Sizes
 pub mod Claims
