@@ -39,7 +39,7 @@ pub acc-fits : (w : ℕ) (t : List ℕ) (x : Op) (b : Batch) → fitsIn w (hasIm
 unfolding accOf fits
 acc-fits w t x b = refl
 
-acc-pads : (t : List ℕ) (b : Batch) → pads (accOf t b) ≡ wantsNoop t (b .current)
+pub acc-pads : (t : List ℕ) (b : Batch) → pads (accOf t b) ≡ wantsNoop t (b .current)
 unfolding accOf
 acc-pads t b = sym (wants-ends t (b .current))
 
@@ -60,7 +60,7 @@ groups-total : (t : List ℕ) (b : Batch) → accOf t b .total + padOf (accOf t 
 groups-total t b =
     ap₂ (λ (x y : ℕ). x + y) (acc-total t b) (pad-length t b) ∙ sym (length-append (opsSoFar b) (pad t (b .current))) ∙ sym (ap length (groups-ops t b))
 
-acc-turned : (t : List ℕ) (b : Batch) → turnedAcc (accOf t b) ≡ accOf t (turned t b)
+pub acc-turned : (t : List ℕ) (b : Batch) → turnedAcc (accOf t b) ≡ accOf t (turned t b)
 unfolding turnedAcc accOf turned endsIn codesNumber codes number
 acc-turned t b =
     let e1 = sym (groups-length t b) in

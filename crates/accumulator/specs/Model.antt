@@ -24,9 +24,12 @@ padOf a = cond (pads a) 1 0
 unfoldable pub closedRun : ℕ → OpBatchAccumulator → List ℕ → List ℕ
 closedRun b a xs = numberSet b (a .cur) (a .number) (flagSet b (a .cur) (padOf a) (startsSet b (a .cur + 1) (a .total + padOf a) xs))
 
--- and the group at next free opened
+-- and the group at next free opened, where the batch has n operations
+abbrev pub openedAcc : ℕ → OpBatchAccumulator → OpBatchAccumulator
+openedAcc n a = record { cur = a .next; next = a .next + 1; inside = 0; number = 0; unit = 1; total = n; tail = false }
+
 unfoldable pub turnedAcc : OpBatchAccumulator → OpBatchAccumulator
-turnedAcc a = record { cur = a .next; next = a .next + 1; inside = 0; number = 0; unit = 1; total = a .total + padOf a; tail = false }
+turnedAcc a = openedAcc (a .total + padOf a) a
 
 -- an immediate takes next free
 unfoldable pub slottedAcc : OpBatchAccumulator → OpBatchAccumulator

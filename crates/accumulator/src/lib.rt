@@ -7,7 +7,7 @@ ghost use mathlib.Core.Bool.{true};
 ghost use Prim.Native.Nat.{_+_, _*_, _≤_, _<_, _^_};
 ghost use Rattle.rules.specs.Batching.{target};
 ghost use Rattle.accumulator.specs.Good.{recordGroups, Good};
-ghost use Rattle.accumulator.specs.Model.{newAcc, fitsIn, padOf, closedRun, turnedAcc, slottedAcc, slottedRun, joinedAcc, crosses, readyAcc, readyRun, addedAcc, addedRun, endedTotal, endedRun};
+ghost use Rattle.accumulator.specs.Model.{newAcc, fitsIn, padOf, closedRun, openedAcc, turnedAcc, slottedAcc, slottedRun, joinedAcc, crosses, readyAcc, readyRun, addedAcc, addedRun, endedTotal, endedRun};
 
 // operations in a group
 pub const GROUP_SIZE: usize = 9;
@@ -103,15 +103,7 @@ impl OpBatchAccumulator {
         ensures run { λ _. ⌜ now (records .exit) ≡ closedRun b self (now (records .entry)) ⌝ }
     {
         let total = self.close(b, records);
-        OpBatchAccumulator {
-            cur: self.next,
-            next: self.next + 1,
-            inside: 0,
-            number: 0,
-            unit: 1,
-            total,
-            tail: false,
-        }
+        self.opened(total)
     }
 
     // Writes what the record says of the current group, and returns the batch's operations with its Noop. All later starts are the total
@@ -131,8 +123,51 @@ impl OpBatchAccumulator {
         total
     }
 
+    // ---- the numbers alone: what a batch comes to without its record
+
+    // The current group closed and the next free one opened.
+    pub fn turn(self) -> Self
+        requires { ⌜ Good recordGroups self ⌝ }
+        ensures { λ r. ⌜ r ≡ turnedAcc self ⌝ }
+    {
+        let pad = self.padding();
+        self.opened(self.total + pad)
+    }
+
+    // The next free group opened, where the batch has so many operations.
+    fn opened(self, total: u8) -> Self
+        requires { ⌜ self .next ≤ recordGroups ⌝ }
+        ensures { λ r. ⌜ r ≡ openedAcc total self ⌝ }
+    {
+        OpBatchAccumulator {
+            cur: self.next,
+            next: self.next + 1,
+            inside: 0,
+            number: 0,
+            unit: 1,
+            total,
+            tail: false,
+        }
+    }
+
+    // The next free group taken for an immediate.
+    pub fn slot(self) -> Self
+        requires { ⌜ self .next < recordGroups ⌝ }
+        ensures { λ r. ⌜ r ≡ slottedAcc self ⌝ }
+    {
+        OpBatchAccumulator {
+            cur: self.cur,
+            next: self.next + 1,
+            inside: self.inside,
+            number: self.number,
+            unit: self.unit,
+            total: self.total,
+            tail: self.tail,
+        }
+    }
+
     // The operation joins the current group.
-    fn push_op(self, code: u8, imm: bool) -> Self
+    pub fn push_op(self, code: u8, imm: bool) -> Self
         requires { ⌜ Good recordGroups self ⌝ }
         requires { ⌜ (code < 128) × (self .inside < 9) ⌝ }
         ensures { λ r. ⌜ r ≡ joinedAcc code imm self ⌝ }
@@ -150,7 +185,7 @@ impl OpBatchAccumulator {
     }
 
     // 1 where the current group wants a Noop: it is empty, or ends in an operation with an immediate.
-    fn padding(self) -> u8
+    pub fn padding(self) -> u8
         ensures { λ r. ⌜ (r ≡ padOf self) × (r ≤ 1) ⌝ }
     {
         if self.inside == 0 {
@@ -172,7 +207,7 @@ impl OpBatchAccumulator {
     }
 
     // Whether the current group cannot take the operation: no immediate is ninth.
-    fn full(self, imm: bool) -> bool
+    pub fn full(self, imm: bool) -> bool
         ensures { λ r. ⌜ r ≡ crosses imm self ⌝ }
     {
         if imm {
@@ -199,22 +234,13 @@ impl OpBatchAccumulator {
         ensures acc { λ r. ⌜ r ≡ slottedAcc self ⌝ }
         ensures run { λ _. ⌜ now (records .exit) ≡ slottedRun v b self (now (records .entry)) ⌝ }
     {
-        let next = self.next;
-        op_batch::set_number(records, b, next, v);
-        OpBatchAccumulator {
-            cur: self.cur,
-            next: next + 1,
-            inside: self.inside,
-            number: self.number,
-            unit: self.unit,
-            total: self.total,
-            tail: self.tail,
-        }
+        op_batch::set_number(records, b, self.next, v);
+        self.slot()
     }
 }
 
 // How many groups a batch is filled up to: the next power of two, up to 8.
-fn target_num_groups(n: usize) -> usize
+pub fn target_num_groups(n: usize) -> usize
     ensures { λ r. ⌜ r ≡ target n ⌝ }
 {
     if n <= 1 {

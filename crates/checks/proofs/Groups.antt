@@ -1,5 +1,6 @@
 -- The groups of one batch, one after the other. Assumes nothing.
 use mathlib.Core.Path.{_≡_, sym}
+use mathlib.Core.Bool.{Bool, true, _&&_}
 use mathlib.Core.List.{List, [], _∷_}
 use Prim.Native.Nat.{ℕ, suc, _+_, _-_, _≤_, _<_}
 use native.Mathlib.Nat.{add-zero, sub-zero}
@@ -7,13 +8,36 @@ use native.Mathlib.Numerals.{add-one}
 use native.Mathlib.Omega.{arith}
 use lib.ListN.{length, getD, take}
 use lib.Seq.{drop-cons}
+use lib.Dec.{leb, eqb}
+use Rattle.rules.specs.Lists.{every}
 use Rattle.rules.specs.Operations.{Op, operations}
 use Rattle.rules.specs.Record.{Record, differences, recordAt, cut, part}
-use Rattle.rules.specs.Checks.{ninth}
+use Rattle.rules.specs.Checks.{ninth, startsRight, recordRight}
 use Rattle.rules.specs.Functions.{Arena}
-use Rattle.rules.proofs.Operations.{op, operations-turn, drop-operations}
+use Rattle.rules.proofs.Operations.{op, operations-turn, drop-operations, true-left, true-right}
 use Rattle.op_batch.proofs.Right.{Sound, sound, starts-length, flags-length, numbers-length, rise, below-ninth}
 use Rattle.checks.specs.Batch.{Fits, Lies, groupsFrom, under, span}
+
+-- what the structure test says of a record
+module _ (r : Record) (x : Fits r) where
+  abbrev flags : Bool
+  flags = every (λ (f : ℕ). leb f 1) (r .flags)
+
+  abbrev first : Bool
+  first = eqb (getD (r .starts) 0 0) 0
+
+  abbrev last : Bool
+  last = eqb (getD (r .starts) (r .count) 0) (ninth r)
+
+  rest : (flags && (first && (startsRight (r .starts) && last))) ≡ true
+  unfolding recordRight
+  rest = true-right (leb (r .count) (x .width)) (flags && (first && (startsRight (r .starts) && last))) (x .right)
+
+  pub right-flags : flags ≡ true
+  right-flags = true-left flags (first && (startsRight (r .starts) && last)) rest
+
+  pub right-starts : startsRight (r .starts) ≡ true
+  right-starts = true-left (startsRight (r .starts)) last (true-right first (startsRight (r .starts) && last) (true-right flags (first && (startsRight (r .starts) && last)) rest))
 
 -- what the walks know of a batch's record
 pub record Laid (r : Record) : Type 0 where

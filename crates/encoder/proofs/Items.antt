@@ -1,6 +1,6 @@
 -- The items of a block, written one after the other, and their lengths. Assumes nothing.
 use mathlib.Core.Path.{_≡_, refl, sym, ap, _∙_}
-use mathlib.Core.Bool.{Bool, true, false, cond, _&&_}
+use mathlib.Core.Bool.{Bool, true, false, cond}
 use mathlib.Core.List.{List, [], _∷_, _++_}
 use Prim.Native.Nat.{ℕ, zero, suc, _+_, _-_, _*_, _/_, _≤_, _<_}
 use native.Mathlib.Numerals.{add-one}
@@ -9,18 +9,15 @@ use native.Mathlib.Omega.{arith}
 use borrow.Author.Tests.{ne-eqb}
 use lib.ListN.{length, getD, drop, set, length-append, drop-of-length-le}
 use lib.Seq.{sets, drop-cons}
-use lib.Dec.{leb, eqb}
-use Rattle.rules.specs.Lists.{every, inRow}
+use Rattle.rules.specs.Lists.{inRow}
 use Rattle.rules.specs.Digits.{number, leBytes}
 use Rattle.rules.specs.Operations.{Op, operations, valued}
-use Rattle.rules.specs.Record.{Record, differences, recordSize, recordAt, recordsFrom, recordsIn}
+use Rattle.rules.specs.Record.{differences, recordSize, recordAt, recordsFrom, recordsIn}
 use Rattle.rules.specs.Bytes.{more, countBytes, opBytes, opsBytes, nibbleBytes, flagBytes}
 use Rattle.rules.specs.Block.{blockBytes}
-use Rattle.rules.specs.Checks.{ninth, startsRight, recordRight}
 use Rattle.rules.specs.Functions.{arena, blockIn}
 use Rattle.rules.proofs.Digits.{split, length-leBytes}
-use Rattle.rules.proofs.Operations.{op, kind-at, length-operations, operations-turn, operations-end, true-left, true-right}
-use Rattle.checks.specs.Batch.{Fits}
+use Rattle.rules.proofs.Operations.{op, kind-at, length-operations, operations-turn, operations-end}
 use Rattle.checks.proofs.Walk.{records-turn, records-end}
 use Rattle.encoder.specs.Parts.{opsSize}
 use Rattle.rules.proofs.Sizes.{length-count, length-nibbles, length-flags, more-0, more-1, more-2}
@@ -96,27 +93,6 @@ module _ (rs : List ℕ) (n b : ℕ) where
 pub all-records : (rs : List ℕ) → recordsFrom (length rs / recordSize - 0) rs 0 ≡ recordsIn rs
 unfolding recordsIn
 all-records rs = rw sub-zero
-
--- what the structure test says of them
-module _ (r : Record) (x : Fits r) where
-  abbrev flags : Bool
-  flags = every (λ (f : ℕ). leb f 1) (r .flags)
-
-  abbrev first : Bool
-  first = eqb (getD (r .starts) 0 0) 0
-
-  abbrev last : Bool
-  last = eqb (getD (r .starts) (r .count) 0) (ninth r)
-
-  rest : (flags && (first && (startsRight (r .starts) && last))) ≡ true
-  unfolding recordRight
-  rest = true-right (leb (r .count) (x .width)) (flags && (first && (startsRight (r .starts) && last))) (x .right)
-
-  pub right-flags : flags ≡ true
-  right-flags = true-left flags (first && (startsRight (r .starts) && last)) rest
-
-  pub right-starts : startsRight (r .starts) ≡ true
-  right-starts = true-left (startsRight (r .starts)) last (true-right first (startsRight (r .starts) && last) (true-right flags (first && (startsRight (r .starts) && last)) rest))
 
 -- ---- lengths
 

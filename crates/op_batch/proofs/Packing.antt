@@ -10,7 +10,7 @@ use lib.ListN.{length, getD, drop, drop-of-length-le}
 use lib.Seq.{drop-cons}
 use lib.Dec.{leb}
 use Rattle.rules.specs.Lists.{every}
-use Rattle.rules.specs.Digits.{digits, number}
+use Rattle.rules.specs.Digits.{number, leAt}
 use Rattle.rules.specs.Record.{differences, bytesAt}
 use Rattle.rules.specs.Checks.{startsRight}
 use Rattle.rules.proofs.Operations.{true-left, true-right}
@@ -89,3 +89,12 @@ starts-at (suc n) s j h zero l = rw add-zero (step-at s j (startsRight (bytesAt 
 starts-at (suc n) s j h (suc k) l =
     let e : j + suc k ≡ j + 1 + k = omega arith in
     rw e (starts-at n s (j + 1) (step-at s j (startsRight (bytesAt (suc n) s (j + 1))) h .1) k (omega arith))
+
+-- ---- all sizes at once: no byte borrows from the next
+
+pub sizes-at : (n : ℕ) (s : List ℕ) (at : ℕ) → startsRight (bytesAt (suc n) s at) ≡ true → leAt n s (at + 1) ≡ number 256 (differences (bytesAt (suc n) s at)) + leAt n s at
+unfolding startsRight bytesAt differences number leAt
+sizes-at zero s at h = refl
+sizes-at (suc n) s at h =
+    let k = step-at s at (startsRight (bytesAt (suc n) s (at + 1))) h in
+    omega (arith, k .0, sizes-at n s (at + 1) (k .1))

@@ -149,6 +149,15 @@ pub fn flags(records: &[u8], b: usize) -> u64
     word::le8(records, RECORD * b + FLAGS)
 }
 
+// All eight sizes, each start i+1 minus start i, in the same way: where starts never fall, no byte borrows from the next.
+pub fn sizes(records: &[u8], b: usize) -> u64
+    requires { ⌜ (recordSize * b + recordSize ≤ length (now records)) × (startsRight (recordAt (now records) b .starts) ≡ true) ⌝ }
+    ensures { λ r. ⌜ r ≡ number 256 (differences (recordAt (now (records .entry)) b .starts)) ⌝ }
+{
+    let at = RECORD * b;
+    word::le8(records, at + 1) - word::le8(records, at)
+}
+
 pub fn number(records: &[u8], b: usize, g: usize) -> u64
     requires { ⌜ (recordSize * b + recordSize ≤ length (now records)) × (g < 8) ⌝ }
     ensures { λ r. ⌜ r ≡ getD (recordAt (now (records .entry)) b .numbers) g 0 ⌝ }

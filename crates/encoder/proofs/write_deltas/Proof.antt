@@ -8,7 +8,8 @@ use lib.ListN.{length}
 use lib.Seq.{sets}
 use Rattle.rules.specs.Record.{recordsFrom, recordsIn}
 use Rattle.rules.specs.Bytes.{nibbleBytes}
-use Rattle.encoder.proofs.Items.{deltas-turn, deltas-end, all-records, right-starts}
+use Rattle.encoder.proofs.Items.{deltas-turn, deltas-end, all-records}
+use Rattle.checks.proofs.Groups.{right-starts}
 use Rattle.encoder.proofs.write_deltas.Statement.{statement}
 use Rattle.encoder.proofs.write_deltas.Tie as tie
 

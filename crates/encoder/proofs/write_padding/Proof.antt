@@ -8,7 +8,8 @@ use lib.ListN.{length, length-set}
 use lib.Seq.{sets}
 use Rattle.rules.specs.Record.{recordsFrom, recordsIn}
 use Rattle.rules.specs.Bytes.{flagBytes}
-use Rattle.encoder.proofs.Items.{flags-turn, flags-end, all-records, right-flags}
+use Rattle.encoder.proofs.Items.{flags-turn, flags-end, all-records}
+use Rattle.checks.proofs.Groups.{right-flags}
 use Rattle.encoder.proofs.write_padding.Statement.{statement}
 use Rattle.encoder.proofs.write_padding.Tie as tie
 
