@@ -312,7 +312,13 @@ fn decode_checked(
 }
 
 // Zeros after the first n operations and the first m bytes of records.
-fn clear_after(out_codes: &mut [u8], out_values: &mut [u64], records: &mut [u8], n: usize, m: usize)
+pub fn clear_after(
+    out_codes: &mut [u8],
+    out_values: &mut [u64],
+    records: &mut [u8],
+    n: usize,
+    m: usize,
+)
     ensures { λ _. ⌜ arena (now («out_codes» .exit)) (now («out_values» .exit)) (now (records .exit)) ≡ tailless n m (arena (now («out_codes» .entry)) (now («out_values» .entry)) (now (records .entry))) ⌝ }
 {
     word::zero_bytes(out_codes, n);

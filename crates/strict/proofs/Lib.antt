@@ -1,0 +1,9 @@
+pub mod Drafts
+pub mod Records
+pub mod Works
+pub mod Batches
+pub mod Drafted
+pub mod Judged
+pub mod Apart
+pub mod Strict
+pub mod Ways
