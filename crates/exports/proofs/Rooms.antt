@@ -1,7 +1,7 @@
 -- Outputs that cross as bytes: what the work space holds, written out, is what the definitions say of the bytes. Assumes nothing.
 use mathlib.Core.Path.{_≡_, refl, sym, ap, _∙_}
 use mathlib.Core.Bool.{Bool, true, false, not, _&&_}
-use mathlib.Core.List.{List, [], _∷_, _++_, append-assoc}
+use mathlib.Core.List.{List, [], _∷_, _++_, append-assoc, map}
 use Prim.Native.Nat.{ℕ, zero, suc, _+_, _-_, _*_, _/_, _≤_, min, zero-le}
 use native.Mathlib.Omega.{arith}
 use borrow.Author.Tests.{le-leb, lt-leb, leb-true, leb-false, not-false}
@@ -9,12 +9,15 @@ use lib.ListN.{length, replicate, replicate-append-replicate}
 use lib.Dec.{leb, ltb}
 use Rattle.rules.specs.Lists.{fitted, inRow}
 use Rattle.rules.specs.Digits.{digits, leBytes}
-use Rattle.rules.specs.Answer.{Answer, good, refused, Read, found, _then_, itemOf}
+use Rattle.rules.specs.Answer.{Answer, good, refused, refuseFirst, Read, found, _then_, itemOf}
+use Rattle.rules.specs.Refusals.{unfinished₁₈}
 use Rattle.rules.specs.Operations.{codes, values, goodTable}
-use Rattle.rules.specs.Record.{Block, noBlock, wordBytes, recordSize}
+use Rattle.rules.specs.Batching.{batchesOf}
+use Rattle.rules.specs.Record.{Block, recordOf, noBlock, wordBytes, recordSize}
 use Rattle.rules.specs.Bytes.{countAt, opsAt, batchCountAt}
 use Rattle.rules.specs.Block.{Room, Head, headAt, layoutAt, batchesBy, blockAt}
-use Rattle.rules.specs.Functions.{Arena, arena, roomIn, filled, decoded, leaves}
+use Rattle.rules.specs.Strict.{ownList, listable, differing, refuseUnfinished}
+use Rattle.rules.specs.Functions.{Arena, arena, roomIn, filled, decoded, strictlyDecoded, leaves}
 use Rattle.rules.proofs.Operations.{true-right}
 use Rattle.rules.proofs.Runs.{fitted-zeros}
 use Rattle.claims.proofs.WrittenThenRead.{fitted-is}
@@ -22,7 +25,7 @@ use Rattle.claims.proofs.ReadThenChecked.{count-limit, ops-allowed}
 use Rattle.wire.specs.Stages.{IfFound}
 use Rattle.wire.proofs.Stages.{if-then, if-refuse, held}
 use Rattle.rules.proofs.Sizes.{length-values}
-use Rattle.exports.specs.Replies.{decodeReply, Reads, roomBytes, filledBytes, ReadsBytes}
+use Rattle.exports.specs.Replies.{decodeReply, Reads, readBy, roomBytes, filledBytes, ReadsBytes}
 use Rattle.exports.specs.declared.DecodeReply.{DecodeReply}
 
 -- ---- zeros after the numbers are zeros after their bytes
@@ -76,11 +79,22 @@ module _ (t s : List ℕ) (at c k r : ℕ) where
   unfolding headAt
   head-same = same-then (countAt s at) _ _ (λ n a₁ e. let h = count-limit s 8 n at a₁ e in rw (leb-min n k (omega arith)))
 
-  pub decoded-same : decoded 8 t s at (rooms (min k 65536)) ≡ decoded 8 t s at (rooms k)
+  decoded-same : decoded 8 t s at (rooms (min k 65536)) ≡ decoded 8 t s at (rooms k)
   unfolding decoded blockAt
   decoded-same = rw head-same
 
+  read-same : (strict : Bool) → readBy strict t s at (rooms (min k 65536)) ≡ readBy strict t s at (rooms k)
+  unfolding strictlyDecoded
+  read-same true = ap (λ (d : Read Block). d then λ b next. refuseUnfinished 8 t b (found b next)) decoded-same
+  read-same false = decoded-same
+
 -- and a block that was read fits
+if-first : {A : Type 0} (P : A → ℕ → Type 0) (i : ℕ) (ns : List ℕ) (d : Read A) → IfFound P d → IfFound P (refuseFirst i ns d)
+unfolding refuseFirst
+if-first P i [] d h = h
+if-first P i (zero ∷ ns) d h = if-first P (i + 1) ns d h
+if-first P i (suc n ∷ ns) d h = tt
+
 module _ (t s : List ℕ) (at : ℕ) (room : Room) where
   head-fits : IfFound (λ (h : Head) (next : ℕ). length (h .ops) ≤ room .values) (headAt t s at room)
   unfolding headAt
@@ -89,12 +103,19 @@ module _ (t s : List ℕ) (at : ℕ) (room : Room) where
       if-then _ (opsAt t s n a₁ 0) _ (λ xs a₂ f. if-then _ (batchCountAt s a₂) _ (λ k a₃ g. if-refuse _ (ltb (room .records) k) 13 0 _ (λ _.
       omega (arith, ops-allowed s 8 t n a₁ 0 xs a₂ f .0, leb-true n (room .values) (true-right (leb n (room .codes)) (leb n (room .values)) (not-false _ b))))))))
 
-  pub decoded-fits : IfFound (λ (b : Block) (next : ℕ). length (b .ops) ≤ room .values) (decoded 8 t s at room)
+  decoded-fits : IfFound (λ (b : Block) (next : ℕ). length (b .ops) ≤ room .values) (decoded 8 t s at room)
   unfolding decoded blockAt
   decoded-fits =
       if-refuse _ (ltb 1048576 (length s)) 3 0 _ (λ _. if-refuse _ (not (goodTable t)) 14 0 _ (λ _. if-refuse _ (ltb (length s) at) 1 0 _ (λ _.
       if-then _ (headAt t s at room) _ (λ h a₁ e. if-then _ (layoutAt 8 s (h .batches) a₁) _ (λ l a₂ f. if-then _ (batchesBy 8 t (h .ops) l) _ (λ rs n g.
       held _ (headAt t s at room) h a₁ e head-fits))))))
+
+  read-fits : (strict : Bool) → IfFound (λ (b : Block) (next : ℕ). length (b .ops) ≤ room .values) (readBy strict t s at room)
+  unfolding strictlyDecoded refuseUnfinished
+  read-fits true =
+      if-then _ (decoded 8 t s at room) _ (λ b next e. if-refuse _ (not (listable (ownList b))) unfinished₁₈ 0 _ (λ _. if-first _ 0 (differing (b .records) (map recordOf (batchesOf 8 t (ownList b)))) (found b next)
+      (held _ (decoded 8 t s at room) b next e decoded-fits)))
+  read-fits false = decoded-fits
 
 left-fits : (m : ℕ) (d : Read Block) → IfFound (λ (b : Block) (next : ℕ). length (b .ops) ≤ m) d → length (leaves noBlock (itemOf d) .ops) ≤ m
 unfolding noBlock
@@ -103,17 +124,17 @@ left-fits m (refused n p) h = zero-le
 
 -- ---- decode
 
-module _ (t s : List ℕ) (at : ℕ) (os wk rs ov : List ℕ) (e : length wk ≡ min (length ov / 8) 65536) where
-  same-room : decoded 8 t s at (roomIn (arena os wk rs)) ≡ decoded 8 t s at (roomBytes (arena os ov rs))
+module _ (strict : Bool) (t s : List ℕ) (at : ℕ) (os wk rs ov : List ℕ) (e : length wk ≡ min (length ov / 8) 65536) where
+  same-room : readBy strict t s at (roomIn (arena os wk rs)) ≡ readBy strict t s at (roomBytes (arena os ov rs))
   unfolding roomIn roomBytes
-  same-room = rw e (decoded-same t s at (length os) (length ov / 8) (length rs / recordSize))
+  same-room = rw e (read-same t s at (length os) (length ov / 8) (length rs / recordSize) strict)
 
-  fits-work : length (leaves noBlock (itemOf (decoded 8 t s at (roomIn (arena os wk rs)))) .ops) ≤ length wk
+  fits-work : length (leaves noBlock (itemOf (readBy strict t s at (roomIn (arena os wk rs)))) .ops) ≤ length wk
   unfolding roomIn
-  fits-work = left-fits (length wk) (decoded 8 t s at (roomIn (arena os wk rs))) (decoded-fits t s at (roomIn (arena os wk rs)))
+  fits-work = left-fits (length wk) (readBy strict t s at (roomIn (arena os wk rs))) (read-fits t s at (roomIn (arena os wk rs)) strict)
 
-  pub reads-out : (r : DecodeReply) (os′ wk′ rs′ ov′ : List ℕ) → Reads (decoded 8 t s at) at r (arena os wk rs) (arena os′ wk′ rs′) → ov′ ≡ fitted (length ov) (wordBytes wk′)
-      → ReadsBytes (decoded 8 t s at) at r (arena os ov rs) (arena os′ ov′ rs′)
+  pub reads-out : (r : DecodeReply) (os′ wk′ rs′ ov′ : List ℕ) → Reads (readBy strict t s at) at r (arena os wk rs) (arena os′ wk′ rs′) → ov′ ≡ fitted (length ov) (wordBytes wk′)
+      → ReadsBytes (readBy strict t s at) at r (arena os ov rs) (arena os′ ov′ rs′)
   reads-out r os′ wk′ rs′ ov′ d o =
       record {
         reply = d .reply ∙ ap (decodeReply at) same-room;

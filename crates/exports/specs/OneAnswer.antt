@@ -11,16 +11,18 @@ use Rattle.claims.specs.One.{One, Only}
 use Rattle.crossing.specs.Words.{wordsIn}
 use Rattle.exports.specs.Replies.{Builds, Writes, Reads, Tables, BuildsBytes, ReadsBytes, TablesBytes, headReply, checkReply, paddedReply, rawReply, oneRecord, wholeWords, inWhole, groupReply, nextReply}
 
--- `answer` is what the definitions answer: `built 8 ..`, `encoded 8 ..`, `decoded 8 ..`, `rawTabled 8 ..`, `paddedTabled 8 ..`
+-- `answer` is what the definitions answer: `built 8 ..`, `encoded 8 ..`, `decoded 8 ..`, `strictlyDecoded 8 ..`, `rawTabled 8 ..`, `paddedTabled 8 ..`
 pub record OneAnswer : Type 0 where
   pub oli-build : (answer : Room → Answer Block) (before : Arena) → One (λ r after. Builds answer r before after)
   -- over numbers and over bytes
   pub oli-encode : (answer : Answer (List ℕ)) (at : ℕ) (before : List ℕ) → One (λ r after. Writes answer at r before after)
   pub oli-decode : (answer : Room → Read Block) (at : ℕ) (before : Arena) → One (λ r after. Reads answer at r before after)
+  pub oli-decode-strict : (answer : Room → Read Block) (at : ℕ) (before : Arena) → One (λ r after. Reads answer at r before after)
   pub oli-raw-table : (answer : Answer (List ℕ)) (before : List ℕ) → One (λ r after. Tables answer r before after)
   pub oli-padded-table : (answer : Answer (List ℕ)) (before : List ℕ) → One (λ r after. Tables answer r before after)
   pub oli-build-le : (answer : Room → Answer Block) (before : Arena) → One (λ r after. BuildsBytes answer r before after)
   pub oli-decode-le : (answer : Room → Read Block) (at : ℕ) (before : Arena) → One (λ r after. ReadsBytes answer at r before after)
+  pub oli-decode-strict-le : (answer : Room → Read Block) (at : ℕ) (before : Arena) → One (λ r after. ReadsBytes answer at r before after)
   pub oli-raw-table-le : (answer : Answer (List ℕ)) (before : List ℕ) → One (λ r after. TablesBytes answer r before after)
   pub oli-padded-table-le : (answer : Answer (List ℕ)) (before : List ℕ) → One (λ r after. TablesBytes answer r before after)
   pub oli-head : (t s : List ℕ) (at : ℕ) → Only (λ r. r ≡ headReply (headed t s at))

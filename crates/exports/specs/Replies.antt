@@ -1,6 +1,6 @@
 -- The replies that cross to Rust, by the definitions' answers: number 0 where nothing is refused, every length and total 0 where something is.
 use mathlib.Core.Path.{_≡_}
-use mathlib.Core.Bool.{not, cond}
+use mathlib.Core.Bool.{Bool, true, false, not, cond}
 use mathlib.Core.List.{List, []}
 use mathlib.Core.Option.{Option, none, some}
 use Prim.Native.Nat.{ℕ, _/_}
@@ -13,7 +13,7 @@ use Rattle.rules.specs.Operations.{codes, values}
 use Rattle.rules.specs.Record.{Block, recordSize, wordBytes, recordsBytes, noBlock}
 use Rattle.rules.specs.Block.{Room, Head}
 use Rattle.rules.specs.Lookups.{Place, Raw, rawAt, Padded, paddedAt}
-use Rattle.rules.specs.Functions.{Arena, arena, roomIn, filled, written, tableLeft, totals, lengthTold, used, leaves}
+use Rattle.rules.specs.Functions.{Arena, arena, roomIn, filled, written, tableLeft, totals, lengthTold, used, leaves, decoded, strictlyDecoded}
 use Rattle.crossing.specs.Words.{whole}
 use Rattle.exports.specs.declared.BuildReply.{BuildReply}
 use Rattle.exports.specs.declared.EncodeReply.{EncodeReply}
@@ -122,6 +122,11 @@ filledBytes a b =
 pub record BuildsBytes (answer : Room → Answer Block) (r : BuildReply) (before after : Arena) : Type 0 where
   pub reply : r ≡ buildReply (answer (roomBytes before))
   pub runs : after ≡ filledBytes before (leaves noBlock (answer (roomBytes before)))
+
+-- what the rules answer for a block of bytes, strictly or not
+abbrev pub readBy : Bool → List ℕ → List ℕ → ℕ → Room → Read Block
+readBy true = strictlyDecoded 8
+readBy false = decoded 8
 
 -- decode's
 pub record ReadsBytes (answer : Room → Read Block) (at : ℕ) (r : DecodeReply) (before after : Arena) : Type 0 where

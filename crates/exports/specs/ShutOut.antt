@@ -1,14 +1,14 @@
 -- At a named input each export has this reply and leaves this, and nothing else: so one that refuses everything, passes everything, answers the place 0, writes
--- nothing, leaves what it was lent, ignores the write position, tells an invented length or tells a wrong value as
--- a wrong opcode is shut out. Lent runs are full of nines.
+-- nothing, leaves what it was lent, ignores the write position, tells an invented length, tells a wrong value as
+-- a wrong opcode or takes a block that is not finished in strict reading is shut out. Lent runs are full of nines.
 use mathlib.Core.Path.{_≡_}
 use mathlib.Core.List.{List, [], _∷_, _++_}
 use Prim.Native.Nat.{ℕ}
 use lib.ListN.{replicate}
 use Rattle.rules.specs.Record.{recordAt, recordsBytes, recordBytes, wordBytes}
 use Rattle.rules.specs.Lookups.{rawAt, paddedAt, paddedIndex, rawIndex}
-use Rattle.rules.specs.Functions.{Arena, arena, built, encoded, decoded, headed, structureChecked, paddingChecked, commitmentChecked, rawTabled, paddedTabled, groupLookup, nextLookup}
-use Rattle.rules.specs.Examples.{tableT, op, is, lent, pair, over, p1, p2}
+use Rattle.rules.specs.Functions.{Arena, arena, built, encoded, decoded, strictlyDecoded, headed, structureChecked, paddingChecked, commitmentChecked, rawTabled, paddedTabled, groupLookup, nextLookup}
+use Rattle.rules.specs.Examples.{tableT, op, is, lent, pair, over, low, push, laid, p1, p2}
 use Rattle.crossing.specs.Words.{wordsIn}
 use Rattle.exports.specs.declared.BuildReply.{BuildReply}
 use Rattle.exports.specs.declared.EncodeReply.{EncodeReply}
@@ -25,6 +25,23 @@ numbers = arena (nines 3) (nines 3) (nines 83)
 
 abbrev pub bytes : Arena
 bytes = arena (nines 3) (nines 25) (nines 83)
+
+-- the same with a second record, and full of zeros
+abbrev pub numbersOfTwo : Arena
+numbersOfTwo = arena (nines 3) (nines 3) (nines 165)
+
+abbrev pub bytesOfTwo : Arena
+bytesOfTwo = arena (nines 3) (nines 25) (nines 165)
+
+abbrev pub zeroed : ℕ → ℕ → Arena
+zeroed v r = arena (replicate 3 0) (replicate v 0) (replicate r 0)
+
+-- P2's bytes with an empty batch more, and with a flag on a group that is not there (M-100): no list writes them
+abbrev pub emptyLast : List ℕ
+emptyLast = laid 2 (push ++ (0 ∷ [])) 2 (low 2 ++ low 0) (1 ∷ 0 ∷ [])
+
+abbrev pub keptFlag : List ℕ
+keptFlag = laid 2 (push ++ (0 ∷ [])) 1 (low 2) (5 ∷ [])
 
 -- what P1's block leaves there
 abbrev pub codesLeft : List ℕ
@@ -67,13 +84,28 @@ pub record ShutOut : Type 0 where
   pub oli-head : (headReply (headed tableT p2 0) ≡ record { number = 0; place = 0; batches = 1; operations = 2 }) × (headReply (headed tableT p2 20) ≡ record { number = 2; place = 20; batches = 0; operations = 0 })
   -- a value on the second of two of opcode 2, and the field's size as a value after one of opcode 2 (M-101)
   pub value-build : (r : BuildReply) (after : Arena) → Builds (built 8 tableT (2 ∷ 2 ∷ []) (0 ∷ 1 ∷ [])) r numbers after
-      → (r ≡ record { number = 17; place = 1; batches = 0; operations = 0 }) × (after ≡ arena (replicate 3 0) (replicate 3 0) (replicate 83 0))
+      → (r ≡ record { number = 17; place = 1; batches = 0; operations = 0 }) × (after ≡ zeroed 3 83)
   pub value-encode : (r : EncodeReply) (after : List ℕ) → Writes (encoded 8 tableT (lent (pair (op 2 0) (op 2 1))) 30 3) 3 r (nines 30) after
       → (r ≡ record { number = 17; place = 1; length = 0 }) × (after ≡ nines 30)
   pub value-decode : (r : DecodeReply) (after : Arena) → Reads (decoded 8 tableT (5 ∷ 2 ∷ 1 ∷ over) 0) 0 r numbers after
-      → (r ≡ record { number = 17; place = 1; batches = 0; operations = 0; used = 0 }) × (after ≡ arena (replicate 3 0) (replicate 3 0) (replicate 83 0))
+      → (r ≡ record { number = 17; place = 1; batches = 0; operations = 0; used = 0 }) × (after ≡ zeroed 3 83)
   pub value-head : headReply (headed tableT (5 ∷ 2 ∷ 1 ∷ over) 0) ≡ record { number = 17; place = 1; batches = 0; operations = 0 }
   pub value-commitment : checkReply (commitmentChecked 8 tableT (lent (pair (op 2 0) (op 2 1)))) ≡ record { number = 17; place = 1 }
+  -- strict reading: P2's bytes are read as decode reads them; of those that decode takes and no list writes, 18 with the batch, and nothing is left
+  pub oli-decode-strict : (r : DecodeReply) (after : Arena) → Reads (strictlyDecoded 8 tableT p2 0) 0 r numbers after
+      → (r ≡ record { number = 0; place = 0; batches = 1; operations = 2; used = 20 }) × (after ≡ arena codesLeft (5 ∷ 0 ∷ 0 ∷ []) recordsLeft)
+  pub oli-decode-strict-le : (r : DecodeReply) (after : Arena) → ReadsBytes (strictlyDecoded 8 tableT p2 0) 0 r bytes after
+      → (r ≡ record { number = 0; place = 0; batches = 1; operations = 2; used = 20 }) × (after ≡ arena codesLeft (5 ∷ replicate 24 0) recordsLeft)
+  pub unfinished-decode : (r : DecodeReply) (after : Arena) → Reads (decoded 8 tableT emptyLast 0) 0 r numbersOfTwo after → r ≡ record { number = 0; place = 0; batches = 2; operations = 2; used = 25 }
+  pub unfinished-strict : (r : DecodeReply) (after : Arena) → Reads (strictlyDecoded 8 tableT emptyLast 0) 0 r numbersOfTwo after
+      → (r ≡ record { number = 18; place = 1; batches = 0; operations = 0; used = 0 }) × (after ≡ zeroed 3 165)
+  pub unfinished-strict-le : (r : DecodeReply) (after : Arena) → ReadsBytes (strictlyDecoded 8 tableT emptyLast 0) 0 r bytesOfTwo after
+      → (r ≡ record { number = 18; place = 1; batches = 0; operations = 0; used = 0 }) × (after ≡ zeroed 25 165)
+  pub kept-decode : (r : DecodeReply) (after : Arena) → Reads (decoded 8 tableT keptFlag 0) 0 r numbers after → r ≡ record { number = 0; place = 0; batches = 1; operations = 2; used = 20 }
+  pub kept-strict : (r : DecodeReply) (after : Arena) → Reads (strictlyDecoded 8 tableT keptFlag 0) 0 r numbers after
+      → (r ≡ record { number = 18; place = 0; batches = 0; operations = 0; used = 0 }) × (after ≡ zeroed 3 83)
+  pub kept-strict-le : (r : DecodeReply) (after : Arena) → ReadsBytes (strictlyDecoded 8 tableT keptFlag 0) 0 r bytes after
+      → (r ≡ record { number = 18; place = 0; batches = 0; operations = 0; used = 0 }) × (after ≡ zeroed 25 83)
   -- checks
   pub passed : (checkReply (structureChecked 8 (lent p1)) ≡ record { number = 0; place = 0 })
       × (checkReply (paddingChecked 8 (lent p1)) ≡ record { number = 0; place = 0 })

@@ -7,10 +7,10 @@ ghost use lib.ListN.{length};
 ghost use Rattle.rules.specs.Record.{recordAt, noBlock};
 ghost use Rattle.rules.specs.Block.{Room};
 ghost use Rattle.rules.specs.Lookups.{rawAt, paddedAt, paddedIndex, rawIndex};
-ghost use Rattle.rules.specs.Functions.{arena, built, encoded, decoded, headed, structureChecked, paddingChecked, commitmentChecked, rawTabled, paddedTabled, tableOf, groupLookup, nextLookup};
+ghost use Rattle.rules.specs.Functions.{arena, built, encoded, decoded, strictlyDecoded, headed, structureChecked, paddingChecked, commitmentChecked, rawTabled, paddedTabled, tableOf, groupLookup, nextLookup};
 ghost use Rattle.prefix.specs.Tables.{tableBy};
 ghost use Rattle.crossing.specs.Words.{wordsIn, fewWords};
-ghost use Rattle.exports.specs.Replies.{Builds, Writes, Reads, headReply, checkReply, Tables, paddedReply, rawReply, oneRecord, wholeWords, inWhole, filledBytes, BuildsBytes, ReadsBytes, TablesBytes, groupReply, nextReply};
+ghost use Rattle.exports.specs.Replies.{Builds, Writes, Reads, readBy, headReply, checkReply, Tables, paddedReply, rawReply, oneRecord, wholeWords, inWhole, filledBytes, BuildsBytes, ReadsBytes, TablesBytes, groupReply, nextReply};
 ghost use Rattle.exports.specs.Flat.{flatBuilt, flatEncoded, flatDecoded, flatHeaded, flatVerdict, flatTabled, flatPadded, flatRaw, flatGroup, flatNext};
 use build::Built;
 use decoder::Decoded;
@@ -203,6 +203,22 @@ pub extern "C" fn oli_decode(
     ensures { λ r. ⌜ Reads (decoded 8 (now (table .entry)) (now (bytes .entry)) at) at r (arena (now («out_codes» .entry)) (now («out_values» .entry)) (now (records .entry))) (arena (now («out_codes» .exit)) (now («out_values» .exit)) (now (records .exit))) ⌝ }
 {
     let r = decoder::decode(table, bytes, at, out_codes, out_values, records);
+    flat_decoded(r)
+}
+
+// Finished blocks only (M-107).
+#[no_mangle]
+pub extern "C" fn oli_decode_strict(
+    table: &[u8],
+    bytes: &[u8],
+    at: usize,
+    out_codes: &mut [u8],
+    out_values: &mut [u64],
+    records: &mut [u8],
+) -> DecodeReply
+    ensures { λ r. ⌜ Reads (strictlyDecoded 8 (now (table .entry)) (now (bytes .entry)) at) at r (arena (now («out_codes» .entry)) (now («out_values» .entry)) (now (records .entry))) (arena (now («out_codes» .exit)) (now («out_values» .exit)) (now (records .exit))) ⌝ }
+{
+    let r = strict::decode_strict(table, bytes, at, out_codes, out_values, records);
     flat_decoded(r)
 }
 
@@ -675,8 +691,27 @@ pub extern "C" fn oli_encode_le(
     encode_in(table, codes, values, &mut work, records, out, at)
 }
 
+// Both readers, by `strict`.
+fn decode_by(
+    strict: bool,
+    table: &[u8],
+    bytes: &[u8],
+    at: usize,
+    out_codes: &mut [u8],
+    out_values: &mut [u64],
+    records: &mut [u8],
+) -> DecodeReply
+    ensures { λ r. ⌜ Reads (readBy strict (now (table .entry)) (now (bytes .entry)) at) at r (arena (now («out_codes» .entry)) (now («out_values» .entry)) (now (records .entry))) (arena (now («out_codes» .exit)) (now («out_values» .exit)) (now (records .exit))) ⌝ }
+{
+    if strict {
+        return oli_decode_strict(table, bytes, at, out_codes, out_values, records);
+    }
+    oli_decode(table, bytes, at, out_codes, out_values, records)
+}
+
 // The values go through `work`, as long as what the lent bytes have room for.
 fn decode_through(
+    strict: bool,
     table: &[u8],
     bytes: &[u8],
     at: usize,
@@ -686,14 +721,15 @@ fn decode_through(
     records: &mut [u8],
 ) -> DecodeReply
     requires { ⌜ length (now work) ≡ min (length (now «out_values») / 8) 65536 ⌝ }
-    ensures { λ r. ⌜ ReadsBytes (decoded 8 (now (table .entry)) (now (bytes .entry)) at) at r (arena (now («out_codes» .entry)) (now («out_values» .entry)) (now (records .entry))) (arena (now («out_codes» .exit)) (now («out_values» .exit)) (now (records .exit))) ⌝ }
+    ensures { λ r. ⌜ ReadsBytes (readBy strict (now (table .entry)) (now (bytes .entry)) at) at r (arena (now («out_codes» .entry)) (now («out_values» .entry)) (now (records .entry))) (arena (now («out_codes» .exit)) (now («out_values» .exit)) (now (records .exit))) ⌝ }
 {
-    let r = oli_decode(table, bytes, at, out_codes, work, records);
+    let r = decode_by(strict, table, bytes, at, out_codes, work, records);
     crossing::bytes_out(work, out_values);
     r
 }
 
 fn decode_large(
+    strict: bool,
     table: &[u8],
     bytes: &[u8],
     at: usize,
@@ -701,11 +737,12 @@ fn decode_large(
     out_values: &mut [u8],
     records: &mut [u8],
 ) -> DecodeReply
-    ensures { λ r. ⌜ ReadsBytes (decoded 8 (now (table .entry)) (now (bytes .entry)) at) at r (arena (now («out_codes» .entry)) (now («out_values» .entry)) (now (records .entry))) (arena (now («out_codes» .exit)) (now («out_values» .exit)) (now (records .exit))) ⌝ }
+    ensures { λ r. ⌜ ReadsBytes (readBy strict (now (table .entry)) (now (bytes .entry)) at) at r (arena (now («out_codes» .entry)) (now («out_values» .entry)) (now (records .entry))) (arena (now («out_codes» .exit)) (now («out_values» .exit)) (now (records .exit))) ⌝ }
 {
     let n = crossing::lent(out_values.len());
     let mut work = crossing::room();
     decode_through(
+        strict,
         table,
         bytes,
         at,
@@ -717,6 +754,7 @@ fn decode_large(
 }
 
 fn decode_in(
+    strict: bool,
     table: &[u8],
     bytes: &[u8],
     at: usize,
@@ -725,11 +763,12 @@ fn decode_in(
     out_values: &mut [u8],
     records: &mut [u8],
 ) -> DecodeReply
-    ensures { λ r. ⌜ ReadsBytes (decoded 8 (now (table .entry)) (now (bytes .entry)) at) at r (arena (now («out_codes» .entry)) (now («out_values» .entry)) (now (records .entry))) (arena (now («out_codes» .exit)) (now («out_values» .exit)) (now (records .exit))) ⌝ }
+    ensures { λ r. ⌜ ReadsBytes (readBy strict (now (table .entry)) (now (bytes .entry)) at) at r (arena (now («out_codes» .entry)) (now («out_values» .entry)) (now (records .entry))) (arena (now («out_codes» .exit)) (now («out_values» .exit)) (now (records .exit))) ⌝ }
 {
     let n = crossing::lent(out_values.len());
     if n <= work.len() {
         return decode_through(
+            strict,
             table,
             bytes,
             at,
@@ -741,9 +780,18 @@ fn decode_in(
     }
     if n <= crossing::MIDDLE {
         let mut more = crossing::middle_room();
-        return decode_in(table, bytes, at, out_codes, &mut more, out_values, records);
+        return decode_in(
+            strict,
+            table,
+            bytes,
+            at,
+            out_codes,
+            &mut more,
+            out_values,
+            records,
+        );
     }
-    decode_large(table, bytes, at, out_codes, out_values, records)
+    decode_large(strict, table, bytes, at, out_codes, out_values, records)
 }
 
 #[no_mangle]
@@ -758,7 +806,40 @@ pub extern "C" fn oli_decode_le(
     ensures { λ r. ⌜ ReadsBytes (decoded 8 (now (table .entry)) (now (bytes .entry)) at) at r (arena (now («out_codes» .entry)) (now («out_values» .entry)) (now (records .entry))) (arena (now («out_codes» .exit)) (now («out_values» .exit)) (now (records .exit))) ⌝ }
 {
     let mut work = crossing::small_room();
-    decode_in(table, bytes, at, out_codes, &mut work, out_values, records)
+    decode_in(
+        false,
+        table,
+        bytes,
+        at,
+        out_codes,
+        &mut work,
+        out_values,
+        records,
+    )
+}
+
+#[no_mangle]
+pub extern "C" fn oli_decode_strict_le(
+    table: &[u8],
+    bytes: &[u8],
+    at: usize,
+    out_codes: &mut [u8],
+    out_values: &mut [u8],
+    records: &mut [u8],
+) -> DecodeReply
+    ensures { λ r. ⌜ ReadsBytes (strictlyDecoded 8 (now (table .entry)) (now (bytes .entry)) at) at r (arena (now («out_codes» .entry)) (now («out_values» .entry)) (now (records .entry))) (arena (now («out_codes» .exit)) (now («out_values» .exit)) (now (records .exit))) ⌝ }
+{
+    let mut work = crossing::small_room();
+    decode_in(
+        true,
+        table,
+        bytes,
+        at,
+        out_codes,
+        &mut work,
+        out_values,
+        records,
+    )
 }
 
 #[no_mangle]

@@ -9,6 +9,7 @@ one-answer =
       build = λ t cs vs before r q x y h k. (h .reply ∙ sym (k .reply), h .runs ∙ sym (k .runs));
       encode = λ t a at before r q x y h k. (h .reply ∙ sym (k .reply), h .bytes ∙ sym (k .bytes));
       decode = λ t s at before r q x y h k. (h .reply ∙ sym (k .reply), h .runs ∙ sym (k .runs));
+      decode-strict = λ t s at before r q x y h k. (h .reply ∙ sym (k .reply), h .runs ∙ sym (k .runs));
       structure = λ a. equal _;
       padding = λ a. equal _;
       commitment = λ t a. equal _;

@@ -12,7 +12,7 @@ use Rattle.op_batch.specs.OpBatch.{recordIn, lookupOf, nextOf}
 use Rattle.wire.specs.Replies.{countReadOf, opReadOf}
 use Rattle.build.specs.Outcome.{Outcome}
 use Rattle.encoder.specs.Replies.{Encodes}
-use Rattle.decoder.specs.Replies.{Decodes}
+use Rattle.decoder.specs.Replies.{Decodes, StrictlyDecodes}
 use Rattle.head.specs.Replies.{headOf}
 use Rattle.prefix.specs.Tables.{Answered, paddedFound, rawFound}
 
@@ -20,6 +20,7 @@ pub record OneAnswer : Type 0 where
   pub build : (t cs vs : List ℕ) (before : Arena) → One (λ r after. Outcome (built 8 t cs vs) r before after)
   pub encode : (t : List ℕ) (a : Arena) (at : ℕ) (before : List ℕ) → One (λ r after. Encodes t a at before after r)
   pub decode : (t s : List ℕ) (at : ℕ) (before : Arena) → One (λ r after. Decodes t s at before after r)
+  pub decode-strict : (t s : List ℕ) (at : ℕ) (before : Arena) → One (λ r after. StrictlyDecodes t s at before after r)
   pub structure : (a : Arena) → Only (λ r. r ≡ verdictOf (structureChecked 8 a))
   pub padding : (a : Arena) → Only (λ r. r ≡ verdictOf (paddingChecked 8 a))
   pub commitment : (t : List ℕ) (a : Arena) → Only (λ r. r ≡ verdictOf (commitmentChecked 8 t a))

@@ -17,7 +17,7 @@ use Rattle.exports.proofs.+decode_in.{statement}
 use Rattle.exports.proofs.+decode_in.Tie.{close}
 
 abbrev μ-decode-in : Measures 6 decode-in-kinds.ps ℕ
-μ-decode-in κs a = min (length (a .1 .1 .1 .1 .1 .0 .now) / 8) 65536 - length (a .1 .1 .1 .1 .0 .now)
+μ-decode-in κs a = min (length (a .1 .1 .1 .1 .1 .1 .0 .now) / 8) 65536 - length (a .1 .1 .1 .1 .1 .0 .now)
 
 abbrev decode-in-at : ℕ → In 6 decode-in-kinds.ps
 decode-in-at t = and 6 decode-in-kinds.ps (is 6 decode-in-kinds.ps μ-decode-in t) decode-in.Pre

@@ -3,8 +3,8 @@ use borrow.Author.Needs.{needs}
 use Rattle.exports.proofs.decode_through.Statement.{statement}
 use Rattle.exports.proofs.decode_through.Tie as tie
 
-oli-decode-requires : tie.Need-oli-decode-requires
-oli-decode-requires c κs = search needs
+decode-by-requires : tie.Need-decode-by-requires
+decode-by-requires c κs = search needs
 
 bytes-out-requires : tie.Need-bytes-out-requires
 bytes-out-requires c κs = search needs
@@ -24,15 +24,15 @@ same-length-4 c = search needs
 returns : tie.Need-returns
 returns c =
     let a = c .before .before .before .before .before .before .before .before .before .before .before .before .before .before .before .before .before .before .before .before .before .args in
-    let d = c .before .before .before .before .before .before .before .before .before .before .before .oli-decode in
-    reads-out (a .table .now) (a .bytes .now) (a .at) (a .out-codes .now) (a .work .now) (a .records .now) (a .out-values .now) (c .before .before .before .before .before .before .before .before .before .before .before .before .before .before .before .before .before .before .before .before .before .pre)
+    let d = c .before .before .before .before .before .before .before .before .before .before .before .decode-by in
+    reads-out (a .strict) (a .table .now) (a .bytes .now) (a .at) (a .out-codes .now) (a .work .now) (a .records .now) (a .out-values .now) (c .before .before .before .before .before .before .before .before .before .before .before .before .before .before .before .before .before .before .before .before .before .pre)
     _ _ _ _ _ (d .ensures) (c .before .before .bytes-out .ensures)
 
 pub decode-through-spec : {M : Type 1} → statement M
 decode-through-spec =
     tie.close
     (tie.spec
-    oli-decode-requires
+    decode-by-requires
     bytes-out-requires
     same-length
     same-length-2
