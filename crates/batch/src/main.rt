@@ -1,7 +1,6 @@
 // batch [LIST [FILE]]: batches a list of operations under the virtual machine's own table, and prints the block's batches and, in hex, its bytes, or
 // writes its bytes to a file; or says in one line what is wrong. A line of the list is an operation's name or opcode and its value, if it has one;
 // # starts a comment.
-ghost use mathlib.Core.Path.{_≡_};
 ghost use Prim.Native.Nat.{_≤_, _<_};
 ghost use lib.ListN.{length};
 use build::Built;
@@ -437,26 +436,7 @@ fn batch(file: &[u8], codes: &[u8], values: &[u64], room: &mut [u8]) -> Refusal 
     }
 }
 
-// ---- room for a list
-
-// As much as a block's bytes may have.
-fn list_room() -> [u8; 1048576]
-    ensures { λ r. ⌜ 1048576 ≡ length r ⌝ }
-{
-    [0; 1048576]
-}
-
-fn values_room() -> [u64; 16384]
-    ensures { λ r. ⌜ 16384 ≡ length r ⌝ }
-{
-    [0; 16384]
-}
-
-fn codes_room() -> [u8; 16384]
-    ensures { λ r. ⌜ 16384 ≡ length r ⌝ }
-{
-    [0; 16384]
-}
+// ---- a list
 
 fn tell_refusal(name: &[u8], r: Refusal) {
     if r.number == 0 {
@@ -474,8 +454,8 @@ fn tell_refusal(name: &[u8], r: Refusal) {
 fn batch_text(name: &[u8], file: &[u8], list: &mut [u8], n: usize)
     requires { ⌜ n ≤ length (now list) ⌝ }
 {
-    let mut codes = codes_room();
-    let mut values = values_room();
+    let mut codes = space::list_codes();
+    let mut values = space::list_values();
     let t = read(name, &list[..n], &mut codes, &mut values);
     if t.fault != 0 {
         return;
@@ -485,7 +465,7 @@ fn batch_text(name: &[u8], file: &[u8], list: &mut [u8], n: usize)
 }
 
 fn batch_from(name: &[u8], file: &[u8], fd: i32) {
-    let mut list = list_room();
+    let mut list = space::bytes();
     let got = console::fill(fd, &mut list);
     if got.failed {
         console::fail(b"batch", name);

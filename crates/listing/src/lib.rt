@@ -1,10 +1,12 @@
 // A block's batches and a refusal, printed for a person. What would be read past a run's end is 0, so that no run can trip the printing up.
 ghost use Prim.Native.Nat.{_+_, _≤_, _<_};
 ghost use Rattle.io.specs.Counts.{Counts};
+use console::byte;
 use console::counted;
 use console::number;
 use console::say;
 use op_batch::OpBatch;
+use wire::CountRead;
 
 const MOST_BATCHES: usize = 16384;
 
@@ -73,7 +75,7 @@ fn print_ops(page: &mut [u8], codes: &[u8], values: &[u64], at: usize, n: usize)
 }
 
 // How many bytes of a block an operation takes.
-pub fn op_size(code: u8) -> usize {
+fn op_size(code: u8) -> usize {
     if vm::kind(code) == 0 {
         return 1;
     }
@@ -117,7 +119,7 @@ fn print_head(page: &mut [u8], codes: &[u8], group: u64, at: Place, from: usize)
 }
 
 // The b-th record, or one of zeros where the run ends before it.
-fn record(records: &[u8], b: usize) -> OpBatch {
+pub fn record(records: &[u8], b: usize) -> OpBatch {
     if b < records.len() / op_batch::RECORD {
         return op_batch::load(records, b);
     }
@@ -304,23 +306,29 @@ fn print_start(page: &mut [u8], at: usize) {
     say(page, b": ");
 }
 
-fn print_totals(page: &mut [u8], block: Block, paddings: usize) {
-    print_start(page, block.at);
-    counted(page, block.batches, b" batch, ", b" batches, ");
-    counted(page, block.operations, b" operation, ", b" operations, ");
-    counted(page, paddings, b" padding, ", b" paddings, ");
-    counted(page, block.used, b" byte", b" bytes");
-}
-
-// Only the totals, in a line.
-pub fn print_line(records: &[u8], block: Block) {
+// In a line: the totals of a block, and what stands after it.
+pub fn print_totals(page: &mut [u8], records: &[u8], block: Block, after: After) {
     let batches = block.batches;
     if MOST_BATCHES < batches {
         return;
     }
+    counted(page, batches, b" batch, ", b" batches, ");
+    counted(page, block.operations, b" operation, ", b" operations, ");
+    counted(
+        page,
+        paddings(records, batches),
+        b" padding, ",
+        b" paddings, ",
+    );
+    counted(page, block.used, b" byte", b" bytes");
+    print_after(page, after);
+}
+
+// The totals alone.
+pub fn print_line(records: &[u8], block: Block) {
     let mut page = console::output();
-    print_totals(&mut page, block, paddings(records, batches));
-    print_after(&mut page, After::Unasked);
+    print_start(&mut page, block.at);
+    print_totals(&mut page, records, block, After::Unasked);
     console::flush(&mut page);
 }
 
@@ -337,16 +345,68 @@ pub fn print_block(
         return false;
     }
     let mut page = console::output();
-    print_totals(&mut page, block, paddings(records, batches));
-    print_after(&mut page, after);
+    print_start(&mut page, block.at);
+    print_totals(&mut page, records, block, after);
     let first = plus(block.at, wire::count_size(block.operations as u64));
     print_batches(&mut page, codes, values, records, batches, first);
     console::flush(&mut page)
 }
 
+// ---- where a refusal of decode points to, in the bytes of a block
+
+// The byte of operation i; of what comes after the operations where there are i.
+fn operation_byte(s: &[u8], first: usize, i: usize) -> usize {
+    let mut at = first;
+    let mut k: usize = 0;
+    while k < i {
+        at = plus(at, op_size(byte(s, at) as u8));
+        k += 1;
+    }
+    at
+}
+
+// Four bytes, the lowest first.
+fn four(s: &[u8], at: usize) -> usize {
+    let low = byte(s, at) + 256 * byte(s, plus(at, 1));
+    low + 65536 * byte(s, plus(at, 2)) + 16777216 * byte(s, plus(at, 3))
+}
+
+// The batch count is at `at`: the byte of a batch's flags, or of its nibbles.
+fn batch_byte(s: &[u8], at: usize, refusal: u8, batch: usize) -> usize {
+    let nibbles = plus(at, 4);
+    if refusal == 10 {
+        return plus(plus(nibbles, times4(four(s, at))), batch);
+    }
+    plus(nibbles, times4(batch))
+}
+
+fn times4(n: usize) -> usize {
+    let two = plus(n, n);
+    plus(two, two)
+}
+
+// The byte that the place of a refusal means, where it means one.
+pub fn place_byte(s: &[u8], refusal: u8, place: usize) -> usize {
+    if refusal == 2 {
+        return place;
+    }
+    let c = wire::read_count(s, 0);
+    let CountRead::Found { value, next } = c else {
+        return 0;
+    };
+    if refusal == 4 || refusal == 17 {
+        return operation_byte(s, next, place);
+    }
+    let at = operation_byte(s, next, value as usize);
+    if refusal < 6 {
+        return at;
+    }
+    batch_byte(s, at, refusal, place)
+}
+
 // ---- refusals
 
-// What a number of refusal means (document 01, "Numbers of refusal", and M-101 for 4 and 17), in the words of rust/oliastrofu.
+// What a number of refusal means (document 01, "Numbers of refusal", M-101 for 4 and 17, M-107 for 18), in the words of rust/oliastrofu.
 fn print_meaning(page: &mut [u8], refusal: u8) {
     match refusal {
         1 => say(page, b"the place to begin at is past the end of the bytes"),
@@ -381,6 +441,10 @@ fn print_meaning(page: &mut [u8], refusal: u8) {
             page,
             b"an operation's value is not below the field's size, or not 0 where its kind has none",
         ),
+        18 => say(
+            page,
+            b"the block is not finished: batching its own operations does not make it",
+        ),
         _ => say(page, b"a number without a meaning"),
     }
 }
@@ -394,16 +458,21 @@ fn print_at(page: &mut [u8], what: &[u8], place: usize) {
 fn print_place(page: &mut [u8], refusal: u8, place: usize) {
     match refusal {
         4 | 17 => print_at(page, b", operation ", place),
-        6 | 7 | 8 | 9 | 10 | 15 | 16 => print_at(page, b", in batch ", place),
+        6 | 7 | 8 | 9 | 10 | 15 | 16 | 18 => print_at(page, b", in batch ", place),
         _ => {}
     }
 }
 
-// A refusal's number, what it means, and its place.
+// What a refusal means, and its place.
+pub fn print_words(page: &mut [u8], refusal: u8, place: usize) {
+    print_meaning(page, refusal);
+    print_place(page, refusal, place);
+}
+
+// The same after its number.
 pub fn print_refusal(page: &mut [u8], refusal: u8, place: usize) {
     say(page, b"refusal ");
     number(page, word::wide(refusal));
     say(page, b": ");
-    print_meaning(page, refusal);
-    print_place(page, refusal, place);
+    print_words(page, refusal, place);
 }

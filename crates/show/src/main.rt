@@ -1,73 +1,13 @@
 // show FILE [OFFSET]: prints the batches of the block that starts at a byte of a file, under the virtual machine's own table; or says in one line
 // what is wrong.
-ghost use mathlib.Core.Path.{_≡_};
 ghost use Prim.Native.Nat.{_≤_};
-ghost use lib.ListN.{length};
-use console::byte;
 use decoder::Decoded;
 use listing::After;
 use listing::Block;
 use listing::plus;
 use text::Number;
-use wire::CountRead;
 
-// As many bytes as a block may have.
-fn block_room() -> [u8; 1048576]
-    ensures { λ r. ⌜ 1048576 ≡ length r ⌝ }
-{
-    [0; 1048576]
-}
-
-// ---- where a refusal points to, in the bytes of a block
-
-// The byte of operation i; of what comes after the operations where there are i.
-fn operation_byte(s: &[u8], first: usize, i: usize) -> usize {
-    let mut at = first;
-    let mut k: usize = 0;
-    while k < i {
-        at = plus(at, listing::op_size(byte(s, at) as u8));
-        k += 1;
-    }
-    at
-}
-
-// Four bytes, the lowest first.
-fn four(s: &[u8], at: usize) -> usize {
-    let low = byte(s, at) + 256 * byte(s, plus(at, 1));
-    low + 65536 * byte(s, plus(at, 2)) + 16777216 * byte(s, plus(at, 3))
-}
-
-// The batch count is at `at`: the byte of a batch's flags, or of its nibbles.
-fn batch_byte(s: &[u8], at: usize, refusal: u8, batch: usize) -> usize {
-    let nibbles = plus(at, 4);
-    if refusal == 10 {
-        return plus(plus(nibbles, times4(four(s, at))), batch);
-    }
-    plus(nibbles, times4(batch))
-}
-
-fn times4(n: usize) -> usize {
-    let two = plus(n, n);
-    plus(two, two)
-}
-
-fn place_byte(s: &[u8], refusal: u8, place: usize) -> usize {
-    if refusal == 2 {
-        return place;
-    }
-    let c = wire::read_count(s, 0);
-    let CountRead::Found { value, next } = c else {
-        return 0;
-    };
-    if refusal == 4 || refusal == 17 {
-        return operation_byte(s, next, place);
-    }
-    let at = operation_byte(s, next, value as usize);
-    if refusal < 6 {
-        return at;
-    }
-    batch_byte(s, at, refusal, place)
-}
+// ---- a block
 
 fn say_byte(page: &mut [u8], what: &[u8], at: usize) {
     console::say(page, what);
@@ -78,12 +18,14 @@ fn say_byte(page: &mut [u8], what: &[u8], at: usize) {
 fn say_place(page: &mut [u8], s: &[u8], at: usize, refusal: u8, place: usize) {
     match refusal {
         2 => say_byte(page, b", in the item that starts at byte ", plus(at, place)),
-        3..=10 | 17 => say_byte(page, b", at byte ", plus(at, place_byte(s, refusal, place))),
+        3..=10 | 17 => say_byte(
+            page,
+            b", at byte ",
+            plus(at, listing::place_byte(s, refusal, place)),
+        ),
         _ => {}
     }
 }
-
-// ---- a block
 
 fn refused(path: &[u8], s: &[u8], at: usize, refusal: u8, place: usize) {
     let mut line = console::errors();
@@ -183,7 +125,7 @@ fn show_from(path: &[u8], fd: i32, at: usize) {
         console::fail(b"show", path);
         return;
     }
-    let mut room = block_room();
+    let mut room = space::bytes();
     show_read(path, fd, at, &mut room);
 }
 

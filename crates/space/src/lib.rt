@@ -22,3 +22,23 @@ pub fn records() -> [u8; 1343652]
 {
     [0; 1343652]
 }
+
+// As many bytes as a block may lie in.
+pub fn bytes() -> [u8; 1048576]
+    ensures { λ r. ⌜ 1048576 ≡ length r ⌝ }
+{
+    [0; 1048576]
+}
+
+// 16,384 operations: a list to batch.
+pub fn list_codes() -> [u8; 16384]
+    ensures { λ r. ⌜ 16384 ≡ length r ⌝ }
+{
+    [0; 16384]
+}
+
+pub fn list_values() -> [u64; 16384]
+    ensures { λ r. ⌜ 16384 ≡ length r ⌝ }
+{
+    [0; 16384]
+}

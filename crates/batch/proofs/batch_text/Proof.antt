@@ -5,11 +5,11 @@ use lib.Seq.{length-take-le}
 use Rattle.batch.proofs.batch_text.Statement.{statement}
 use Rattle.batch.proofs.batch_text.Tie as tie
 
-codes-room-requires : tie.Need-codes-room-requires
-codes-room-requires c κs = search needs
+list-codes-requires : tie.Need-list-codes-requires
+list-codes-requires c κs = search needs
 
-values-room-requires : tie.Need-values-room-requires
-values-room-requires c κs = search needs
+list-values-requires : tie.Need-list-values-requires
+list-values-requires c κs = search needs
 
 slice-reshare-prefix-read : tie.Need-slice-reshare-prefix-read
 slice-reshare-prefix-read c = search needs
@@ -60,8 +60,8 @@ pub batch-text-spec : {M : Type 1} → statement M
 batch-text-spec =
     tie.close
     (tie.spec
-    codes-room-requires
-    values-room-requires
+    list-codes-requires
+    list-values-requires
     slice-reshare-prefix-read
     slice-aggregate-read
     slice-aggregate-read-2

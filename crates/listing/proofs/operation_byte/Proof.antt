@@ -1,7 +1,7 @@
 use Prim.Native.Nat.{_-_, _≤_}
 use borrow.Author.Needs.{needs}
-use Rattle.show.proofs.operation_byte.Statement.{statement}
-use Rattle.show.proofs.operation_byte.Tie as tie
+use Rattle.listing.proofs.operation_byte.Statement.{statement}
+use Rattle.listing.proofs.operation_byte.Tie as tie
 
 abbrev Inv-loop : tie.InvT-loop
 Inv-loop s first i at₀ k₀ at k = k ≤ i
