@@ -226,7 +226,8 @@ pub fn say_function(what: u64) {
         9 => say(b"padded index"),
         10 => say(b"raw index"),
         11 => say(b"group"),
-        _ => say(b"next group"),
+        12 => say(b"next group"),
+        _ => say(b"decode strict"),
     }
 }
 

@@ -63,6 +63,22 @@ fn to_block(mut c: Case, s: &[u8], table: &[u8], codes: &[u8], values: &[u64]) -
     )
 }
 
+// The block, read strictly or not.
+fn read_by(
+    strict: bool,
+    table: &[u8],
+    block: &[u8],
+    from: usize,
+    out_codes: &mut [u8],
+    out_values: &mut [u64],
+    out: &mut [u8],
+) -> exports::DecodeReply {
+    if strict {
+        return exports::oli_decode_strict(table, block, from, out_codes, out_values, out);
+    }
+    exports::oli_decode(table, block, from, out_codes, out_values, out)
+}
+
 fn decode(
     c: Case,
     s: &[u8],
@@ -74,7 +90,7 @@ fn decode(
     out: &mut [u8],
 ) -> Case {
     soil(out_codes, out_values, out);
-    let r = exports::oli_decode(table, block, from, out_codes, out_values, out);
+    let r = read_by(c.what == 13, table, block, from, out_codes, out_values, out);
     let d = made(c, s, r.number, r.place, r.batches, r.operations);
     let e = is(d, s, b"bytes used", r.used);
     block_is(e, s, out_codes, out_values, out)
@@ -294,7 +310,7 @@ fn dispatch(c: Case, s: &[u8], table: &[u8]) -> Case {
     let what = c.what;
     match what {
         1 => on_list(c, s, table),
-        3 => on_bytes(c, s, table),
+        3 | 13 => on_bytes(c, s, table),
         2 | 4 | 5 | 6 | 7 | 8 => on_block(c, s, table),
         9 | 10 => on_entries(c, s),
         11 | 12 => on_record(c, s),
@@ -310,12 +326,12 @@ fn astray(mut c: Case) -> Case {
 
 // ---- a file
 
-// In counts 1 to 12 are the cases of a file that agree, by function; these are of all files.
-const CASES: usize = 13;
+// In counts 1 to 13 are the cases of a file that agree, by function; these are of all files.
+const CASES: usize = 14;
 
-const DIFFER: usize = 14;
+const DIFFER: usize = 15;
 
-const NOT_READ: usize = 15;
+const NOT_READ: usize = 16;
 
 fn add(counts: &mut [u64], i: usize) {
     if i < counts.len() {
@@ -418,7 +434,7 @@ fn print_count(what: u64, n: usize) {
 
 fn print_counts(counts: &[u64]) {
     let mut what: usize = 1;
-    while what <= 12 {
+    while what <= 13 {
         print_count(what as u64, counted(counts, what));
         what += 1;
     }
@@ -534,7 +550,7 @@ fn main() {
         help();
         return;
     }
-    let mut counts = [0u64; 16];
+    let mut counts = [0u64; 17];
     files(os::arg_count(), &mut counts);
     total(&counts);
 }

@@ -6,8 +6,8 @@ use Rattle.replay.proofs.decode.Tie as tie
 soil-requires : tie.Need-soil-requires
 soil-requires c κs = search needs
 
-oli-decode-requires : tie.Need-oli-decode-requires
-oli-decode-requires c κs = search needs
+read-by-requires : tie.Need-read-by-requires
+read-by-requires c κs = search needs
 
 made-requires : tie.Need-made-requires
 made-requires c κs = search needs
@@ -22,13 +22,13 @@ block-is-requires : tie.Need-block-is-requires
 block-is-requires c κs = search needs
 
 same-length : tie.Need-same-length
-same-length c = omega (arith, c .before .before .before .before .before .before .before .before .before .before .before .before .before .before .before .before .before .before .before .before .before .before .before .soil .kept, c .before .before .before .before .before .before .before .before .before .before .before .before .before .oli-decode .kept)
+same-length c = omega (arith, c .before .before .before .before .before .before .before .before .before .before .before .before .before .before .before .before .before .before .before .before .before .before .before .before .soil .kept, c .before .before .before .before .before .before .before .before .before .before .before .before .before .read-by .kept)
 
 same-length-2 : tie.Need-same-length-2
-same-length-2 c = omega (arith, c .before .before .before .before .before .before .before .before .before .before .before .before .before .before .before .before .before .before .before .before .before .before .before .soil .kept, c .before .before .before .before .before .before .before .before .before .before .before .before .before .oli-decode .kept)
+same-length-2 c = omega (arith, c .before .before .before .before .before .before .before .before .before .before .before .before .before .before .before .before .before .before .before .before .before .before .before .before .soil .kept, c .before .before .before .before .before .before .before .before .before .before .before .before .before .read-by .kept)
 
 same-length-3 : tie.Need-same-length-3
-same-length-3 c = omega (arith, c .before .before .before .before .before .before .before .before .before .before .before .before .before .before .before .before .before .before .before .before .before .before .before .soil .kept, c .before .before .before .before .before .before .before .before .before .before .before .before .before .oli-decode .kept)
+same-length-3 c = omega (arith, c .before .before .before .before .before .before .before .before .before .before .before .before .before .before .before .before .before .before .before .before .before .before .before .before .soil .kept, c .before .before .before .before .before .before .before .before .before .before .before .before .before .read-by .kept)
 
 returns : tie.Need-returns
 returns c = search needs
@@ -38,7 +38,7 @@ decode-spec =
     tie.close
     (tie.spec
     soil-requires
-    oli-decode-requires
+    read-by-requires
     made-requires
     slice-aggregate-is
     is-requires
