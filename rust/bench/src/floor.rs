@@ -20,6 +20,7 @@ pub fn tasks(list: &List) -> Vec<Task> {
         copy("build", 9 * list.ops.len()), // opcodes and values
         copy("encode", block),
         copy("decode", block),
+        copy("strict", block),
         copy("raw table", 8 * raw_table),
         copy("padded table", 8 * padded_table),
     ]

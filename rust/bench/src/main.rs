@@ -6,6 +6,10 @@
 //! as many calls as make about 16,384 operations, under one reading of the clock; what the calls
 //! give back is freed after the clock has stopped. The table has the best and the median of the
 //! samples, in nanoseconds per operation of the list.
+//!
+//! `strict` is the strict decoder on a finished block. The original has none: there it stands for
+//! decode, the list without padding, its batches, and the comparison of the two. After each list
+//! comes what strictness costs the port: (strict - decode) / build, of the best samples.
 
 mod floor;
 mod lists;
@@ -14,7 +18,7 @@ mod original;
 mod port;
 mod timing;
 
-use std::{env, process::exit};
+use std::{collections::BTreeMap, env, process::exit};
 
 use lists::{List, Mix};
 use timing::{Task, compare};
@@ -53,10 +57,11 @@ const CONTENDERS: &[Contender] = &[
     },
 ];
 
-const FUNCTIONS: [&str; 9] = [
+const FUNCTIONS: [&str; 10] = [
     "build",
     "encode",
     "decode",
+    "strict",
     "decode, 1 MiB",
     "structure",
     "padding",
@@ -91,6 +96,7 @@ fn main() {
                 .iter()
                 .map(|c| (c.name, (c.tasks)(&list)))
                 .collect();
+            let mut bests = BTreeMap::new();
             for function in FUNCTIONS {
                 let mut taking_part: Vec<(&str, &mut Task)> = all
                     .iter_mut()
@@ -98,7 +104,22 @@ fn main() {
                         Some((*name, tasks.iter_mut().find(|t| t.function == function)?))
                     })
                     .collect();
-                compare(function, size, rounds, &mut taking_part);
+                let best = compare(function, size, rounds, &mut taking_part);
+                bests.extend(
+                    best.into_iter()
+                        .map(|(name, best)| ((name, function), best)),
+                );
+            }
+            let best = |name, function| bests.get(&(name, function)).copied();
+            for Contender { name, .. } in CONTENDERS.iter().filter(|c| c.name != "copy") {
+                if let (Some(build), Some(decode), Some(strict)) = (
+                    best(*name, "build"),
+                    best(*name, "decode"),
+                    best(*name, "strict"),
+                ) {
+                    let cost = (strict - decode) / build;
+                    println!("  (strict - decode) / build  {name:<10} {cost:5.2}");
+                }
             }
         }
     }

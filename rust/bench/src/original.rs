@@ -15,6 +15,7 @@ pub fn tasks(list: &List) -> Vec<Task> {
     let node = Rc::new(raw::node(raw::build(&ops)));
     let bytes = raw::encode(&node);
     assert_eq!(raw::decode(&bytes, 0).as_deref(), Ok(node.op_batches()));
+    assert_eq!(raw::list(&node), ops);
     let on_node = |function, call: fn(&original::BasicBlockNode) -> Result<(), String>| {
         let node = node.clone();
         Task::new(function, move || call(black_box(&node)))
@@ -25,7 +26,16 @@ pub fn tasks(list: &List) -> Vec<Task> {
             let node = node.clone();
             move || raw::encode(black_box(&node))
         }),
-        Task::new("decode", move || raw::decode(black_box(&bytes), 0)),
+        Task::new("decode", {
+            let bytes = bytes.clone();
+            move || raw::decode(black_box(&bytes), 0)
+        }),
+        Task::new("strict", move || {
+            let read = raw::decode(black_box(&bytes), 0).ok()?;
+            let node = raw::node(read);
+            let list: Vec<_> = raw::list(&node);
+            (raw::build(&list) == node.op_batches()).then_some(node)
+        }),
         on_node("structure", raw::structure),
         on_node("padding", raw::padding),
         on_node("commitment", raw::commitment),

@@ -46,6 +46,8 @@ impl Prepared {
         let (codes, values): (Vec<u8>, Vec<u64>) = list.ops.iter().copied().unzip();
         let block = Rc::new(oliastrofu::build(&table, &codes, &values).expect("the list is good"));
         let bytes = oliastrofu::encode(&table, &block).expect("the block is good");
+        let finished = oliastrofu::decode_strict(&table, &bytes, 0).expect("it was built");
+        assert_eq!(finished.listed(), codes.len());
         Self {
             table,
             codes,
@@ -76,6 +78,8 @@ pub fn tasks(list: &List) -> Vec<Task> {
     } = prepared;
     let mut built = Room::of(&block);
     let mut read = Room::of(&block);
+    let mut finished = Room::of(&block);
+    let strictly = bytes.clone();
     let mut found = Room::of(&block);
     let mut written = vec![0; bytes.len()];
     let on_block = |function, call: fn(&Block) -> Result<(), oliastrofu::Refusal>| {
@@ -104,6 +108,10 @@ pub fn tasks(list: &List) -> Vec<Task> {
         }),
         Task::new("decode", move || {
             lent::decode(&table, black_box(&bytes), 0, black_box(&mut read).lent())
+        }),
+        Task::new("strict", move || {
+            let out = black_box(&mut finished).lent();
+            lent::decode_strict(&table, black_box(&strictly), 0, out).map(|read| read.used())
         }),
         Task::new("decode, 1 MiB", move || {
             lent::decode(&table, black_box(&buffer), at, black_box(&mut found).lent())
@@ -136,12 +144,16 @@ pub fn owned(list: &List) -> Vec<Task> {
         bytes,
         ..
     } = prepared;
+    let strictly = bytes.clone();
     vec![
         Task::new("build", move || {
             oliastrofu::build(&table, black_box(&codes), black_box(&values))
         }),
         Task::new("decode", move || {
             oliastrofu::decode(&table, black_box(&bytes), 0)
+        }),
+        Task::new("strict", move || {
+            oliastrofu::decode_strict(&table, black_box(&strictly), 0)
         }),
         Task::new("decode, 1 MiB", move || {
             oliastrofu::decode(&table, black_box(&buffer), at)
@@ -193,6 +205,8 @@ pub fn bytes(list: &List) -> Vec<Task> {
     let lent = Rc::new(Bytes::of(&block));
     let mut built = Bytes::of(&block);
     let mut read = Bytes::of(&block);
+    let mut finished = Bytes::of(&block);
+    let strictly = bytes.clone();
     let mut written = vec![0; bytes.len()];
     let mut raw = of(&oliastrofu::raw_table(&block).expect("the block is good").0);
     let mut padded = of(&oliastrofu::padded_table(&block)
@@ -213,6 +227,10 @@ pub fn bytes(list: &List) -> Vec<Task> {
         ),
         Task::new("decode", move || {
             le::decode(&table, black_box(&bytes), 0, black_box(&mut read).lent())
+        }),
+        Task::new("strict", move || {
+            let out = black_box(&mut finished).lent();
+            le::decode_strict(&table, black_box(&strictly), 0, out).map(|read| read.used())
         }),
         with("structure", Box::new(|arena| le::structure(arena).is_ok())),
         with("padding", Box::new(|arena| le::padding(arena).is_ok())),

@@ -34,8 +34,13 @@ impl Task {
     }
 }
 
-/// Times the tasks in turn and prints a line for each.
-pub fn compare(function: &str, size: usize, rounds: usize, tasks: &mut [(&str, &mut Task)]) {
+/// Times the tasks in turn and prints a line for each; the best sample of each.
+pub fn compare<'a>(
+    function: &str,
+    size: usize,
+    rounds: usize,
+    tasks: &mut [(&'a str, &mut Task)],
+) -> Vec<(&'a str, f64)> {
     let calls = (16_384 / size).max(1);
     let mut samples = vec![Vec::with_capacity(rounds); tasks.len()];
     for round in 0..rounds + rounds / 10 {
@@ -48,6 +53,7 @@ pub fn compare(function: &str, size: usize, rounds: usize, tasks: &mut [(&str, &
         }
     }
     let (mut first, mut port) = (None, None);
+    let mut bests = Vec::new();
     for ((name, _), samples) in tasks.iter().zip(&mut samples) {
         samples.sort_by(f64::total_cmp);
         let (best, median) = (samples[0], samples[samples.len() / 2]);
@@ -57,5 +63,7 @@ pub fn compare(function: &str, size: usize, rounds: usize, tasks: &mut [(&str, &
         }
         let beside = port.map_or(String::new(), |port| format!("   {:5.2}", best / port));
         println!("  {function:<13} {name:<10} {best:7.2} {median:7.2}   {against:5.2}{beside}");
+        bests.push((*name, best));
     }
+    bests
 }

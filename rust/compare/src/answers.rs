@@ -148,6 +148,12 @@ fn lent(form: Form, call: Call<'_>) -> u64 {
             bytes,
             at,
             room,
+        }
+        | Call::Strict {
+            table,
+            bytes,
+            at,
+            room,
         } => {
             digest.run(table);
             digest.run(bytes);

@@ -54,6 +54,20 @@ pub fn answer(call: Call<'_>, more: usize, left: usize) -> Option<Answer> {
                 ..Answer::default()
             }
         })?,
+        Call::Strict {
+            table,
+            bytes,
+            at,
+            room,
+        } => filled(room, left, |codes, values, records| {
+            let reply = le::decode_strict(table, bytes, at, codes, values, records);
+            Answer {
+                number: reply.number,
+                place: reply.place,
+                rest: [reply.batches, reply.operations, reply.used],
+                ..Answer::default()
+            }
+        })?,
         Call::Encode {
             table,
             arena,
@@ -149,7 +163,9 @@ pub fn broken(call: Call<'_>) -> Option<Answer> {
             ..refused
         }),
         Call::PaddedIndex { .. } | Call::RawIndex { .. } => Some(Answer::default()),
-        Call::Decode { .. } | Call::Group { .. } | Call::NextGroup { .. } => None,
+        Call::Decode { .. } | Call::Strict { .. } | Call::Group { .. } | Call::NextGroup { .. } => {
+            None
+        }
     }
 }
 

@@ -176,6 +176,8 @@ pub fn known(function: Function, fault: Fault, number: u8, did: Did) -> bool {
             BatchesOverLimit => number == 3 && (did == Answers || matches!(did, Refuses(6..=11))),
             _ => false,
         },
+        // The original has no strict decoder.
+        Function::Strict => false,
         Function::Structure => match fault {
             StartsNotFrom0 | OperationsPastCount | GroupOver9PastCount => {
                 (number, did) == (15, Answers)

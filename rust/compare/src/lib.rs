@@ -11,6 +11,7 @@ pub mod run;
 pub mod sections;
 pub mod seed;
 pub mod theirs;
+pub mod twists;
 
 pub use run::{Run, Stopped};
 pub use seed::Seed;

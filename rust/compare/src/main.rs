@@ -16,7 +16,13 @@ use std::{
     time::{Duration, Instant},
 };
 
-use compare::{Run, Seed, Stopped, answers::Answers, run::Tally, sections, theirs::Did};
+use compare::{
+    Run, Seed, Stopped,
+    answers::Answers,
+    run::{Strict, Tally},
+    sections,
+    theirs::Did,
+};
 use model::Function;
 
 const SEED: u64 = 1;
@@ -119,6 +125,11 @@ fn all(run: &mut Run, seed: u64, count: u64, start: Instant) -> Result<(), Stopp
     sections::flags_above(run, flags, &mut |run| {
         line(run, "flags at or above the count")
     })?;
+    if run.answers.is_none() {
+        sections::unfinished(run, 4, &mut |run| {
+            line(run, "blocks that no batching makes")
+        })?;
+    }
     line(run, "operations at fault");
     sections::operations(run, 3)?;
     line(run, "small blocks");
@@ -129,6 +140,11 @@ fn all(run: &mut Run, seed: u64, count: u64, start: Instant) -> Result<(), Stopp
     for turn in 0..count {
         line(run, &format!("turn {turn} of {count}"));
         sections::turn(run, &mut seed)?;
+    }
+    // Of their own, so that what is asked above stays as it was.
+    for turn in 0..if run.answers.is_none() { count / 16 } else { 0 } {
+        line(run, &format!("twist {turn} of {}", count / 16));
+        sections::unfinished_turn(run, &mut seed)?;
     }
     Ok(())
 }
@@ -197,6 +213,12 @@ fn report(tally: &Tally, name: &str) {
                 tally.kept_taken[at]
             );
         }
+    }
+    println!(
+        "\nSTRICT READING (by the request's words: the block's own list is batched and written again)"
+    );
+    for what in Strict::ALL {
+        println!("{:>10}  {}", tally.strict[what as usize], what.words());
     }
     println!("\nNOT COMPARED WITH THE ORIGINAL");
     for (why, times) in &tally.not_asked {

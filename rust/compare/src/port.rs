@@ -85,6 +85,26 @@ pub fn answer(call: Call<'_>) -> Answer {
             answer.rest = [reply.batches, reply.operations, reply.used];
             answer
         }
+        Call::Strict {
+            table,
+            bytes,
+            at,
+            room,
+        } => {
+            let mut answer = dirty(room);
+            let reply = boundary::decode_strict(
+                table,
+                bytes,
+                at,
+                &mut answer.codes,
+                &mut answer.values,
+                &mut answer.records,
+            );
+            answer.number = reply.number;
+            answer.place = reply.place;
+            answer.rest = [reply.batches, reply.operations, reply.used];
+            answer
+        }
         Call::Structure { arena } => {
             let reply = boundary::structure(arena.codes, arena.values, arena.records);
             check(reply)
@@ -200,6 +220,21 @@ pub fn owned_agrees(call: Call<'_>, answer: &Answer) -> bool {
                     && block.codes == answer.codes[..answer.rest[1]]
                     && block.values == answer.values[..answer.rest[1]]
                     && block.records == answer.records[..answer.rest[0] * RECORD]
+            }
+            Err(error) => refused(error) == refusal(answer),
+        },
+        Call::Strict {
+            table, bytes, at, ..
+        } => match oliastrofu::decode_strict(table, bytes, at) {
+            Ok(read) => {
+                let (codes, values) = read.list();
+                answer.number == 0
+                    && read.used() == answer.rest[2]
+                    && read.codes == answer.codes[..answer.rest[1]]
+                    && read.values == answer.values[..answer.rest[1]]
+                    && read.records == answer.records[..answer.rest[0] * RECORD]
+                    && read.listed() == codes.len()
+                    && oliastrofu::build(table, &codes, &values).as_ref() == Ok(&*read)
             }
             Err(error) => refused(error) == refusal(answer),
         },

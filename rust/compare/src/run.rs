@@ -4,12 +4,13 @@ use std::{collections::BTreeMap, fmt::Write as _};
 
 use model::{
     Answer, Arena, Batch, Call, FIELD, Function, MOST_BATCHES, MOST_BYTES, MOST_LISTED,
-    MOST_PADDED, RECORD, batches_of,
+    MOST_PADDED, RECORD, Room, batches_of,
 };
 use original::Refused;
 
 use crate::{
     answers::{Answers, Form},
+    inputs::{Block, List},
     known::{self, Fault},
     theirs::{self, Did, did},
 };
@@ -22,23 +23,25 @@ pub struct Stopped(pub String);
 #[derive(Default)]
 pub struct Tally {
     /// The port against the model, by function.
-    pub model: [u64; 12],
+    pub model: [u64; 13],
     /// The port's functions over bytes against the model, by function.
-    pub bytes: [u64; 12],
+    pub bytes: [u64; 13],
     /// The numbers of the port's `oli_head`, held against the model for every decode.
-    pub heads: [u64; 18],
+    pub heads: [u64; 19],
     /// The port (or the model in its place) against the original, by function.
-    pub original: [u64; 12],
+    pub original: [u64; 13],
     /// The numbers of all answers that were compared, by function; 0 is no refusal.
-    pub numbers: [[u64; 18]; 12],
+    pub numbers: [[u64; 19]; 13],
     /// The differences that are known.
     pub known: BTreeMap<(Function, Fault, u8, Did), u64>,
     /// Answers that are the same but for a place that the original names otherwise or not at all.
     pub places: u64,
     /// Blocks with a flag at or above a batch's count, compared with the original, by function.
-    pub kept: [u64; 12],
+    pub kept: [u64; 13],
     /// Those of them that both sides take, with the same answer.
-    pub kept_taken: [u64; 12],
+    pub kept_taken: [u64; 13],
+    /// What strict reading is to say, by the request's own words.
+    pub strict: [u64; 7],
     /// Calls that the original could not be given.
     pub not_asked: BTreeMap<&'static str, u64>,
 }
@@ -50,6 +53,49 @@ impl Tally {
             .flat_map(|counts| counts.iter())
             .chain(&self.heads)
             .sum()
+    }
+}
+
+/// What becomes of bytes that are read strictly (M-107).
+#[derive(Clone, Copy, Debug, PartialEq, Eq)]
+pub enum Strict {
+    /// Decode refuses them.
+    Refused,
+    /// Batching the block's own list makes them.
+    Finished,
+    /// Its own list is empty; the place is 0.
+    NoList,
+    /// Its own list is over 16,384; the place is 0.
+    LongList,
+    /// The first batch differs; the place is 0.
+    First,
+    /// A later batch differs.
+    Later,
+    /// The first batch that differs is one more than batching makes.
+    Extra,
+}
+
+impl Strict {
+    pub const ALL: [Self; 7] = [
+        Self::Refused,
+        Self::Finished,
+        Self::NoList,
+        Self::LongList,
+        Self::First,
+        Self::Later,
+        Self::Extra,
+    ];
+
+    pub fn words(self) -> &'static str {
+        match self {
+            Self::Refused => "refused by decode, and in the same way",
+            Self::Finished => "0, taken: batching its own list writes these bytes",
+            Self::NoList => "18, place 0: its own list is empty",
+            Self::LongList => "18, place 0: its own list is over 16,384",
+            Self::First => "18, place 0: the first batch differs",
+            Self::Later => "18, another place: a later batch differs",
+            Self::Extra => "18, another place: a batch more than batching makes",
+        }
     }
 }
 
@@ -104,6 +150,28 @@ impl Run {
             self.beside(call, &ours)?;
         }
         Ok(ours)
+    }
+
+    /// Reads bytes by both decoders: the answer of each. The call is one of decode.
+    pub fn read(&mut self, call: Call<'_>) -> Checked<(Answer, Answer)> {
+        let read = self.check(call)?;
+        let strict = self.check(strictly(call))?;
+        Ok((read, strict))
+    }
+
+    /// A block that was built of this list must be taken, with the list as its own.
+    pub fn built(&self, call: Call<'_>, strict: &Answer, list: &List) -> Checked<()> {
+        let finished = || own_list(&Block::of(strict));
+        if self.answers.is_some()
+            || strict.number == 0 && {
+                let own = finished();
+                own.codes == list.codes && own.values == list.values
+            }
+        {
+            return Ok(());
+        }
+        let why = "a block that was built is not read strictly";
+        Err(stopped(why, strictly(call), strict, &"its own list"))
     }
 
     /// The function over bytes is to answer the same, however many bytes are left over in an output;
@@ -230,6 +298,12 @@ impl Run {
     fn beside(&mut self, call: Call<'_>, ours: &Answer) -> Checked<()> {
         let other_table = |table: &[u8]| table != self.table;
         match call {
+            Call::Strict {
+                table,
+                bytes,
+                at,
+                room,
+            } => self.beside_rule(call, ours, table, bytes, at, room),
             Call::Build { table, .. } | Call::Encode { table, .. } | Call::Decode { table, .. }
                 if other_table(table) =>
             {
@@ -341,6 +415,87 @@ impl Run {
             3 => decode_limit(table, bytes, at),
             _ => None,
         })
+    }
+
+    /// Strict reading beside the request's own words: what decode refuses is refused in the same way;
+    /// a block is taken, as decode takes it, exactly if batching its own list by document 01 writes
+    /// those very bytes; otherwise 18 names the first batch that differs. How a list is batched and
+    /// written is asked of the model's `build`, and of the original; not of its strict decoder.
+    fn beside_rule(
+        &mut self,
+        call: Call<'_>,
+        ours: &Answer,
+        table: &[u8],
+        bytes: &[u8],
+        at: usize,
+        room: Room,
+    ) -> Checked<()> {
+        if !self.port {
+            self.count(Function::Strict, ours.number);
+        }
+        let decoded = (self.ours)(Call::Decode {
+            table,
+            bytes,
+            at,
+            room,
+        });
+        if decoded.number != 0 {
+            self.tally.strict[Strict::Refused as usize] += 1;
+            return self.by_rule(call, ours, &decoded);
+        }
+        let read = Block::of(&decoded);
+        let bytes = &bytes[at..at + decoded.rest[2]];
+        let own = own_list(&read);
+        let (what, place) = match made_of(table, &read, &own, bytes) {
+            Ok(said) => said,
+            Err(why) => return Err(stopped(why, call, ours, &"the model's build")),
+        };
+        if table == self.table && !matches!(what, Strict::NoList | Strict::LongList) {
+            // The original's decode, its list without padding, its batches and its bytes.
+            self.tally.original[Function::Strict as usize] += 1;
+            let theirs = theirs_made(bytes);
+            let agree = theirs.as_ref().is_ok_and(|theirs| {
+                theirs
+                    .own
+                    .iter()
+                    .map(|op| op.0)
+                    .eq(own.codes.iter().copied())
+                    && theirs
+                        .own
+                        .iter()
+                        .map(|op| op.1)
+                        .eq(own.values.iter().copied())
+                    && theirs.differs == (what != Strict::Finished).then_some(place)
+                    && theirs.same_bytes == (what == Strict::Finished)
+            });
+            if !agree {
+                let why = "the original's batches of the block's own list say otherwise";
+                return Err(stopped(why, call, ours, &theirs));
+            }
+        } else {
+            self.skip("strict reading: another table, or a list that is empty or over 16,384")?;
+        }
+        self.tally.strict[what as usize] += 1;
+        if what == Strict::Finished {
+            return self.by_rule(call, ours, &decoded);
+        }
+        let refused = Answer {
+            number: 18,
+            place,
+            codes: vec![0; room.codes],
+            values: vec![0; room.values],
+            records: vec![0; room.records],
+            ..Answer::default()
+        };
+        self.by_rule(call, ours, &refused)
+    }
+
+    fn by_rule(&self, call: Call<'_>, ours: &Answer, want: &Answer) -> Checked<()> {
+        if ours == want {
+            return Ok(());
+        }
+        let why = "strict reading is not by the rule";
+        Err(stopped(why, call, ours, &show(want)))
     }
 
     fn beside_structure(&mut self, call: Call<'_>, ours: &Answer, arena: Arena<'_>) -> Checked<()> {
@@ -571,6 +726,106 @@ impl Run {
     }
 }
 
+/// The strict call of a call of decode.
+pub fn strictly(call: Call<'_>) -> Call<'_> {
+    match call {
+        Call::Decode {
+            table,
+            bytes,
+            at,
+            room,
+        } => Call::Strict {
+            table,
+            bytes,
+            at,
+            room,
+        },
+        other => other,
+    }
+}
+
+/// The operations of a block that are no padding, by the places of its paddings.
+pub fn own_list(block: &Block) -> List {
+    let mut paddings = Vec::new();
+    let mut from = 0;
+    for batch in batches_of(&block.records) {
+        for group in 0..usize::from(batch.count) {
+            if batch.flags[group] == 1 {
+                paddings.push(from + usize::from(batch.starts[group + 1]) - 1);
+            }
+        }
+        from += batch.total();
+    }
+    let mut paddings = paddings.into_iter().peekable();
+    let mut own = List::default();
+    for (at, (&code, &value)) in block.codes.iter().zip(&block.values).enumerate() {
+        if paddings.next_if_eq(&at).is_none() {
+            own.push(code, value);
+        }
+    }
+    own
+}
+
+/// The first record that one has and the other has not.
+fn first_differing(ours: &[u8], theirs: &[u8]) -> Option<usize> {
+    let mut ours = ours.chunks_exact(RECORD);
+    let mut theirs = theirs.chunks_exact(RECORD);
+    (0..).find_map(|i| match (ours.next(), theirs.next()) {
+        (None, None) => Some(None),
+        (ours, theirs) => (ours != theirs).then_some(Some(i)),
+    })?
+}
+
+/// What is to be said of a block that decode takes, and the place: its own list is batched and
+/// written again.
+fn made_of(
+    table: &[u8],
+    read: &Block,
+    own: &List,
+    bytes: &[u8],
+) -> Result<(Strict, usize), &'static str> {
+    if own.codes.is_empty() {
+        return Ok((Strict::NoList, 0));
+    }
+    if own.codes.len() > MOST_LISTED {
+        return Ok((Strict::LongList, 0));
+    }
+    let built = model::build(table, &own.codes, &own.values, own.room());
+    if built.number != 0 {
+        return Err("a block's own list can't be batched");
+    }
+    let made = Block::of(&built);
+    let same = crate::inputs::bytes_of_block(table, &made) == bytes;
+    match first_differing(&read.records, &made.records) {
+        None if same => Ok((Strict::Finished, 0)),
+        Some(_) if same => Err("batches that differ have the same bytes"),
+        None => Err("bytes that differ have the same batches"),
+        Some(0) => Ok((Strict::First, 0)),
+        Some(place) if place < built.rest[0] => Ok((Strict::Later, place)),
+        Some(place) => Ok((Strict::Extra, place)),
+    }
+}
+
+/// What the original makes of a block's own list.
+#[derive(Debug)]
+struct Made {
+    own: Vec<(u8, u64)>,
+    differs: Option<usize>,
+    same_bytes: bool,
+}
+
+fn theirs_made(bytes: &[u8]) -> Result<Made, Refused> {
+    let (read, _) = original::decode(bytes, 0)?;
+    let own = original::raw_operations(&read)?;
+    let made = original::batch(&own)?;
+    let (ours, theirs) = (theirs::flat(&read), theirs::flat(&made));
+    Ok(Made {
+        own,
+        differs: first_differing(&ours.records, &theirs.records),
+        same_bytes: original::encode(&made)? == bytes,
+    })
+}
+
 fn beside_model(call: Call<'_>, ours: &Answer) -> Checked<()> {
     let model = model::answer(call);
     if *ours == model {
@@ -596,7 +851,7 @@ fn model_head(table: &[u8], bytes: &[u8], at: usize) -> Answer {
 
 /// Where a number is counted.
 fn counted(number: u8) -> usize {
-    usize::from(number.min(17))
+    usize::from(number.min(18))
 }
 
 fn same_refusal(ours: &Answer, theirs: &Refused) -> bool {
@@ -796,6 +1051,12 @@ pub fn describe(call: Call<'_>) -> String {
             buffer.len()
         ),
         Call::Decode {
+            table,
+            bytes,
+            at,
+            room,
+        }
+        | Call::Strict {
             table,
             bytes,
             at,

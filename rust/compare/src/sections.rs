@@ -1,10 +1,12 @@
 //! What is compared, part by part.
 
-use model::{Answer, Arena, Call, RECORD, Room};
+use model::{Answer, Arena, Call, Function, RECORD, Room};
 
 use crate::{
     Run, Seed, Stopped,
     inputs::{self, Block, Kinds, List, WIDE},
+    run::strictly,
+    twists::{self, Part, Twist},
 };
 
 type Done = Result<(), Stopped>;
@@ -31,11 +33,16 @@ pub fn whole(run: &mut Run, table: &[u8], list: &List, depth: Depth) -> Done {
     if built.number != 0 {
         return Ok(());
     }
-    block(run, table, &Block::of(&built), depth)
+    block_of(run, table, &Block::of(&built), depth, Some(list))
 }
 
 /// Everything about one block.
 pub fn block(run: &mut Run, table: &[u8], block: &Block, depth: Depth) -> Done {
+    block_of(run, table, block, depth, None)
+}
+
+/// Everything about one block, and the list that it was built of: then it must be read strictly.
+fn block_of(run: &mut Run, table: &[u8], block: &Block, depth: Depth, list: Option<&List>) -> Done {
     let arena = block.arena();
     let buffer = vec![0x5a; 7 + 9 * block.codes.len() + block.records.len() / 16];
     let call = Call::Encode {
@@ -56,9 +63,13 @@ pub fn block(run: &mut Run, table: &[u8], block: &Block, depth: Depth) -> Done {
             at: 0,
             room: room_of(block),
         };
-        let decoded = run.check(call)?;
+        let (decoded, strict) = run.read(call)?;
+        if let Some(list) = list {
+            run.built(call, &strict, list)?;
+        }
         if depth == Depth::Some {
             run.owned(call, &decoded)?;
+            run.owned(strictly(call), &strict)?;
         }
     }
     run.check(Call::Structure { arena })?;
@@ -207,7 +218,7 @@ pub fn flags_above(run: &mut Run, most: usize, tick: &mut dyn FnMut(&Run)) -> Do
 /// everything about it.
 fn kept_flags(run: &mut Run, table: &[u8], flagged: &Block, depth: Depth) -> Done {
     let bytes = inputs::bytes_of_block(table, flagged);
-    run.check(Call::Decode {
+    run.read(Call::Decode {
         table,
         bytes: &bytes,
         at: 0,
@@ -248,6 +259,265 @@ fn operations_of(run: &mut Run, table: &[u8], list: &List) -> Done {
     Ok(())
 }
 
+/// The block of a good list, by the model.
+fn built(table: &[u8], list: &List) -> Block {
+    Block::of(&model::build(table, &list.codes, &list.values, list.room()))
+}
+
+/// Reads bytes by both decoders. If a place is given, decode must take them, and the strict one must
+/// refuse them with 18 and that place.
+fn strict(run: &mut Run, table: &[u8], bytes: &[u8], place: Option<usize>) -> Done {
+    let call = Call::Decode {
+        table,
+        bytes,
+        at: 0,
+        room: room_for(bytes, 0),
+    };
+    let (read, strict) = run.read(call)?;
+    run.owned(call, &read)?;
+    run.owned(strictly(call), &strict)?;
+    let Some(place) = place else {
+        return Ok(());
+    };
+    if read.number == 0 && (strict.number, strict.place) == (18, place) {
+        return Ok(());
+    }
+    Err(Stopped(format!(
+        "18 with place {place} is not said: {} {}, strictly {} {}\nbytes {bytes:x?}",
+        read.number, read.place, strict.number, strict.place
+    )))
+}
+
+fn twist(run: &mut Run, table: &[u8], good: &[Part], twist: Twist) -> Done {
+    match twists::twisted(table, good, twist) {
+        None => Ok(()),
+        Some((parts, place)) => strict(run, table, &twists::bytes(table, &parts), place),
+    }
+}
+
+/// A list's block with every twist; and the list in two blocks one after another, wherever it is cut.
+fn every_twist(run: &mut Run, table: &[u8], list: &List) -> Done {
+    let good = twists::parts(&built(table, list));
+    for each in twists::all(&good) {
+        twist(run, table, &good, each)?;
+    }
+    for at in 1..list.codes.len() {
+        cut(run, table, list, at)?;
+    }
+    Ok(())
+}
+
+/// The batches of the list up to an operation, then those of what is left.
+fn cut(run: &mut Run, table: &[u8], list: &List, at: usize) -> Done {
+    let half = |codes: &[u8], values: &[u64]| {
+        built(
+            table,
+            &List {
+                codes: codes.to_vec(),
+                values: values.to_vec(),
+            },
+        )
+    };
+    let two = twists::joined(&[
+        half(&list.codes[..at], &list.values[..at]),
+        half(&list.codes[at..], &list.values[at..]),
+    ]);
+    strict(run, table, &inputs::bytes_of_block(table, &two), None)
+}
+
+/// Blocks that can be read and that no batching makes: all lists over the four kinds up to a length,
+/// and some at the ends of groups and batches, with every twist.
+pub fn unfinished(run: &mut Run, most: usize, tick: &mut dyn FnMut(&Run)) -> Done {
+    let table = run.table;
+    let kinds = Kinds::of(&table);
+    let (plain, immediate, carried) = (kinds.plain[0], kinds.immediate[0], kinds.carried[0]);
+    let letters = [0, plain, immediate, carried];
+    sequences(4, most, |word| {
+        let mut list = List::default();
+        for &letter in word {
+            list.push(letters[letter], if letter > 1 { 5 } else { 0 });
+        }
+        tick(run);
+        match word {
+            [] => Ok(()),
+            _ => every_twist(run, &table, &list),
+        }
+    })?;
+    for runs in [
+        &[(plain, 9)][..],
+        &[(plain, 10)],
+        &[(plain, 8), (0, 1), (plain, 1)],
+        &[(plain, 8), (immediate, 1)],
+        &[(plain, 9), (immediate, 1)],
+        &[(plain, 19)],
+        &[(plain, 28), (immediate, 1)],
+        &[(immediate, 3), (plain, 30)],
+        &[(immediate, 7)],
+        &[(immediate, 8)],
+        &[(immediate, 7), (plain, 3), (0, 1)],
+        &[(0, 71), (immediate, 2)],
+        &[(plain, 63), (immediate, 1)],
+        &[(plain, 72)],
+        &[(plain, 73)],
+        &[(plain, 40), (immediate, 1), (plain, 100), (carried, 9)],
+        &[(immediate, 30), (0, 40), (immediate, 2)],
+    ] {
+        let mut list = List::default();
+        for &(code, times) in runs {
+            for _ in 0..times {
+                let valued = [immediate, carried].contains(&code);
+                list.push(code, if valued { 7 } else { 0 });
+            }
+        }
+        tick(run);
+        every_twist(run, &table, &list)?;
+    }
+    nothing_listed(run, &table)?;
+    longest_lists(run, &table, tick)
+}
+
+/// Blocks without operations of their own: nothing, empty batches, padding alone.
+fn nothing_listed(run: &mut Run, table: &[u8]) -> Done {
+    for batches in 0..4 {
+        for flags in [0, 1, 0x80, 0xff] {
+            let nothing = vec![([0; 8], flags); batches];
+            let bytes = inputs::bytes_of(table, &List::default(), &nothing);
+            strict(run, table, &bytes, Some(0))?;
+        }
+    }
+    for groups in 1..=8 {
+        for batches in 1..4 {
+            let mut lengths = [0; 8];
+            lengths[..groups].fill(1);
+            let noops = groups * batches;
+            let list = List {
+                codes: vec![0; noops],
+                values: vec![0; noops],
+            };
+            let all = ((1u32 << groups) - 1) as u8;
+            let mut parts = vec![(lengths, all); batches];
+            strict(run, table, &inputs::bytes_of(table, &list, &parts), Some(0))?;
+            // One of them is the list's own.
+            parts[batches - 1].1 &= !1;
+            strict(run, table, &inputs::bytes_of(table, &list, &parts), None)?;
+        }
+    }
+    Ok(())
+}
+
+/// Lists of their own around 16,384, batched by hand: a block of 72 operations without an immediate,
+/// or of seven with one each, is one whole batch. As they are, and with an empty batch.
+fn longest_lists(run: &mut Run, table: &[u8], tick: &mut dyn FnMut(&Run)) -> Done {
+    let kinds = Kinds::of(table);
+    for (code, in_batch) in [(kinds.plain[0], 72), (0, 72), (kinds.immediate[0], 7)] {
+        let part = |size: usize| {
+            built(
+                table,
+                &List {
+                    codes: vec![code; size],
+                    values: vec![0; size],
+                },
+            )
+        };
+        for size in [16_383, 16_384, 16_385, 16_386, 16_420] {
+            tick(run);
+            let mut blocks = vec![part(in_batch); size / in_batch];
+            if size % in_batch > 0 {
+                blocks.push(part(size % in_batch));
+            }
+            let good = twists::parts(&twists::joined(&blocks));
+            let long = size > 16_384;
+            let bytes = twists::bytes(table, &good);
+            strict(run, table, &bytes, long.then_some(0))?;
+            for batch in [0, 1, 100, good.len()] {
+                let each = Twist::EmptyBatch(batch, 0);
+                let Some((parts, place)) = twists::twisted(table, &good, each) else {
+                    continue;
+                };
+                let place = if long { Some(0) } else { place };
+                strict(run, table, &twists::bytes(table, &parts), place)?;
+            }
+        }
+    }
+    Ok(())
+}
+
+/// Random twists of a random list's block, one and two at once; the list cut; and damage besides.
+pub fn unfinished_turn(run: &mut Run, seed: &mut Seed) -> Done {
+    let table = if run.port && seed.one_in(4) {
+        inputs::table(seed)
+    } else {
+        run.table.to_vec()
+    };
+    let kinds = Kinds::of(&table);
+    let size = match seed.under(20) {
+        0 => inputs::size(seed),
+        _ => inputs::size(seed).min(400),
+    };
+    let list = inputs::list(seed, &kinds, size);
+    let good = twists::parts(&built(&table, &list));
+    for _ in 0..24 {
+        let each = twists::any(seed, &good);
+        twist(run, &table, &good, each)?;
+        let Some((parts, _)) = twists::twisted(&table, &good, each) else {
+            continue;
+        };
+        // Whatever is possible after that; what decode says of it is not known.
+        let other = twists::any(seed, &good);
+        if let Some((both, _)) = twists::twisted(&table, &parts, other) {
+            strict(run, &table, &twists::bytes(&table, &both), None)?;
+        }
+        let mut bytes = twists::bytes(&table, &parts);
+        if run.port && seed.one_in(4) {
+            short_of_room(run, seed, &table, &bytes)?;
+        }
+        inputs::damage(seed, &mut bytes);
+        strict(run, &table, &bytes, None)?;
+    }
+    if size > 1 {
+        for _ in 0..4 {
+            let at = 1 + seed.under(size - 1);
+            cut(run, &table, &list, at)?;
+        }
+    }
+    Ok(())
+}
+
+/// Bytes with one output shorter than the block needs, with all as long as it needs, and longer; at a
+/// place of a buffer.
+fn short_of_room(run: &mut Run, seed: &mut Seed, table: &[u8], block: &[u8]) -> Done {
+    let Ok((batches, operations)) = model::head(table, block, 0) else {
+        return Ok(());
+    };
+    let before = seed.under(3);
+    let bytes = [&vec![0xee; before], block, &vec![0xee; seed.under(3)]].concat();
+    let records = batches * RECORD;
+    let less = |need: usize, by: usize| need.saturating_sub(by);
+    let by = 1 + seed.under(3);
+    for (codes, values, records) in [
+        (less(operations, by), operations, records),
+        (operations, less(operations, by), records),
+        (operations, operations, less(records, by)),
+        (operations, operations, less(records, RECORD)),
+        (operations, operations, records),
+        (operations + by, operations, records),
+        (operations, operations + by, records + RECORD - by),
+        (operations + by, operations + 1, records + RECORD),
+    ] {
+        run.read(Call::Decode {
+            table,
+            bytes: &bytes,
+            at: before,
+            room: Room {
+                codes,
+                values,
+                records,
+            },
+        })?;
+    }
+    Ok(())
+}
+
 /// The cases of the model's own tests: every refusal and every pair.
 pub fn cases(run: &mut Run) -> Done {
     let mut done = Ok(());
@@ -261,6 +531,9 @@ pub fn cases(run: &mut Run) -> Done {
                     Err(Stopped(format!("{}: {answer:?}", case.name)))
                 }
             });
+            if done.is_ok() && case.call.function() == Function::Decode {
+                done = run.check(strictly(case.call)).map(drop);
+            }
         }
     });
     done
@@ -322,7 +595,7 @@ pub fn limits(run: &mut Run) -> Done {
             bytes.extend(&inputs::bytes_of(&table, &short, &parts)[1..]);
             bytes
         };
-        run.check(Call::Decode {
+        run.read(Call::Decode {
             table: &table,
             bytes: &bytes,
             at: 0,
@@ -342,7 +615,7 @@ pub fn limits(run: &mut Run) -> Done {
         &[4, 0, 8, 2, 2],
         &[0xfc, 255, 255, 6],
     ] {
-        run.check(Call::Decode {
+        run.read(Call::Decode {
             table: &table,
             bytes,
             at: 0,
@@ -354,7 +627,7 @@ pub fn limits(run: &mut Run) -> Done {
         let mut bytes = vec![1];
         bytes.resize(length, 0);
         for at in [0, 1, length - 5, length - 1, length, length + 1] {
-            run.check(Call::Decode {
+            run.read(Call::Decode {
                 table: &table,
                 bytes: &bytes,
                 at,
@@ -493,8 +766,9 @@ fn decode(run: &mut Run, table: &[u8], bytes: &[u8], at: usize) -> Result<Answer
         at,
         room: room_for(bytes, at),
     };
-    let answer = run.check(call)?;
+    let (answer, strict) = run.read(call)?;
     run.owned(call, &answer)?;
+    run.owned(strictly(call), &strict)?;
     Ok(answer)
 }
 
@@ -729,7 +1003,7 @@ fn lent(run: &mut Run, seed: &mut Seed, table: &[u8], kinds: &Kinds) -> Done {
             room,
         })?;
         for bytes in [bytes, &damaged] {
-            run.check(Call::Decode {
+            run.read(Call::Decode {
                 table,
                 bytes,
                 at: 0,

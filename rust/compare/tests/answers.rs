@@ -5,6 +5,7 @@ use std::{fs, path::Path};
 use compare::{
     Run, Seed, Stopped,
     answers::{Answers, Form},
+    run::strictly,
     sections,
 };
 use model::{Answer, Call, Room};
@@ -131,5 +132,8 @@ fn every_part_of_an_answer_has_its_word() {
     assert!(line(Form::Head, call, &good).starts_with("head "));
     let form = Form::Bytes { more: 0, left: 3 };
     assert!(line(form, call, &good).starts_with("decode_le "));
+    let strict = strictly(call);
+    assert!(line(Form::Numbers, strict, &good).starts_with("decode_strict "));
+    assert!(line(form, strict, &good).starts_with("decode_strict_le "));
     fs::remove_file(&path).expect("the file is there");
 }

@@ -1,6 +1,11 @@
 //! The comparison finds what is wrong: each of these answers like the model but for one thing.
 
-use compare::{Run, Seed, Stopped, run::Tally, sections};
+use compare::{
+    Run, Seed, Stopped,
+    inputs::{Block, List},
+    run::{Strict, Tally, own_list},
+    sections,
+};
 use model::{Answer, Arena, Call, Function, RECORD};
 
 type Who = fn(Call<'_>) -> Answer;
@@ -633,4 +638,288 @@ fn each_that_mixes_opcode_and_value_up_is_stopped() {
     for (what, who) in mixed_up!(Function::Commitment) {
         assert!(operations_tried(who, true).is_err(), "commitment: {what}");
     }
+}
+
+/// Blocks that no batching makes, and some turns of everything: beside the rule and the original or,
+/// in the port's place, beside the model too.
+fn strict_tried(who: Who, in_ports_place: bool) -> Result<Tally, Stopped> {
+    let mut run = Run::new(who, in_ports_place);
+    sections::unfinished(&mut run, 3, &mut |_| ())?;
+    let mut seed = Seed::new(11);
+    for _ in 0..100 {
+        sections::unfinished_turn(&mut run, &mut seed)?;
+        sections::turn(&mut run, &mut seed)?;
+    }
+    Ok(run.tally)
+}
+
+#[test]
+fn strict_reading_meets_all_that_can_come() {
+    for in_ports_place in [false, true] {
+        let tally = strict_tried(model::answer, in_ports_place)
+            .unwrap_or_else(|Stopped(words)| panic!("{words}"));
+        for what in Strict::ALL {
+            let times = tally.strict[what as usize];
+            let least = if what == Strict::LongList { 40 } else { 150 };
+            assert!(times >= least, "{what:?}: {times}");
+        }
+        let numbers = tally.numbers[Function::Strict as usize];
+        assert_eq!(numbers.iter().sum::<u64>(), tally.strict.iter().sum());
+        assert_eq!(numbers[0], tally.strict[Strict::Finished as usize]);
+        let witnessed = tally.original[Function::Strict as usize];
+        assert!(witnessed > 4_000, "{witnessed}");
+    }
+}
+
+/// The same call of the ordinary decoder.
+fn ordinary(call: Call<'_>) -> Call<'_> {
+    match call {
+        Call::Strict {
+            table,
+            bytes,
+            at,
+            room,
+        } => Call::Decode {
+            table,
+            bytes,
+            at,
+            room,
+        },
+        other => other,
+    }
+}
+
+/// What decode takes of a call of the strict decoder: its answer, the block, and the block's own list.
+fn taken(call: Call<'_>) -> Option<(Answer, Block, List)> {
+    let Call::Strict { .. } = call else {
+        return None;
+    };
+    let read = model::answer(ordinary(call));
+    (read.number == 0).then(|| {
+        let block = Block::of(&read);
+        let own = own_list(&block);
+        (read, block, own)
+    })
+}
+
+/// The records of batching a list of any length, by the original.
+fn batched(list: &List) -> Vec<u8> {
+    let list: Vec<(u8, u64)> = (list.codes.iter().copied())
+        .zip(list.values.iter().copied())
+        .collect();
+    original::batch(&list).map_or(Vec::new(), |batches| {
+        compare::theirs::flat(&batches).records
+    })
+}
+
+/// Where the strict decoder says 18, this says something else.
+macro_rules! on_18 {
+    ($call:ident, $answer:ident, $read:ident, $block:ident, $own:ident, $change:block) => {
+        liar!($call, $answer, {
+            if let Some(($read, $block, $own)) = taken($call)
+                && $answer.number == 18
+            {
+                let _ = (&$read, &$block, &$own);
+                $change
+            }
+        })
+    };
+}
+
+#[test]
+fn each_that_reads_strictly_otherwise_is_stopped() {
+    let liars: [(&str, Who); 18] = [
+        (
+            "every block is taken",
+            on_18!(call, answer, read, block, own, { answer = read }),
+        ),
+        (
+            "an extra batch at the end is taken",
+            on_18!(call, answer, read, block, own, {
+                if answer.place > 0 && block.records.starts_with(&batched(&own)) {
+                    answer = read;
+                }
+            }),
+        ),
+        (
+            "the place is one more",
+            on_18!(call, answer, read, block, own, { answer.place += 1 }),
+        ),
+        (
+            "the place is one less, but for the first",
+            on_18!(call, answer, read, block, own, {
+                answer.place = answer.place.saturating_sub(1);
+            }),
+        ),
+        (
+            "the last batch is named",
+            on_18!(call, answer, read, block, own, {
+                if answer.place > 0 {
+                    answer.place = read.rest[0] - 1;
+                }
+            }),
+        ),
+        (
+            "16,384 operations are refused",
+            liar!(call, answer, {
+                if let Some((read, _, own)) = taken(call)
+                    && own.codes.len() == 16_384
+                {
+                    answer = Answer {
+                        number: 18,
+                        codes: vec![0; read.codes.len()],
+                        values: vec![0; read.values.len()],
+                        records: vec![0; read.records.len()],
+                        ..Answer::default()
+                    };
+                }
+            }),
+        ),
+        (
+            "16,385 operations are taken",
+            on_18!(call, answer, read, block, own, {
+                if own.codes.len() == 16_385 && block.records == batched(&own) {
+                    answer = read;
+                }
+            }),
+        ),
+        (
+            "bits kept under M-100 are not looked at",
+            on_18!(call, answer, read, block, own, {
+                if cleared(&block.records) == batched(&own) {
+                    answer = read;
+                }
+            }),
+        ),
+        (
+            "18 is told as 10",
+            on_18!(call, answer, read, block, own, { answer.number = 10 }),
+        ),
+        (
+            "an empty list is taken",
+            on_18!(call, answer, read, block, own, {
+                if own.codes.is_empty() {
+                    answer = read;
+                }
+            }),
+        ),
+        (
+            "differences are looked for before the length",
+            on_18!(call, answer, read, block, own, {
+                if own.codes.len() > 16_384 {
+                    let made = batched(&own);
+                    let pairs = block.records.chunks_exact(RECORD).zip(
+                        made.chunks_exact(RECORD)
+                            .map(Some)
+                            .chain(core::iter::repeat(None)),
+                    );
+                    let differs = |(ours, theirs): (_, Option<_>)| Some(ours) != theirs;
+                    answer.place = pairs.into_iter().position(differs).unwrap_or(0);
+                }
+            }),
+        ),
+        (
+            "18 leaves what was read",
+            on_18!(call, answer, read, block, own, {
+                answer.codes = read.codes;
+                answer.values = read.values;
+                answer.records = read.records;
+            }),
+        ),
+        (
+            "18 leaves the last byte of the records",
+            on_18!(call, answer, read, block, own, {
+                if let Some(last) = answer.records.last_mut() {
+                    *last = 0xa5;
+                }
+            }),
+        ),
+        (
+            "18 says how many bytes were used",
+            on_18!(call, answer, read, block, own, {
+                answer.rest[2] = read.rest[2];
+            }),
+        ),
+        (
+            "18 says how many batches were read",
+            on_18!(call, answer, read, block, own, {
+                answer.rest[0] = read.rest[0];
+            }),
+        ),
+        (
+            "only the padded operations are compared",
+            on_18!(call, answer, read, block, own, {
+                let made = compare::inputs::WIDE;
+                if let Call::Strict { table, .. } = call {
+                    let made = model::build(table, &own.codes, &own.values, made);
+                    if made.number == 0 && made.codes[..made.rest[1]] == block.codes {
+                        answer = read;
+                    }
+                }
+            }),
+        ),
+        (
+            "padding is not dropped from the list",
+            liar!(call, answer, {
+                if let Some((read, block, own)) = taken(call)
+                    && answer.number == 0
+                    && own.codes.len() < block.codes.len()
+                {
+                    answer = Answer {
+                        number: 18,
+                        codes: vec![0; read.codes.len()],
+                        values: vec![0; read.values.len()],
+                        records: vec![0; read.records.len()],
+                        ..Answer::default()
+                    };
+                }
+            }),
+        ),
+        (
+            "an empty first batch is 18 before what decode refuses in a later one",
+            liar!(call, answer, {
+                if let Call::Strict {
+                    table, bytes, at, ..
+                } = call
+                    && (7..=11).contains(&answer.number)
+                    && let Some(&last) = begins(table, bytes, at).last()
+                    && let Ok((_, length)) = model::read_operation(table, bytes, last, 0)
+                    && bytes[last + length + 4..].starts_with(&[0; 4])
+                {
+                    answer.number = 18;
+                    answer.place = 0;
+                }
+            }),
+        ),
+    ];
+    for (what, who) in liars {
+        for in_ports_place in [false, true] {
+            let found = strict_tried(who, in_ports_place).is_err();
+            assert!(found, "not found: {what}, {in_ports_place}");
+        }
+    }
+    // Only the port is lent less room than it needs.
+    let before_room = liar!(call, answer, {
+        if let Call::Strict {
+            table,
+            bytes,
+            at,
+            room,
+        } = call
+            && answer.number == 13
+        {
+            let wide = model::decode_strict(table, bytes, at, compare::inputs::WIDE);
+            if wide.number == 18 {
+                answer = Answer {
+                    number: 18,
+                    place: wide.place,
+                    codes: vec![0; room.codes],
+                    values: vec![0; room.values],
+                    records: vec![0; room.records],
+                    ..Answer::default()
+                };
+            }
+        }
+    });
+    assert!(strict_tried(before_room, true).is_err(), "18 before 13");
 }

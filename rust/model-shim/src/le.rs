@@ -3,8 +3,8 @@
 
 use crate::{
     BuildReply, CheckReply, DecodeReply, EncodeReply, IndexReply, TableReply, oli_build,
-    oli_commitment, oli_decode, oli_encode, oli_padded_index, oli_padded_table, oli_padding,
-    oli_raw_index, oli_raw_table, oli_structure, put, run,
+    oli_commitment, oli_decode, oli_decode_strict, oli_encode, oli_padded_index, oli_padded_table,
+    oli_padding, oli_raw_index, oli_raw_table, oli_structure, put, run,
 };
 
 /// More values than any function takes: refused with 3.
@@ -128,6 +128,43 @@ pub unsafe extern "C" fn oli_decode_le(
     unsafe {
         let mut numbers = vec![0; out_values_len / 8];
         let reply = oli_decode(
+            table,
+            table_len,
+            bytes,
+            bytes_len,
+            at,
+            out_codes,
+            out_codes_len,
+            numbers.as_mut_ptr(),
+            numbers.len(),
+            records,
+            records_len,
+        );
+        put_bytes(out_values, out_values_len, &numbers);
+        reply
+    }
+}
+
+/// # Safety
+/// As for [`oli_build`].
+#[unsafe(no_mangle)]
+pub unsafe extern "C" fn oli_decode_strict_le(
+    table: *const u8,
+    table_len: usize,
+    bytes: *const u8,
+    bytes_len: usize,
+    at: usize,
+    out_codes: *mut u8,
+    out_codes_len: usize,
+    out_values: *mut u8,
+    out_values_len: usize,
+    records: *mut u8,
+    records_len: usize,
+) -> DecodeReply {
+    // SAFETY: the caller's.
+    unsafe {
+        let mut numbers = vec![0; out_values_len / 8];
+        let reply = oli_decode_strict(
             table,
             table_len,
             bytes,

@@ -215,6 +215,43 @@ pub unsafe extern "C" fn oli_decode(
 /// # Safety
 /// As for [`oli_build`].
 #[unsafe(no_mangle)]
+pub unsafe extern "C" fn oli_decode_strict(
+    table: *const u8,
+    table_len: usize,
+    bytes: *const u8,
+    bytes_len: usize,
+    at: usize,
+    out_codes: *mut u8,
+    out_codes_len: usize,
+    out_values: *mut u64,
+    out_values_len: usize,
+    records: *mut u8,
+    records_len: usize,
+) -> DecodeReply {
+    let room = Room {
+        codes: out_codes_len,
+        values: out_values_len,
+        records: records_len,
+    };
+    // SAFETY: the caller's.
+    unsafe {
+        let answer = model::decode_strict(run(table, table_len), run(bytes, bytes_len), at, room);
+        put(out_codes, out_codes_len, &answer.codes);
+        put(out_values, out_values_len, &answer.values);
+        put(records, records_len, &answer.records);
+        DecodeReply {
+            number: answer.number,
+            place: answer.place,
+            batches: answer.rest[0],
+            operations: answer.rest[1],
+            used: answer.rest[2],
+        }
+    }
+}
+
+/// # Safety
+/// As for [`oli_build`].
+#[unsafe(no_mangle)]
 pub unsafe extern "C" fn oli_head(
     table: *const u8,
     table_len: usize,

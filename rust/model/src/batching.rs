@@ -126,7 +126,7 @@ impl<'a> Open<'a> {
 }
 
 /// The greedy driver: padded operations and batches of a list.
-fn batched(table: &[u8], list: &[Operation]) -> (Vec<Operation>, Vec<Batch>) {
+pub(crate) fn batched(table: &[u8], list: &[Operation]) -> (Vec<Operation>, Vec<Batch>) {
     let mut padded = Vec::new();
     let mut batches = Vec::new();
     let mut open = Open::new(table);

@@ -1,12 +1,12 @@
-//! Block bytes: the encoder and the decoder (document 01, "Block bytes").
+//! Block bytes: the encoder and the decoder (document 01, "Block bytes"), and the strict decoder (M-107).
 
 use crate::{
-    batching::with_outputs,
+    batching::{batched, with_outputs},
     call::{Answer, Arena, Room},
     checks::{padding_holds, slots, structured, within},
     data::{
-        Batch, MOST_BATCHES, MOST_BYTES, MOST_PADDED, Operation, RECORD, Refusal, admissible,
-        all_admissible, batches_of, good_table, kind, number_of, operations, refuse,
+        Batch, MOST_BATCHES, MOST_BYTES, MOST_LISTED, MOST_PADDED, Operation, RECORD, Refusal,
+        admissible, all_admissible, batches_of, good_table, kind, number_of, operations, refuse,
     },
 };
 
@@ -281,6 +281,65 @@ fn decode_tried(table: &[u8], bytes: &[u8], at: usize, room: Room) -> Result<Rea
 /// Reads a block from a place in the buffer on.
 pub fn decode(table: &[u8], bytes: &[u8], at: usize, room: Room) -> Answer {
     match decode_tried(table, bytes, at, room) {
+        Err(refusal) => with_outputs(Err(refusal), 0, room),
+        Ok((list, batches, used)) => with_outputs(Ok((list, batches)), used, room),
+    }
+}
+
+/// "The block's own list, flagged padding dropped" (M-107): the last operation of a group under the
+/// count whose flag is set is no operation of the list. The padding check has passed.
+pub fn own_list(list: &[Operation], batches: &[Batch]) -> Vec<Operation> {
+    let mut own = Vec::new();
+    for (batch, ops) in parted(list, batches) {
+        for group in 0..batch.count as usize {
+            let mut ops = batch.group(&ops, group).to_vec();
+            if batch.flags[group] == 1 {
+                ops.pop();
+            }
+            own.extend(ops);
+        }
+    }
+    own
+}
+
+/// Each batch with its own operations.
+fn parted(list: &[Operation], batches: &[Batch]) -> Vec<(Batch, Vec<Operation>)> {
+    let mut parts = Vec::new();
+    let mut at = 0;
+    for batch in batches {
+        let end = at + batch.total();
+        parts.push((batch.clone(), list[at..end].to_vec()));
+        at = end;
+    }
+    parts
+}
+
+/// Strict reading (M-107): "a block the decoder takes passes exactly if some non-empty list of at most
+/// 16,384 admissible operations, batched by document 01, writes those very bytes". What is batched can
+/// be read, and without its padding it is the list again: so that list is the block's own or none.
+fn strict_tried(table: &[u8], bytes: &[u8], at: usize, room: Room) -> Result<Read, Refusal> {
+    let (list, batches, used) = decode_tried(table, bytes, at, room)?;
+    let own = own_list(&list, &batches);
+    if own.is_empty() || own.len() > MOST_LISTED {
+        return refuse(18, 0);
+    }
+    let (made_list, made_batches) = batched(table, &own);
+    if block(table, &made_list, &made_batches) == bytes[at..at + used] {
+        return Ok((list, batches, used));
+    }
+    let ours = parted(&list, &batches);
+    let made = parted(&made_list, &made_batches);
+    for i in 0..ours.len().max(made.len()) {
+        if ours.get(i) != made.get(i) {
+            return refuse(18, i);
+        }
+    }
+    unreachable!("other bytes are those of other batches")
+}
+
+/// Reads a block from a place in the buffer on, if it is one that batching makes.
+pub fn decode_strict(table: &[u8], bytes: &[u8], at: usize, room: Room) -> Answer {
+    match strict_tried(table, bytes, at, room) {
         Err(refusal) => with_outputs(Err(refusal), 0, room),
         Ok((list, batches, used)) => with_outputs(Ok((list, batches)), used, room),
     }

@@ -72,6 +72,13 @@ pub enum Call<'a> {
         record: &'a [u8],
         group: usize,
     },
+    /// Decode, strictly (M-107).
+    Strict {
+        table: &'a [u8],
+        bytes: &'a [u8],
+        at: usize,
+        room: Room,
+    },
 }
 
 #[derive(Clone, Copy, Debug, PartialEq, Eq, PartialOrd, Ord)]
@@ -88,10 +95,11 @@ pub enum Function {
     RawIndex,
     Group,
     NextGroup,
+    Strict,
 }
 
 impl Function {
-    pub const ALL: [Self; 12] = [
+    pub const ALL: [Self; 13] = [
         Self::Build,
         Self::Encode,
         Self::Decode,
@@ -104,6 +112,7 @@ impl Function {
         Self::RawIndex,
         Self::Group,
         Self::NextGroup,
+        Self::Strict,
     ];
 
     pub fn name(self) -> &'static str {
@@ -120,6 +129,7 @@ impl Function {
             Self::RawIndex => "raw index",
             Self::Group => "group",
             Self::NextGroup => "next group",
+            Self::Strict => "decode strict",
         }
     }
 }
@@ -139,6 +149,7 @@ impl Call<'_> {
             Self::RawIndex { .. } => Function::RawIndex,
             Self::Group { .. } => Function::Group,
             Self::NextGroup { .. } => Function::NextGroup,
+            Self::Strict { .. } => Function::Strict,
         }
     }
 }
@@ -150,7 +161,7 @@ pub struct Answer {
     pub number: u8,
     pub place: usize,
     /// The other numbers of the reply in its order: build has batches and operations; encode the
-    /// length; decode batches, operations and bytes used; tables their entries; index lookups
+    /// length; decode, strict or not, batches, operations and bytes used; tables their entries; index lookups
     /// found (0 or 1) and index; group found, group and position; next group found and group.
     pub rest: [usize; 3],
     /// Build and decode: the three outputs in their lent lengths.
@@ -203,5 +214,11 @@ pub fn answer(call: Call<'_>) -> Answer {
         Call::RawIndex { table, padded } => crate::raw_index(table, padded),
         Call::Group { record, index } => crate::group(record, index),
         Call::NextGroup { record, group } => crate::next_group(record, group),
+        Call::Strict {
+            table,
+            bytes,
+            at,
+            room,
+        } => crate::decode_strict(table, bytes, at, room),
     }
 }

@@ -8,7 +8,8 @@
 //! Flags at or above a batch's count are no fault (M-100): there are cases of blocks that have them,
 //! alone and before each fault that comes later. Where an operation is at fault, opcode and value
 //! have numbers of their own (M-101): there are cases of both in one operation, and of one operation
-//! before another.
+//! before another. Strict reading (M-107) has every fault of decode before its 18, blocks that
+//! batching makes, and blocks that it does not.
 
 use crate::{Arena, Batch, Call, FIELD, Operation, RECORD, Room, count_bytes};
 
@@ -577,12 +578,12 @@ fn good_bytes() -> Bytes {
     }
 }
 
-fn decode(visit: &mut Visit<'_>) {
-    let good = good_bytes();
+/// The faults of a block's bytes, in decode's order.
+fn byte_faults() -> Vec<Fault<Bytes>> {
     // Letters: e the end of the buffer, a the offset, t the table, c the count's bytes, o the last
     // operation, x where the operations end, y how many there are, b the batch count, 0 and 1 what those batches
     // are, s what the first batch's slot is.
-    let faults = [
+    vec![
         fault(
             3,
             0,
@@ -686,7 +687,12 @@ fn decode(visit: &mut Visit<'_>) {
             i.ops.push(vec![2]);
             i.count = count_bytes(4);
         }),
-    ];
+    ]
+}
+
+fn decode(visit: &mut Visit<'_>) {
+    let good = good_bytes();
+    let faults = byte_faults();
     let take_bytes = |i: &Bytes, take: &mut dyn FnMut(Call<'_>)| {
         let (bytes, at) = i.buffer();
         take(Call::Decode {
@@ -947,6 +953,317 @@ fn decode(visit: &mut Visit<'_>) {
             i.nibbles[1] = [0; 4];
             i.flags[1] = 1;
         },
+    );
+}
+
+// STRICT READING
+// ================================================================================================
+
+const P: Operation = Operation { code: 2, value: 0 };
+const NOOP: Operation = Operation { code: 0, value: 0 };
+
+/// An immediate.
+fn push(value: u64) -> Operation {
+    op(1, value)
+}
+
+/// The bytes of a block: operations and, for each batch, the lengths of its groups and its flags.
+fn bytes_of(list: &[Operation], batches: &[(&[u8], u8)]) -> Bytes {
+    let table = table_t();
+    let written = |op: &Operation| match table[usize::from(op.code)] {
+        0 => vec![op.code],
+        _ => valued(op.code, op.value),
+    };
+    let nibbles = |lengths: &[u8]| {
+        let length = |group: usize| lengths.get(group).copied().unwrap_or(0);
+        core::array::from_fn(|pair| length(2 * pair) + 16 * length(2 * pair + 1))
+    };
+    Bytes {
+        count: count_bytes(list.len()),
+        ops: list.iter().map(written).collect(),
+        batch_count: (batches.len() as u32).to_le_bytes().to_vec(),
+        nibbles: batches.iter().map(|batch| nibbles(batch.0)).collect(),
+        flags: batches.iter().map(|batch| batch.1).collect(),
+        room: Room {
+            codes: list.len(),
+            values: list.len() + 1,
+            records: batches.len() * RECORD + 1,
+        },
+        ..good_bytes()
+    }
+}
+
+/// M-107: what decode refuses, before 18; blocks that batching makes, and blocks that it does not.
+fn strict(visit: &mut Visit<'_>) {
+    let mut take = |name: &str, pair, input: &Bytes, number, place| {
+        let (bytes, at) = input.buffer();
+        visit(Case {
+            name: format!("decode strict: {name} ({number})"),
+            pair,
+            call: Call::Strict {
+                table: &input.table,
+                bytes: &bytes,
+                at,
+                room: input.room,
+            },
+            number,
+            place,
+        });
+    };
+    // Two batches where batching makes one: 18, and all that is refused before it.
+    let unfinished = good_bytes();
+    take("two batches for one", None, &unfinished, 18, 0);
+    for fault in byte_faults() {
+        let mut input = unfinished.clone();
+        (fault.spoil)(&mut input);
+        let name = format!("{} before 18", fault.name);
+        let pair = Some((fault.number, 18));
+        take(&name, pair, &input, fault.number, fault.place);
+    }
+    // And nothing but what decode refuses.
+    let p1 = || bytes_of(&[push(5), NOOP], &[(&[2], 1)]);
+    for (name, number, place, spoil) in [
+        ("P1 without its last byte", 5, 0, |i: &mut Bytes| {
+            i.end = Some(End::AfterBatchCount(4))
+        }),
+        ("P1 cut inside its operation", 2, 3, |i| {
+            i.end = Some(End::InOp(0))
+        }),
+        ("P1, an opcode too few lent", 13, 0, |i| i.room.codes = 1),
+        ("P1, a value too few lent", 13, 0, |i| i.room.values = 1),
+        ("P1, a record's byte too few lent", 13, 0, |i| {
+            i.room.records = 81
+        }),
+        ("P1 with a flagged slot", 10, 0, |i| i.flags[0] = 3),
+        ("P1 without its batch", 11, 0, |i| {
+            i.batch_count = vec![0; 4];
+            i.nibbles.clear();
+            i.flags.clear();
+        }),
+    ] as [(&str, u8, usize, fn(&mut Bytes)); 7]
+    {
+        let mut input = p1();
+        spoil(&mut input);
+        take(name, None, &input, number, place);
+    }
+
+    let many = |times: usize, op: Operation| vec![op; times];
+    let pushes = |times: u64| (1..=times).map(push).collect::<Vec<_>>();
+    let full: &[u8] = &[9; 8];
+    // Seven immediates and their padding, then one and its padding.
+    let eight = [pushes(7), vec![NOOP, push(8), NOOP]].concat();
+    let mut both = |name: &str, list: &[Operation], batches: &[(&[u8], u8)], number, place| {
+        take(name, None, &bytes_of(list, batches), number, place)
+    };
+    // Batching makes these.
+    both("P1", &[push(5), NOOP], &[(&[2], 1)], 0, 0);
+    both("one operation", &[P], &[(&[1], 0)], 0, 0);
+    both("carried values", &[op(3, 6), op(3, 7)], &[(&[2], 0)], 0, 0);
+    both("a Noop of its own", &[NOOP], &[(&[1], 0)], 0, 0);
+    both(
+        "a Noop of its own after an immediate",
+        &[push(5), NOOP],
+        &[(&[2], 0)],
+        0,
+        0,
+    );
+    both("two groups", &many(10, P), &[(&[9, 1], 0)], 0, 0);
+    let nineteen = [many(19, P), vec![NOOP]].concat();
+    both(
+        "four groups, one of them padding",
+        &nineteen,
+        &[(&[9, 9, 1, 1], 8)],
+        0,
+        0,
+    );
+    let p6 = [many(8, P), vec![push(1), NOOP, NOOP]].concat();
+    both(
+        "an immediate that begins a group",
+        &p6,
+        &[(&[8, 2, 0, 1], 10)],
+        0,
+        0,
+    );
+    both(
+        "two batches of immediates",
+        &eight,
+        &[(&[8], 1), (&[2], 1)],
+        0,
+        0,
+    );
+    both(
+        "two batches of plain operations",
+        &many(73, P),
+        &[(full, 0), (&[1], 0)],
+        0,
+        0,
+    );
+    // Nothing of its own.
+    both("no batches", &[], &[], 18, 0);
+    both("an empty batch", &[], &[(&[], 0)], 18, 0);
+    both(
+        "empty batches with flags",
+        &[],
+        &[(&[], 1), (&[], 0xff)],
+        18,
+        0,
+    );
+    both("padding alone", &[NOOP], &[(&[1], 1)], 18, 0);
+    both(
+        "padding alone, in groups and batches",
+        &many(4, NOOP),
+        &[(&[1, 0, 1], 5), (&[], 0), (&[1, 1], 3)],
+        18,
+        0,
+    );
+    // Empty batches.
+    both(
+        "an empty batch, then P1",
+        &[push(5), NOOP],
+        &[(&[], 0), (&[2], 1)],
+        18,
+        0,
+    );
+    both(
+        "P1, then an empty batch",
+        &[push(5), NOOP],
+        &[(&[2], 1), (&[], 0)],
+        18,
+        1,
+    );
+    both(
+        "an empty batch in the middle",
+        &eight,
+        &[(&[8], 1), (&[], 0), (&[2], 1)],
+        18,
+        1,
+    );
+    both(
+        "two empty batches at the end",
+        &eight,
+        &[(&[8], 1), (&[2], 1), (&[], 0), (&[], 4)],
+        18,
+        2,
+    );
+    // Flags at or above the count.
+    both(
+        "P1 with the flag at the count",
+        &[push(5), NOOP],
+        &[(&[2], 5)],
+        18,
+        0,
+    );
+    both("P1 with flag 7", &[push(5), NOOP], &[(&[2], 0x81)], 18, 0);
+    both(
+        "a kept flag in the last batch",
+        &eight,
+        &[(&[8], 1), (&[2], 0x41)],
+        18,
+        1,
+    );
+    // Empty groups.
+    both(
+        "an empty group before the first",
+        &[P],
+        &[(&[0, 1], 0)],
+        18,
+        0,
+    );
+    both(
+        "an empty group between two",
+        &many(10, P),
+        &[(&[9, 0, 1], 0)],
+        18,
+        0,
+    );
+    both(
+        "an empty group after an immediate's slot",
+        &p6,
+        &[(&[8, 2, 0, 0, 1], 18)],
+        18,
+        0,
+    );
+    both(
+        "an empty group in the last batch",
+        &many(73, P),
+        &[(full, 0), (&[0, 0, 0, 1], 0)],
+        18,
+        1,
+    );
+    // Paddings.
+    both("three groups", &many(19, P), &[(&[9, 9, 1], 0)], 18, 0);
+    both(
+        "an immediate without padding",
+        &[push(5)],
+        &[(&[1], 0)],
+        18,
+        0,
+    );
+    both("a Noop of its own flagged", &[P, NOOP], &[(&[2], 1)], 18, 0);
+    both(
+        "a Noop of its own and a padding",
+        &[push(5), NOOP, NOOP],
+        &[(&[3], 1)],
+        18,
+        0,
+    );
+    both(
+        "the padding of the last batch missing",
+        &eight[..9],
+        &[(&[8], 1), (&[1], 0)],
+        18,
+        1,
+    );
+    // Groups and batches closed early, or late.
+    both("a group closed early", &many(10, P), &[(&[8, 2], 0)], 18, 0);
+    both(
+        "a group closed early by padding",
+        &[P, NOOP, P],
+        &[(&[2, 1], 1)],
+        18,
+        0,
+    );
+    both(
+        "a batch closed early",
+        &[P, P],
+        &[(&[1], 0), (&[1], 0)],
+        18,
+        0,
+    );
+    both(
+        "a batch of immediates closed early",
+        &[pushes(6), vec![NOOP, push(7), push(8), NOOP]].concat(),
+        &[(&[7], 1), (&[3], 1)],
+        18,
+        0,
+    );
+    both(
+        "the second batch closed early",
+        &many(74, P),
+        &[(full, 0), (&[1], 0), (&[1], 0)],
+        18,
+        1,
+    );
+    both(
+        "an immediate as the ninth",
+        &[many(8, P), vec![push(1)]].concat(),
+        &[(&[9], 0)],
+        18,
+        0,
+    );
+    // 16,384 operations, and one more with a batch too many: the length is looked at first.
+    // Their last batch has five groups, and three of padding. (Noops, for short records.)
+    let mut batches = vec![(full, 0); 227];
+    batches.push((&[9, 9, 9, 9, 4, 1, 1, 1], 0xe0));
+    both("16,384 operations", &many(16_387, NOOP), &batches, 0, 0);
+    batches[227].0 = &[9, 9, 9, 9, 5, 1, 1, 1];
+    batches.push((&[], 0));
+    both(
+        "16,385 operations, and an empty batch",
+        &[many(16_385, P), many(3, NOOP)].concat(),
+        &batches,
+        18,
+        0,
     );
 }
 
@@ -1377,4 +1694,5 @@ pub fn all(visit: &mut Visit<'_>) {
     checks(visit);
     tables(visit);
     lookups(visit);
+    strict(visit);
 }

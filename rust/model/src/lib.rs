@@ -17,7 +17,9 @@ mod data;
 mod lookups;
 
 pub use batching::build;
-pub use bytes::{count_bytes, decode, encode, head, read_count, read_operation};
+pub use bytes::{
+    count_bytes, decode, decode_strict, encode, head, own_list, read_count, read_operation,
+};
 pub use call::{Answer, Arena, Call, Function, Room, answer};
 pub use checks::{commitment, padding, record_holds, structure};
 pub use data::{

@@ -1,9 +1,11 @@
 //! Document 01's "Numbers to check", and the offset cases.
 
+use std::collections::BTreeSet;
+
 use model::{
     Arena, Batch, FIELD, Operation, RECORD, Refusal, Room, batches_of, build, cases::table_t,
-    commitment, count_bytes, decode, encode, group, next_group, padded_index, padded_table,
-    padding, raw_index, raw_table, read_count, read_operation, structure,
+    commitment, count_bytes, decode, decode_strict, encode, group, next_group, padded_index,
+    padded_table, padding, raw_index, raw_table, read_count, read_operation, structure,
 };
 
 /// Room for anything in these tests.
@@ -483,6 +485,7 @@ fn lists_there_and_back() {
         assert_eq!(read.records[..block.records.len()], block.records);
         assert_eq!(read.codes[..block.codes.len()], block.codes);
         assert_eq!(read.values[..block.values.len()], block.values);
+        assert_eq!(decode_strict(&table, &bytes, 0, WIDE), read);
         assert_ne!(decode(&table, &bytes[..bytes.len() - 1], 0, WIDE).number, 0);
 
         let raw = raw_table(arena, n + 1);
@@ -494,4 +497,80 @@ fn lists_there_and_back() {
             assert_eq!(raw_index(&padded.entries, there).rest, [1, index, 0]);
         }
     }
+}
+
+/// All words over some letters, of a length.
+fn words(letters: usize, length: u32) -> impl Iterator<Item = Vec<usize>> {
+    (0..letters.pow(length)).map(move |word| {
+        let letter = |at| word / letters.pow(at) % letters;
+        (0..length).map(letter).collect()
+    })
+}
+
+/// M-107: "passes exactly if some non-empty list .., batched by document 01, writes those very bytes".
+/// All lists of up to three operations are written; all blocks of up to three operations and two
+/// batches, in their first three groups with every flag, are read.
+#[test]
+fn finished_exactly_if_some_list_writes_it() {
+    let table = table_t();
+    let letters = [(0, 0), (2, 0), (1, 5), (3, 6)];
+    let list_of =
+        |word: &[usize]| -> Vec<(u8, u64)> { word.iter().map(|&at| letters[at]).collect() };
+    let mut written = BTreeSet::new();
+    for length in 1..=3 {
+        for word in words(4, length) {
+            written.insert(block(&list_of(&word)).bytes());
+        }
+    }
+    let room = Room {
+        codes: 3,
+        values: 3,
+        records: 2 * RECORD,
+    };
+    let (mut finished, mut unfinished) = (BTreeSet::new(), 0);
+    for operations in 0..=3 {
+        for word in words(4, operations) {
+            let mut front = count_bytes(word.len());
+            for (code, value) in list_of(&word) {
+                front.push(code);
+                if value > 0 {
+                    front.extend(value.to_le_bytes());
+                }
+            }
+            for batches in 0..=2 {
+                // The lengths of three groups to a batch.
+                for lengths in words(4, 3 * batches) {
+                    if lengths.iter().sum::<usize>() != word.len() {
+                        continue;
+                    }
+                    let mut start = front.clone();
+                    start.extend(batches.to_le_bytes());
+                    for groups in lengths.chunks_exact(3) {
+                        let low = (groups[0] + 16 * groups[1]) as u8;
+                        start.extend([low, groups[2] as u8, 0, 0]);
+                    }
+                    for flags in words(8, batches) {
+                        let mut bytes = start.clone();
+                        bytes.extend(flags.iter().map(|&flags| flags as u8));
+                        let read = decode(&table, &bytes, 0, room);
+                        let strict = decode_strict(&table, &bytes, 0, room);
+                        if read.number != 0 || written.contains(&bytes) {
+                            assert_eq!(strict, read);
+                            if read.number == 0 {
+                                finished.insert(bytes);
+                            }
+                            continue;
+                        }
+                        assert_eq!((strict.number, strict.rest), (18, [0; 3]));
+                        assert!(strict.place <= read.rest[0]);
+                        assert!(strict.records.iter().all(|&byte| byte == 0));
+                        unfinished += 1;
+                    }
+                }
+            }
+        }
+    }
+    // All that have no more than three operations with their padding.
+    assert!(finished.len() > 60 && finished.is_subset(&written));
+    assert!(unfinished > 10_000, "{unfinished}");
 }

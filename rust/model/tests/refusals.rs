@@ -110,6 +110,16 @@ fn no_number_and_no_pair_is_left_out() {
             assert!(pairs.contains(&pair), "{pair:?}");
         }
     }
+    // Strict reading (M-107): all that decode refuses comes before 18.
+    for number in [0, 18] {
+        let one = (Function::Strict, number);
+        assert!(alone.contains(&one), "{one:?}");
+    }
+    for number in [1, 2, 3, 4, 5, 6, 7, 8, 9, 10, 11, 13, 14, 17] {
+        assert!(alone.contains(&(Function::Decode, number)), "{number}");
+        let pair = (Function::Strict, number, 18);
+        assert!(pairs.contains(&pair), "{pair:?}");
+    }
     // Decode's finer orders.
     for (first, second) in [
         (3, 2),

@@ -38,7 +38,7 @@ pub struct EncodeReply {
     pub length: usize,
 }
 
-/// What `oli_decode` replies.
+/// What `oli_decode` and `oli_decode_strict` reply.
 #[repr(C)]
 #[derive(Clone, Copy, Debug, Default, PartialEq, Eq)]
 pub struct DecodeReply {
@@ -135,6 +135,8 @@ exports! {
     encode = oli_encode(table: u8, codes: u8, values: u64, records: u8;; out: u8; at) -> EncodeReply;
     /// `oli_decode` on lent slices.
     decode = oli_decode(table: u8, bytes: u8; at; out_codes: u8, out_values: u64, records: u8;) -> DecodeReply;
+    /// `oli_decode_strict` on lent slices.
+    decode_strict = oli_decode_strict(table: u8, bytes: u8; at; out_codes: u8, out_values: u64, records: u8;) -> DecodeReply;
     /// `oli_head` on lent slices.
     head = oli_head(table: u8, bytes: u8; at;;) -> HeadReply;
     /// `oli_structure` on lent slices.
@@ -253,6 +255,34 @@ impl New {
             (reply, new.filled(operations, records))
         }
     }
+
+    /// `oli_decode_strict` on lent slices and new runs.
+    pub fn decode_strict(
+        table: &[u8],
+        bytes: &[u8],
+        at: usize,
+        operations: usize,
+        records: usize,
+    ) -> (DecodeReply, Self) {
+        let mut new = Self::with(operations, records);
+        // SAFETY: as above.
+        unsafe {
+            let reply = oli_decode_strict(
+                table.as_ptr(),
+                table.len(),
+                bytes.as_ptr(),
+                bytes.len(),
+                at,
+                new.codes.as_mut_ptr(),
+                operations,
+                new.values.as_mut_ptr(),
+                operations,
+                new.records.as_mut_ptr(),
+                records,
+            );
+            (reply, new.filled(operations, records))
+        }
+    }
 }
 
 /// The same with runs of 64-bit numbers as little-endian bytes, eight to a number.
@@ -277,6 +307,8 @@ pub mod le {
         encode = oli_encode_le(table: u8, codes: u8, values: u8, records: u8;; out: u8; at) -> EncodeReply;
         /// `oli_decode_le` on lent slices.
         decode = oli_decode_le(table: u8, bytes: u8; at; out_codes: u8, out_values: u8, records: u8;) -> DecodeReply;
+        /// `oli_decode_strict_le` on lent slices.
+        decode_strict = oli_decode_strict_le(table: u8, bytes: u8; at; out_codes: u8, out_values: u8, records: u8;) -> DecodeReply;
         /// `oli_structure_le` on lent slices.
         structure = oli_structure_le(codes: u8, values: u8, records: u8;;;) -> CheckReply;
         /// `oli_padding_le` on lent slices.

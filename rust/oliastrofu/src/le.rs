@@ -5,12 +5,12 @@
 //! Of an output only whole numbers are room; bytes left over are zeroed too.
 //!
 //! Numbers go through work space on the stack, as much of it as their number asks for. In
-//! [`encode`], [`decode`] and [`commitment`] 20 KiB are enough for at most 64 numbers, 36 KiB for at
-//! most 2,048, and 532 KiB for any number; in [`build`] and the tables, which read and fill numbers,
-//! twice as much. [`structure`], [`padding`] and the index lookups want none.
+//! [`encode`], [`decode`], [`decode_strict`] and [`commitment`] 20 KiB are enough for at most 64
+//! numbers, 36 KiB for at most 2,048, and 532 KiB for any number; in [`build`] and the tables, which
+//! read and fill numbers, twice as much. [`structure`], [`padding`] and the index lookups want none.
 
 use crate::{
-    PaddedIndex, RawIndex, Refusal,
+    Finished, PaddedIndex, RawIndex, Refusal,
     boundary::le as boundary,
     lent::{Built, Decoded, built, checked, decoded, encoded, index, tabled},
 };
@@ -115,6 +115,44 @@ pub fn decode(table: &[u8], bytes: &[u8], at: usize, out: Outputs<'_>) -> Result
         out.values,
         out.records,
     ))
+}
+
+/// Reads a block strictly: as [`decode`] does, if it is one that batching makes. The block is in the
+/// outputs' front, and lent back. See [`lent::decode_strict`](crate::lent::decode_strict).
+///
+/// ```
+/// use oliastrofu::{Cause, le::{self, Outputs}};
+/// let mut table = [3; 128];
+/// table[..4].copy_from_slice(&[0, 1, 0, 2]);
+/// let mut bytes = [5, 1, 5, 0, 0, 0, 0, 0, 0, 0, 0, 1, 0, 0, 0, 2, 0, 0, 0, 1];
+/// let (mut codes, mut values, mut records) = ([9; 2], [9; 17], [9; 82]);
+/// let out = Outputs { codes: &mut codes, values: &mut values, records: &mut records };
+/// let finished = le::decode_strict(&table, &bytes, 0, out)?;
+/// assert_eq!(finished.values, [5, 0, 0, 0, 0, 0, 0, 0, 0, 0, 0, 0, 0, 0, 0, 0]);
+/// assert_eq!((finished.listed(), finished.used()), (1, 20));
+///
+/// bytes[19] |= 0x80;
+/// let out = Outputs { codes: &mut codes, values: &mut values, records: &mut records };
+/// let refusal = le::decode_strict(&table, &bytes, 0, out).unwrap_err();
+/// assert_eq!((refusal.cause, refusal.place), (Cause::Unfinished, 0));
+/// assert_eq!((codes, values), ([0; 2], [0; 17]));
+/// # Ok::<(), oliastrofu::Refusal>(())
+/// ```
+pub fn decode_strict<'a>(
+    table: &[u8],
+    bytes: &[u8],
+    at: usize,
+    out: Outputs<'a>,
+) -> Result<Finished<Arena<'a>>, Refusal> {
+    let read = decoded(boundary::decode_strict(
+        table,
+        bytes,
+        at,
+        out.codes,
+        out.values,
+        out.records,
+    ))?;
+    Ok(Finished::<Arena<'_>>::in_front(read, out))
 }
 
 /// The structure check.

@@ -4,7 +4,7 @@
 //! leaves its outputs all zero; a refused encode changes no byte.
 
 use crate::{
-    Arena, PaddedIndex, RECORD, RawIndex, Refusal,
+    Arena, Finished, PaddedIndex, RECORD, RawIndex, Refusal,
     boundary::{
         self, BuildReply, CheckReply, DecodeReply, EncodeReply, HeadReply, IndexReply, TableReply,
     },
@@ -146,6 +146,50 @@ pub fn decode(table: &[u8], bytes: &[u8], at: usize, out: Outputs<'_>) -> Result
         out.values,
         out.records,
     ))
+}
+
+/// Reads a block strictly: as [`decode`] does, if it is one that batching makes. The block is in the
+/// outputs' front, and lent back.
+///
+/// What decode refuses is refused in the same way; else 18 names the first batch that differs from
+/// those of [`build`] on the block's own operations, or batch 0 where these are none or over 16,384.
+/// No other room is wanted than decode's.
+///
+/// ```
+/// use oliastrofu::{Cause, lent::{self, Outputs}};
+/// let mut table = [3; 128];
+/// table[..4].copy_from_slice(&[0, 1, 0, 2]);
+/// let mut bytes = [5, 1, 5, 0, 0, 0, 0, 0, 0, 0, 0, 1, 0, 0, 0, 2, 0, 0, 0, 1];
+/// let (mut codes, mut values, mut records) = ([9; 3], [9; 3], [9; 83]);
+/// let out = Outputs { codes: &mut codes, values: &mut values, records: &mut records };
+/// let finished = lent::decode_strict(&table, &bytes, 0, out)?;
+/// assert_eq!((finished.codes, finished.values), (&[1, 0][..], &[5, 0][..]));
+/// assert_eq!((finished.listed(), finished.used()), (1, 20));
+/// assert_eq!(lent::commitment(&table, *finished), Ok(()));
+///
+/// // The last flag of its only batch, whose count is 2: decode keeps it.
+/// bytes[19] |= 0x80;
+/// let out = Outputs { codes: &mut codes, values: &mut values, records: &mut records };
+/// let refusal = lent::decode_strict(&table, &bytes, 0, out).unwrap_err();
+/// assert_eq!((refusal.cause, refusal.place), (Cause::Unfinished, 0));
+/// assert_eq!((codes, values, records), ([0; 3], [0; 3], [0; 83]));
+/// # Ok::<(), oliastrofu::Refusal>(())
+/// ```
+pub fn decode_strict<'a>(
+    table: &[u8],
+    bytes: &[u8],
+    at: usize,
+    out: Outputs<'a>,
+) -> Result<Finished<Arena<'a>>, Refusal> {
+    let read = decoded(boundary::decode_strict(
+        table,
+        bytes,
+        at,
+        out.codes,
+        out.values,
+        out.records,
+    ))?;
+    Ok(Finished::<Arena<'_>>::in_front(read, out))
 }
 
 /// The structure check.

@@ -23,6 +23,10 @@
 //! assert_eq!((read, used), (block, bytes.len()));
 //! # Ok::<(), oliastrofu::Refusal>(())
 //! ```
+//!
+//! Not every block that can be read is one that batching makes: it may have empty batches or groups,
+//! or flags that stand for nothing. [`decode_strict`] takes only those that batching makes, and gives
+//! a [`Finished`], which can't be had otherwise.
 
 #![deny(unsafe_code)]
 #![deny(
@@ -36,6 +40,7 @@
 
 mod batch;
 pub mod boundary;
+mod finished;
 pub mod le;
 pub mod lent;
 mod owned;
@@ -44,8 +49,9 @@ mod refusal;
 pub use batch::{
     Arena, Batch, Block, PaddedIndex, PaddedTable, RECORD, RawIndex, RawTable, VM_TABLE,
 };
+pub use finished::Finished;
 pub use owned::{
-    build, commitment, decode, encode, group_of, head, next_group, padded_index, padded_table,
-    padding, raw_index, raw_table, structure,
+    build, commitment, decode, decode_strict, encode, group_of, head, next_group, padded_index,
+    padded_table, padding, raw_index, raw_table, structure,
 };
 pub use refusal::{Cause, Refusal};

@@ -1,8 +1,9 @@
 //! The same functions with room of their own: what they give back is a `Vec` or made of them.
 
 use crate::{
-    Arena, Batch, Block, Cause, PaddedIndex, PaddedTable, RECORD, RawIndex, RawTable, Refusal,
-    boundary::New,
+    Arena, Batch, Block, Cause, Finished, PaddedIndex, PaddedTable, RECORD, RawIndex, RawTable,
+    Refusal,
+    boundary::{DecodeReply, New},
     lent::{self, Head},
 };
 
@@ -155,12 +156,56 @@ pub fn encode(table: &[u8], block: &Block) -> Result<Vec<u8>, Refusal> {
 /// # Ok::<(), oliastrofu::Refusal>(())
 /// ```
 pub fn decode(table: &[u8], bytes: &[u8], at: usize) -> Result<(Block, usize), Refusal> {
+    read(New::decode, table, bytes, at)
+}
+
+/// The block that begins at a place in the bytes, if it is finished: one that batching makes. What
+/// comes after it is not read.
+///
+/// A block is finished exactly if [`build`] of some list and [`encode`] write its very bytes; that
+/// list is the block's own operations, its padding left out. What [`decode`] refuses is refused in
+/// the same way; else [`Cause::Unfinished`] (18) names the first batch that differs from those of
+/// the block's own list, or batch 0 where that list is empty or over 16,384. The block is not
+/// refused for want of room.
+///
+/// ```
+/// let mut table = [3; 128];
+/// table[..4].copy_from_slice(&[0, 1, 0, 2]);
+/// let bytes = [5, 1, 5, 0, 0, 0, 0, 0, 0, 0, 0, 1, 0, 0, 0, 2, 0, 0, 0, 1, 99];
+/// let finished = oliastrofu::decode_strict(&table, &bytes, 0)?;
+/// assert_eq!(*finished, oliastrofu::build(&table, &[1], &[5])?);
+/// assert_eq!((finished.listed(), finished.used()), (1, 20));
+///
+/// let refused = |bytes: &[u8]| {
+///     assert!(oliastrofu::decode(&table, bytes, 0).is_ok());
+///     let refusal = oliastrofu::decode_strict(&table, bytes, 0).unwrap_err();
+///     (refusal.number(), refusal.place)
+/// };
+/// // An operation, and a batch without any after it or before it.
+/// assert_eq!(refused(&[3, 2, 2, 0, 0, 0, 1, 0, 0, 0, 0, 0, 0, 0, 0, 0]), (18, 1));
+/// assert_eq!(refused(&[3, 2, 2, 0, 0, 0, 0, 0, 0, 0, 1, 0, 0, 0, 0, 0]), (18, 0));
+/// // It is in group 1, and group 0 is empty.
+/// assert_eq!(refused(&[3, 2, 1, 0, 0, 0, 0x10, 0, 0, 0, 0]), (18, 0));
+/// // Nothing at all; padding alone.
+/// assert_eq!(refused(&[1, 0, 0, 0, 0]), (18, 0));
+/// assert_eq!(refused(&[3, 0, 1, 0, 0, 0, 1, 0, 0, 0, 1]), (18, 0));
+/// # Ok::<(), oliastrofu::Refusal>(())
+/// ```
+pub fn decode_strict(table: &[u8], bytes: &[u8], at: usize) -> Result<Finished, Refusal> {
+    let (block, used) = read(New::decode_strict, table, bytes, at)?;
+    Ok(Finished::owned(block, used))
+}
+
+type Decoder = fn(&[u8], &[u8], usize, usize, usize) -> (DecodeReply, New);
+
+/// One of the two decoders, with room of its own.
+fn read(decode: Decoder, table: &[u8], bytes: &[u8], at: usize) -> Result<(Block, usize), Refusal> {
     let (operations, batches) = likely(bytes, at).unwrap_or((0, 0));
-    let (mut reply, mut new) = New::decode(table, bytes, at, operations, of_records(batches));
+    let (mut reply, mut new) = decode(table, bytes, at, operations, of_records(batches));
     if Cause::of_number(reply.number) == Cause::Room {
         let head = head(table, bytes, at)?;
         let records = of_records(head.batches);
-        (reply, new) = New::decode(table, bytes, at, head.operations, records);
+        (reply, new) = decode(table, bytes, at, head.operations, records);
     }
     let read = lent::decoded(reply)?;
     let mut block = Block::from(new);

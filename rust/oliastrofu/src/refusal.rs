@@ -2,7 +2,7 @@
 
 use core::{error, fmt};
 
-/// Why a call was refused: document 01's numbers, and 17 of M-101.
+/// Why a call was refused: document 01's numbers, 17 of M-101 and 18 of M-107.
 ///
 /// ```
 /// use oliastrofu::Cause;
@@ -46,6 +46,9 @@ pub enum Cause {
     /// 17: an operation's opcode is assigned, and its value is not below the field's size, or not 0
     /// where its kind has none.
     Value,
+    /// 18: read strictly, the block is not one that batching makes: batching its own operations, its
+    /// padding left out, makes another; or they are none, or over 16,384.
+    Unfinished,
     /// A number that stands for nothing.
     Other(u8),
 }
@@ -71,6 +74,7 @@ impl Cause {
             15 => Self::Structure,
             16 => Self::Commitment,
             17 => Self::Value,
+            18 => Self::Unfinished,
             other => Self::Other(other),
         }
     }
@@ -95,6 +99,7 @@ impl Cause {
             Self::Structure => 15,
             Self::Commitment => 16,
             Self::Value => 17,
+            Self::Unfinished => 18,
             Self::Other(number) => number,
         }
     }
@@ -121,6 +126,9 @@ impl Cause {
             Self::Value => {
                 "an operation's value is not below the field's size, or not 0 where its kind has none"
             }
+            Self::Unfinished => {
+                "the block is not finished: batching its own operations does not make it"
+            }
             Self::Other(_) => "a number without a meaning",
         }
     }
@@ -133,6 +141,21 @@ impl Cause {
 /// let refusal = Refusal { cause: Cause::Nibble, place: 2 };
 /// assert_eq!(refusal.number(), 6);
 /// assert_eq!(refusal.to_string(), "refusal 6: a group's length is over 9, in batch 2");
+/// ```
+///
+/// A block that can be read, and is not one that batching makes, is refused only by strict reading:
+///
+/// ```
+/// use oliastrofu::{VM_TABLE, decode, decode_strict};
+/// // One operation, and a batch without any after its own.
+/// let bytes = [3, 1, 2, 0, 0, 0, 1, 0, 0, 0, 0, 0, 0, 0, 0, 0];
+/// assert!(decode(&VM_TABLE, &bytes, 0).is_ok());
+/// let refusal = decode_strict(&VM_TABLE, &bytes, 0).unwrap_err();
+/// assert_eq!(
+///     refusal.to_string(),
+///     "refusal 18: the block is not finished: batching its own operations does not make it, in \
+///      batch 1"
+/// );
 /// ```
 ///
 /// An opcode and a value at fault are two causes:
@@ -149,8 +172,9 @@ impl Cause {
 pub struct Refusal {
     pub cause: Cause,
     /// Counted from 0, the first at fault: a byte of the buffer for 2, an operation for 4 and 17, a
-    /// batch for 6 to 10, 15 and 16, otherwise 0. For 15 it is the number of batches if only their
-    /// sum is wrong.
+    /// batch for 6 to 10, 15, 16 and 18, otherwise 0. For 15 it is the number of batches if only
+    /// their sum is wrong; for 18 it is 0, too, if the block has no operations of its own, or over
+    /// 16,384 of them.
     pub place: usize,
 }
 
@@ -190,6 +214,13 @@ impl fmt::Display for Refusal {
                 ", in batch {place} (or, if there are {place} batches, in how many operations they \
                  cover)"
             ),
+            Cause::Unfinished if place == 0 => {
+                write!(
+                    f,
+                    ", in batch 0 (or these operations are none, or over 16,384)"
+                )
+            }
+            Cause::Unfinished => write!(f, ", in batch {place}"),
             _ => Ok(()),
         }
     }

@@ -4,7 +4,8 @@
 use std::thread;
 
 use oliastrofu::{
-    Arena, Block, Cause, PaddedIndex, RECORD, RawIndex, Refusal, VM_TABLE, build, encode, le,
+    Arena, Block, Cause, PaddedIndex, RECORD, RawIndex, Refusal, VM_TABLE, build, decode_strict,
+    encode, le,
     lent::{self, Built, Decoded},
 };
 
@@ -85,6 +86,11 @@ fn any_room() {
         values: &values,
         records: &block.records,
     };
+    // Not finished: the last batch has a flag above its count.
+    let mut other = coded.clone();
+    *other.last_mut().expect("a flag") |= 0x80;
+    let refusal = decode_strict(&VM_TABLE, &other, 0).expect_err("a flag above the count");
+    assert_eq!(refusal.cause, Cause::Unfinished);
     let need = block.codes.len();
     for room in [
         0,
@@ -101,6 +107,20 @@ fn any_room() {
             let mut out = Filled::new(room, left);
             let numbers = lent::decode(&VM_TABLE, &coded, 0, out.numbers());
             assert_eq!(le::decode(&VM_TABLE, &coded, 0, out.bytes()), numbers);
+            assert!(out.same());
+
+            let mut out = Filled::new(room, left);
+            let numbers = lent::decode_strict(&VM_TABLE, &coded, 0, out.numbers());
+            let numbers = numbers.map(|read| (read.listed(), read.used()));
+            let strict = le::decode_strict(&VM_TABLE, &coded, 0, out.bytes());
+            assert_eq!(strict.map(|read| (read.listed(), read.used())), numbers);
+            assert!(out.same());
+
+            let mut out = Filled::new(room, left);
+            let numbers = lent::decode_strict(&VM_TABLE, &other, 0, out.numbers());
+            let numbers = numbers.map(|read| read.used());
+            let strict = le::decode_strict(&VM_TABLE, &other, 0, out.bytes());
+            assert_eq!(strict.map(|read| read.used()), numbers);
             assert!(out.same());
 
             let mut out = Filled::new(room, left);
@@ -214,6 +234,11 @@ fn stack() {
         Ok(read)
     );
     assert_eq!(
+        within(FEW, || le::decode_strict(&VM_TABLE, &coded, 0, out.bytes())
+            .map(|finished| finished.used())),
+        Ok(used)
+    );
+    assert_eq!(
         within(FEW, || le::encode(&VM_TABLE, lent, &mut buffer, 0)),
         Ok(used)
     );
@@ -231,6 +256,16 @@ fn stack() {
     assert_eq!(
         within(ANY, || le::decode(&VM_TABLE, &coded, 0, long.bytes())),
         Ok(read)
+    );
+    assert_eq!(
+        within(ANY, || le::decode_strict(
+            &VM_TABLE,
+            &coded,
+            0,
+            long.bytes()
+        )
+        .map(|finished| finished.used())),
+        Ok(used)
     );
     let made = within(2 * ANY, || {
         le::build(&VM_TABLE, lent.codes, lent.values, long.bytes())

@@ -2,7 +2,7 @@
 
 use oliastrofu::{
     Arena, Batch, Block, Cause, PaddedIndex, RECORD, RawIndex, Refusal, VM_TABLE, boundary, build,
-    commitment, decode, encode, group_of, head,
+    commitment, decode, decode_strict, encode, group_of, head,
     lent::{self, Outputs},
     next_group, padded_index, padded_table, padding, raw_index, raw_table, structure,
 };
@@ -52,11 +52,11 @@ fn every_number_has_words() {
         };
         let words = refusal.to_string();
         assert!(words.starts_with(&format!("refusal {number}: ")));
-        let placed = [2, 4, 6, 7, 8, 9, 10, 15, 16, 17].contains(&number);
+        let placed = [2, 4, 6, 7, 8, 9, 10, 15, 16, 17, 18].contains(&number);
         assert_eq!(words.contains("9876"), placed, "{words}");
         assert_eq!(
             matches!(cause, Cause::Other(_)),
-            !(1..=17).contains(&number)
+            !(1..=18).contains(&number)
         );
     }
 }
@@ -65,7 +65,7 @@ fn every_number_has_words() {
 #[test]
 fn the_words_of_the_programs() {
     let listing = include_str!("../../../crates/listing/src/lib.rt");
-    for number in 1..=17 {
+    for number in 1..=18 {
         let (_, arm) = listing
             .split_once(&format!("        {number} => say("))
             .unwrap();
@@ -96,6 +96,20 @@ fn the_words_of_an_operation_at_fault() {
         "refusal 17: an operation's value is not below the field's size, or not 0 where its kind \
          has none, operation 3"
     );
+}
+
+#[test]
+fn the_words_of_an_unfinished_block() {
+    let words = |place| {
+        let cause = Cause::Unfinished;
+        Refusal { cause, place }.to_string()
+    };
+    let front =
+        "refusal 18: the block is not finished: batching its own operations does not make it";
+    assert_eq!(words(3), format!("{front}, in batch 3"));
+    // 0 is also the place where there is no list to batch.
+    let or = "(or these operations are none, or over 16,384)";
+    assert_eq!(words(0), format!("{front}, in batch 0 {or}"));
 }
 
 /// The field's size.
@@ -200,6 +214,12 @@ fn there_and_back() -> Result<(), Refusal> {
         commitment(&VM_TABLE, &block)?;
         let bytes = encode(&VM_TABLE, &block)?;
         assert_eq!(decode(&VM_TABLE, &bytes, 0)?, (block.clone(), bytes.len()));
+        let finished = decode_strict(&VM_TABLE, &bytes, 0)?;
+        assert_eq!((finished.listed(), finished.used()), (size, bytes.len()));
+        assert_eq!(finished.list(), (codes.clone(), values.clone()));
+        assert_eq!(*finished.lent(), block.arena());
+        assert_eq!(finished.lent().listed(), size);
+        assert_eq!(finished.into_block(), block);
         let batches: Vec<Batch> = block.batches().collect();
         let same = Block::new(block.codes.clone(), block.values.clone(), &batches);
         assert_eq!(same, block);
@@ -271,11 +291,145 @@ fn flags_above_the_count() -> Result<(), Refusal> {
             paddings += batch.paddings().count();
         }
         assert_eq!(read.codes.len(), size + paddings);
+        // The batch without groups is the first that no batching makes.
+        let refusal = decode_strict(&VM_TABLE, &bytes, 0).unwrap_err();
+        assert_eq!((refusal.cause, refusal.place), (Cause::Unfinished, 0));
     }
     // A flagged empty group under the count.
     let bytes = [3, 1, 1, 0, 0, 0, 0x10, 0, 0, 0, 0b1111_1101];
     let refusal = decode(&VM_TABLE, &bytes, 0).unwrap_err();
     assert_eq!((refusal.cause, refusal.place), (Cause::Padding, 0));
+    Ok(())
+}
+
+/// What batching the own operations of a block makes, read without strictness.
+fn made_again(block: &Block) -> Option<Block> {
+    let mut own = (Vec::new(), Vec::new());
+    let mut from = 0;
+    for batch in block.batches() {
+        let paddings: Vec<usize> = (batch.paddings())
+            .map(|group| usize::from(batch.starts[group + 1]) - 1)
+            .collect();
+        for index in (0..batch.operations()).filter(|index| !paddings.contains(index)) {
+            own.0.push(block.codes[from + index]);
+            own.1.push(block.values[from + index]);
+        }
+        from += batch.operations();
+    }
+    build(&VM_TABLE, &own.0, &own.1).ok()
+}
+
+/// Strict reading takes a block exactly if batching its own operations makes it, and names the first
+/// batch that differs; in every form.
+#[test]
+fn only_finished_blocks() -> Result<(), Refusal> {
+    let mut seed = Seed(0x51ab_9c03_77d2_640f);
+    let (mut finished, mut first, mut later, mut listless) = (0, 0, 0, 0);
+    for turn in 0..6_000 {
+        let size = seed.under(if turn % 50 == 0 { 300 } else { 24 });
+        let codes: Vec<u8> = (0..size).map(|_| [91, 1, 0, 32][seed.under(4)]).collect();
+        // One or two blocks' batches: two are one that no batching makes, but for a few.
+        let cut = [size, seed.under(size + 1)][turn % 2];
+        let mut block = Block::default();
+        for part in [&codes[..cut], &codes[cut..]] {
+            if !part.is_empty() {
+                let more = build(&VM_TABLE, part, &vec![0; part.len()])?;
+                block.codes.extend(more.codes);
+                block.values.extend(more.values);
+                block.records.extend(more.records);
+            }
+        }
+        if seed.under(4) == 0 {
+            let at = seed.under(block.batches().len() + 1) * RECORD;
+            block.records.splice(at..at, Batch::default().record());
+        }
+        let mut bytes = vec![7; seed.under(3)];
+        let at = bytes.len();
+        bytes.extend(encode(&VM_TABLE, &block)?);
+        if seed.under(3) == 0 && bytes.len() > at + 5 {
+            // A flag, or a flag less.
+            let last = bytes.len() - 1 - seed.under(block.batches().len());
+            bytes[last] ^= 1 << seed.under(8);
+        }
+        let used = bytes.len() - at;
+        bytes.extend(vec![7; seed.under(3)]);
+
+        let want = decode(&VM_TABLE, &bytes, at).and_then(|(block, _)| {
+            let made = made_again(&block);
+            let batches = |block: &Block| block.batches().collect::<Vec<_>>();
+            let made_batches = made.as_ref().map(batches);
+            let place = match &made_batches {
+                None => Some(0),
+                Some(made) => (batches(&block).iter())
+                    .enumerate()
+                    .position(|(i, batch)| made.get(i) != Some(batch)),
+            };
+            match place {
+                None => {
+                    finished += 1;
+                    assert_eq!(made.as_ref(), Some(&block));
+                    Ok(block)
+                }
+                Some(place) => {
+                    match (made, place) {
+                        (None, _) => listless += 1,
+                        (_, 0) => first += 1,
+                        _ => later += 1,
+                    }
+                    let cause = Cause::Unfinished;
+                    Err(Refusal { cause, place })
+                }
+            }
+        });
+        let got = decode_strict(&VM_TABLE, &bytes, at);
+        assert!(got.iter().all(|read| read.used() == used));
+        assert_eq!(got.map(|read| read.into_block()), want);
+
+        let room = 2 * size + 40;
+        let mut out = (vec![9; room], vec![9; room], vec![9; room * RECORD]);
+        let lent = Outputs {
+            codes: &mut out.0,
+            values: &mut out.1,
+            records: &mut out.2,
+        };
+        let got = lent::decode_strict(&VM_TABLE, &bytes, at, lent);
+        assert_eq!(
+            got.map(|read| *read),
+            want.as_ref().map(Block::arena).map_err(|r| *r)
+        );
+        let filled = want.as_ref().map_or(0, |block| block.codes.len());
+        assert!(out.0[filled..].iter().all(|&code| code == 0));
+        assert!(out.1[filled..].iter().all(|&value| value == 0));
+        let filled = want.as_ref().map_or(0, |block| block.records.len());
+        assert!(out.2[filled..].iter().all(|&byte| byte == 0));
+    }
+    assert!(finished > 1_000 && first > 1_000 && later > 100 && listless > 100);
+    Ok(())
+}
+
+/// 16,384 operations of its own, and not one more; whatever the batches.
+#[test]
+fn the_longest_finished_block() -> Result<(), Refusal> {
+    for (whole, rest) in [(227, 39), (227, 40), (227, 41), (228, 0)] {
+        let part = |size| build(&VM_TABLE, &vec![1; size], &vec![0; size]);
+        let mut block = Block::default();
+        for size in (0..whole).map(|_| 72).chain([rest]).filter(|&n| n > 0) {
+            let more = part(size)?;
+            block.codes.extend(more.codes);
+            block.values.extend(more.values);
+            block.records.extend(more.records);
+        }
+        let operations = whole * 72 + rest;
+        let bytes = encode(&VM_TABLE, &block)?;
+        let read = decode_strict(&VM_TABLE, &bytes, 0);
+        if operations <= 16_384 {
+            assert_eq!(read?.listed(), operations);
+            continue;
+        }
+        assert!(decode(&VM_TABLE, &bytes, 0).is_ok());
+        let refusal = read.unwrap_err();
+        assert_eq!((refusal.number(), refusal.place), (18, 0));
+    }
     Ok(())
 }
 
@@ -287,6 +441,12 @@ fn no_want_of_room() {
     assert_eq!((refusal.number(), refusal.place), (2, 1));
     let refusal = decode(&VM_TABLE, &[201, 6], 0).unwrap_err();
     assert_eq!((refusal.number(), refusal.place), (4, 0));
+    let refusal = decode_strict(&VM_TABLE, &[201, 6], 0).unwrap_err();
+    assert_eq!((refusal.number(), refusal.place), (4, 0));
+    // Ten batches, nine of them empty: more than are likely.
+    let bytes = [&[3, 1, 10, 0, 0, 0, 1][..], &[0; 49]].concat();
+    let refusal = decode_strict(&VM_TABLE, &bytes, 0).unwrap_err();
+    assert_eq!((refusal.number(), refusal.place), (18, 1));
     let refusal = build(&VM_TABLE, &[1; 16_385], &[0; 16_385]).unwrap_err();
     assert_eq!(refusal.cause, Cause::Limit);
 }
@@ -304,10 +464,12 @@ fn no_room_is_kept() -> Result<(), Refusal> {
         buffer[9_999..][..bytes.len()].copy_from_slice(&bytes);
         let (read, used) = decode(&VM_TABLE, &buffer, 9_999)?;
         assert_eq!((&read, used), (&built, bytes.len()));
+        let finished = decode_strict(&VM_TABLE, &buffer, 9_999)?;
+        assert_eq!(finished.used(), used);
         let head = head(&VM_TABLE, &buffer, 9_999)?;
         assert_eq!(head.operations, read.codes.len());
         assert_eq!(head.batches, read.batches().len());
-        for block in [built, read] {
+        for block in [built, read, finished.into_block()] {
             assert_eq!(block.codes.capacity(), block.codes.len());
             assert_eq!(block.values.capacity(), block.values.len());
             assert_eq!(block.records.capacity(), block.records.len());
@@ -350,16 +512,16 @@ fn anything_is_answered() {
             values: seed.numbers(30),
             records: seed.bytes(200),
         };
-        for decoding in [true, false] {
+        for decoder in [2, 1, 0] {
             let lent = Outputs {
                 codes: &mut out.codes,
                 values: &mut out.values,
                 records: &mut out.records,
             };
-            let refused = if decoding {
-                lent::decode(&table, &bytes, at, lent).is_err()
-            } else {
-                lent::build(&table, &codes, &values, lent).is_err()
+            let refused = match decoder {
+                2 => lent::decode_strict(&table, &bytes, at, lent).is_err(),
+                1 => lent::decode(&table, &bytes, at, lent).is_err(),
+                _ => lent::build(&table, &codes, &values, lent).is_err(),
             };
             if refused {
                 assert!(out.codes.iter().chain(&out.records).all(|&byte| byte == 0));
@@ -394,6 +556,7 @@ fn anything_is_answered() {
         // The forms with room of their own.
         let _ = build(&VM_TABLE, &codes, &values);
         let _ = decode(&VM_TABLE, &bytes, at);
+        let _ = decode_strict(&VM_TABLE, &bytes, at);
         let block = Block {
             codes,
             values,

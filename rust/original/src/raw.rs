@@ -31,6 +31,12 @@ pub fn decode(bytes: &[u8], offset: u32) -> Result<Vec<OpBatch>, Deserialization
     serialization::decode(bytes, offset)
 }
 
+/// The operations without padding.
+#[inline]
+pub fn list(node: &BasicBlockNode) -> Vec<Operation> {
+    node.raw_operations().copied().collect()
+}
+
 #[inline]
 pub fn structure(node: &BasicBlockNode) -> Result<(), String> {
     access::structure(node)

@@ -393,3 +393,67 @@ fn lookups_do_not_look_at_structure() {
     falling.starts[1] = 1;
     assert_eq!(next_op_group_index(&falling, 0), Ok(Some(1)));
 }
+
+// STRICT READING: the original takes what 02's M-107 refuses with 18.
+// ================================================================================================
+
+/// Blocks that can be read and that no batching makes: read, and batched again without padding, they
+/// are other blocks.
+#[test]
+fn blocks_that_no_batching_makes_are_taken() {
+    let again = |bytes: &[u8]| {
+        let (read, used) = decode(bytes, 0).unwrap();
+        assert_eq!(used, bytes.len());
+        let list = raw_operations(&read).unwrap();
+        let made = batch(&list);
+        assert_ne!(made.as_ref().ok(), Some(&read));
+        if let Ok(made) = &made {
+            assert_ne!(encode(made).unwrap(), bytes);
+        }
+        (list, made.map_err(|refused| refused.number))
+    };
+    // Nothing of its own: no batch, an empty one, a flagged Noop.
+    let nothing: [&[u8]; 3] = [
+        &[1, 0, 0, 0, 0],
+        &[1, 1, 0, 0, 0, 0, 0, 0, 0, 0],
+        &[3, 0, 1, 0, 0, 0, 1, 0, 0, 0, 1],
+    ];
+    for bytes in nothing {
+        assert_eq!(again(bytes), (vec![], Err(12)));
+    }
+    let one: [&[u8]; 4] = [
+        // An empty batch after it; before it; in group 1; a flag above the count.
+        &[3, 2, 2, 0, 0, 0, 1, 0, 0, 0, 0, 0, 0, 0, 0, 0],
+        &[3, 2, 2, 0, 0, 0, 0, 0, 0, 0, 1, 0, 0, 0, 0, 0],
+        &[3, 2, 1, 0, 0, 0, 0x10, 0, 0, 0, 0],
+        &[3, 2, 1, 0, 0, 0, 1, 0, 0, 0, 2],
+    ];
+    for bytes in one {
+        assert_eq!(again(bytes).0, [PLAIN]);
+    }
+    // Two batches; two groups; a Noop of its own flagged.
+    let two: [&[u8]; 2] = [
+        &[5, 2, 2, 2, 0, 0, 0, 1, 0, 0, 0, 1, 0, 0, 0, 0, 0],
+        &[5, 2, 2, 1, 0, 0, 0, 0x11, 0, 0, 0, 0],
+    ];
+    for bytes in two {
+        assert_eq!(again(bytes).0, [PLAIN; 2]);
+    }
+    let flagged = [5, 2, 0, 1, 0, 0, 0, 2, 0, 0, 0, 1];
+    assert_eq!(again(&flagged).0, [PLAIN]);
+    // An immediate without its padding; three groups.
+    let unpadded = [3, 91, 5, 0, 0, 0, 0, 0, 0, 0, 1, 0, 0, 0, 1, 0, 0, 0, 0];
+    assert_eq!(again(&unpadded).0, [PUSH]);
+    let three = [&[39][..], &[2; 19], &[1, 0, 0, 0, 0x99, 1, 0, 0, 0]].concat();
+    assert_eq!(again(&three).0, [PLAIN; 19]);
+}
+
+/// Over 16,384 operations: read and batched, and the same block.
+#[test]
+fn a_long_list_is_read_and_batched() {
+    let made = batch(&vec![PLAIN; 16_385]).unwrap();
+    let bytes = encode(&made).unwrap();
+    let (read, _) = decode(&bytes, 0).unwrap();
+    assert_eq!(read, made);
+    assert_eq!(raw_operations(&read).unwrap().len(), 16_385);
+}

@@ -17,10 +17,11 @@
 //! | 9, a | padded index, raw index | RUN entries, index | found, index | |
 //! | b | group | RUN record, index | number, place, found, group, position | |
 //! | c | next group | RUN record, group | number, place, found, group | |
+//! | d | decode strict | as decode | as decode | as decode |
 //!
 //! A RUN is its length, then how many of its items are given, then those items. The items after
-//! them are all like the last one given, or 0 if none is. Build, encode, decode and commitment
-//! work under the table of the last line with 0. Outputs are whole, in the lent lengths.
+//! them are all like the last one given, or 0 if none is. Build, encode, decode, decode strict and
+//! commitment work under the table of the last line with 0. Outputs are whole, in the lent lengths.
 //!
 //! In original.txt the numbers are the original's own, and a place of ffffffffffffffff says that
 //! the original names none. That the totals are 0 and the outputs zero where it refuses is
@@ -142,6 +143,12 @@ impl File {
                 bytes,
                 at,
                 room,
+            }
+            | Call::Strict {
+                table,
+                bytes,
+                at,
+                room,
             } => {
                 self.under(table);
                 line.run(bytes);
@@ -183,7 +190,7 @@ impl File {
             line.size(number);
         }
         match call.function() {
-            Function::Build | Function::Decode => {
+            Function::Build | Function::Decode | Function::Strict => {
                 line.run(&answer.codes);
                 line.run(&answer.values);
                 line.run(&answer.records);
@@ -202,7 +209,7 @@ pub fn rest(function: Function) -> usize {
         Function::Structure | Function::Padding | Function::Commitment => 0,
         Function::Encode | Function::RawTable | Function::PaddedTable => 1,
         Function::Build | Function::PaddedIndex | Function::RawIndex | Function::NextGroup => 2,
-        Function::Decode | Function::Group => 3,
+        Function::Decode | Function::Group | Function::Strict => 3,
     }
 }
 
@@ -224,7 +231,7 @@ fn longest(call: Call<'_>) -> usize {
             buffer,
             ..
         } => arena(lent).max(buffer.len()),
-        Call::Decode { bytes, .. } => bytes.len(),
+        Call::Decode { bytes, .. } | Call::Strict { bytes, .. } => bytes.len(),
         Call::Structure { arena: lent }
         | Call::Padding { arena: lent }
         | Call::Commitment { arena: lent, .. }
@@ -348,6 +355,8 @@ fn ask(call: Call<'_>) -> Option<Answer> {
         }
         // They need a block: `lookups`.
         Call::PaddedIndex { .. } | Call::RawIndex { .. } => None,
+        // The original has no strict decoder.
+        Call::Strict { .. } => None,
         Call::Group { record, index } => {
             let found = original::op_idx_in_batch_to_group(&one(record)?, index).ok()?;
             Some(match found {

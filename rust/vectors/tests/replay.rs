@@ -3,6 +3,7 @@
 
 use std::{collections::BTreeMap, fs};
 
+use compare::run::strictly;
 use model::{Answer, Arena, Call, Function, RECORD, Room, answer};
 use vectors::{agree, rest};
 
@@ -63,7 +64,7 @@ impl Numbers {
             answer.rest[i] = self.size();
         }
         match function {
-            Function::Build | Function::Decode => {
+            Function::Build | Function::Decode | Function::Strict => {
                 answer.codes = self.bytes();
                 answer.values = self.run();
                 answer.records = self.bytes();
@@ -114,15 +115,19 @@ fn replay(text: &str) -> (Seen, Seen) {
                 };
                 (answer(call), numbers.answer(function))
             }
-            Function::Decode => {
+            Function::Decode | Function::Strict => {
                 let bytes = numbers.bytes();
                 let at = numbers.size();
                 let room = numbers.room();
-                let call = Call::Decode {
+                let decode = Call::Decode {
                     table: &table,
                     bytes: &bytes,
                     at,
                     room,
+                };
+                let call = match function {
+                    Function::Decode => decode,
+                    _ => strictly(decode),
                 };
                 (answer(call), numbers.answer(function))
             }
@@ -267,6 +272,9 @@ fn each_file_can_be_replayed() {
 
     // Whether a value is in the field, the stand-in decides.
     assert!(seen.keys().all(|&(_, number)| number != 17));
+    // It has no strict decoder.
+    let strict = |&(function, _): &(Function, u8)| function == Function::Strict;
+    assert!(!seen.keys().any(strict));
 
     let (mut seen, kept) = replay(&model);
     each_takes_kept(&kept, 5);
@@ -281,10 +289,16 @@ fn each_file_can_be_replayed() {
             assert!(times >= 6, "{function:?} {number}: {times}");
         }
     }
-    for (key, times) in replay(&limits).0 {
+    let times = seen[&(Function::Strict, 18)];
+    assert!(times >= 25, "{times}");
+    let limits = replay(&limits).0;
+    for number in [0, 18] {
+        assert!(limits.contains_key(&(Function::Strict, number)), "{number}");
+    }
+    for (key, times) in limits {
         *seen.entry(key).or_default() += times;
     }
-    let want: [(Function, &[u8]); 12] = [
+    let want: [(Function, &[u8]); 13] = [
         (Function::Build, &[0, 3, 4, 12, 13, 14, 17]),
         (Function::Encode, &[0, 1, 3, 4, 13, 14, 15, 17]),
         (
@@ -300,6 +314,10 @@ fn each_file_can_be_replayed() {
         (Function::RawIndex, &[0]),
         (Function::Group, &[0, 3, 15]),
         (Function::NextGroup, &[0, 3, 15]),
+        (
+            Function::Strict,
+            &[0, 1, 2, 3, 4, 5, 6, 7, 8, 9, 10, 11, 13, 14, 17, 18],
+        ),
     ];
     for (function, numbers) in want {
         for &number in numbers {
