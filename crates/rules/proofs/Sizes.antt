@@ -2,14 +2,14 @@
 use mathlib.Core.Path.{_≡_, refl, ap, _∙_}
 use mathlib.Core.Bool.{Bool, false}
 use mathlib.Core.List.{List, [], _∷_}
-use Prim.Native.Nat.{ℕ, zero, suc, _+_, _*_, _^_, _≤_, _<_}
+use Prim.Native.Nat.{ℕ, zero, suc, _+_, _*_, _/_, _^_, _≤_, _<_}
 use native.Mathlib.Omega.{arith}
 use borrow.Author.Tests.{lt-ltb, le-ltb}
 use lib.ListN.{length, replicate, length-append, length-map, length-replicate}
 use lib.Dec.{eqb}
 use Rattle.rules.specs.Digits.{number, leBytes}
 use Rattle.rules.specs.Operations.{Op, codes, values}
-use Rattle.rules.specs.Record.{Record, startsFrom, differences, wordBytes, bytesAt, wordsAt}
+use Rattle.rules.specs.Record.{Record, startsFrom, differences, recordSize, wordBytes, bytesAt, wordsAt, recordsFrom, recordsIn}
 use Rattle.rules.specs.Lookups.{marksIn}
 use Rattle.rules.specs.Bytes.{more, countBytes, nibbleBytes, flagBytes}
 use Rattle.rules.proofs.Digits.{length-leBytes}
@@ -44,6 +44,15 @@ pub length-wordsAt : (k : ℕ) (s : List ℕ) (at : ℕ) → length (wordsAt k s
 unfolding wordsAt
 length-wordsAt zero s at = refl
 length-wordsAt (suc k) s at = ap suc (length-wordsAt k s (at + 8))
+
+length-from : (k : ℕ) (s : List ℕ) (b : ℕ) → length (recordsFrom k s b) ≡ k
+unfolding recordsFrom
+length-from zero s b = refl
+length-from (suc k) s b = ap suc (length-from k s (b + 1))
+
+pub length-records : (rs : List ℕ) → length (recordsIn rs) ≡ length rs / recordSize
+unfolding recordsIn
+length-records rs = length-from (length rs / recordSize) rs 0
 
 -- ---- the items of a block's bytes
 

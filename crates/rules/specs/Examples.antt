@@ -5,6 +5,7 @@ use mathlib.Core.Bool.{true, false}
 use mathlib.Core.List.{List, [], _∷_, _++_, map}
 use mathlib.Core.Option.{Option, none, some}
 use Prim.Native.Nat.{ℕ, _+_, _-_, _*_}
+use lib.IntN.{pos, negsuc}
 use lib.ListN.{length, replicate}
 use Rattle.rules.specs.Lists.{butLast}
 use Rattle.rules.specs.Answer.{Answer, good, refused, Read, found, itemOf, refuseFirst}
@@ -15,7 +16,8 @@ use Rattle.rules.specs.Bytes.{countAt, countBytes}
 use Rattle.rules.specs.Block.{Room, Head}
 use Rattle.rules.specs.Lookups.{Place, nextGroup, rawAt, paddedAt, paddedIndex, rawIndex}
 use Rattle.rules.specs.Strict.{ownList, differing, refuseUnfinished}
-use Rattle.rules.specs.Functions.{Arena, arena, blockIn, roomIn, filled, built, encoded, written, decoded, strictlyDecoded, Totals, totals, lengthTold, used, countHere, opHere, headed, structureChecked, paddingChecked, commitmentChecked, rawTabled, paddedTabled, tableLeft, groupLookup, nextLookup, leaves}
+use Rattle.rules.specs.Compare.{batchTotal, paddedTotal, rawTotal, paddingsIn, paddingTotal, entryAt, entryBy, blocksApart, entrySize, entryNumbers}
+use Rattle.rules.specs.Functions.{Arena, arena, blockIn, roomIn, filled, built, encoded, written, decoded, strictlyDecoded, Side, Compared, reported, refusedBy, compared, reportLeft, Totals, totals, lengthTold, used, countHere, opHere, headed, structureChecked, paddingChecked, commitmentChecked, rawTabled, paddedTabled, tableLeft, groupLookup, nextLookup, leaves}
 use Rattle.rules.specs.Open.{document}
 
 -- "Table T: opcodes 0 and 2 kind 0, opcode 1 kind 1, opcode 3 kind 2, the rest 3."
@@ -812,6 +814,154 @@ pub record OfStrict : Type 0 where
   pub leaves-zeros : filled (arena (replicate 3 7) (replicate 4 7) (replicate 85 7)) (leaves noBlock (itemOf (strict (laid 1 (2 ∷ []) 1 (low 1) (0x02 ∷ [])) 0))) ≡ arena (zeros 3) (zeros 4) (zeros 85)
   pub used-told : (used 2 (strict ((7 ∷ 7 ∷ []) ++ (p2 ++ (7 ∷ []))) 2) ≡ 20) × (used 0 (strict (laid 1 (2 ∷ []) 1 (low 1) (0x02 ∷ [])) 0) ≡ 0)
 
+-- ---- M-105: "Two blocks, each with its own offset and table. Report, in order .."
+
+-- where bytes are read under table T: from a place on, with ample room
+abbrev pub from : ℕ → List ℕ → Side
+from at s = record { table = tableT; bytes = s; at = at; room = ample }
+
+abbrev pub under : List ℕ → List ℕ → Side
+under t s = record { table = t; bytes = s; at = 0; room = ample }
+
+abbrev pub into : Room → List ℕ → Side
+into space s = record { table = tableT; bytes = s; at = 0; room = space }
+
+-- two blocks from the first byte on, with room for a hundred entries
+abbrev pub compare : List ℕ → List ℕ → Compared
+compare s₁ s₂ = compared 8 (from 0 s₁) (from 0 s₂) 100
+
+-- table T with opcode 1 of kind 2: a value carried and not placed
+abbrev pub tableC : List ℕ
+tableC = 0 ∷ 2 ∷ 0 ∷ 2 ∷ replicate 124 3
+
+-- bytes: operation 1 with a value; P1 with its Noop unflagged
+abbrev pub pushOf : ℕ → List ℕ
+pushOf v = 1 ∷ v ∷ zeros 7
+
+abbrev pub unflagged : List ℕ
+unflagged = laid 2 (push ++ (0 ∷ [])) 1 (low 2) (0 ∷ [])
+
+abbrev pub six : List ℕ
+six = laid 2 (pushOf 6 ++ (0 ∷ [])) 1 (low 2) (1 ∷ [])
+
+-- bytes: two of operation 1 in one batch, with these values
+abbrev pub twoPushes : ℕ → ℕ → List ℕ
+twoPushes u v = laid 3 (pushOf u ++ (pushOf v ++ (0 ∷ []))) 1 (low 3) (1 ∷ [])
+
+-- bytes: one, two and three batches of one operation of opcode 2; no batch
+abbrev pub one : List ℕ
+one = bare 1 (low 1)
+
+abbrev pub two : List ℕ
+two = laid 2 (2 ∷ 2 ∷ []) 2 (low 1 ++ low 1) (zeros 2)
+
+abbrev pub more : List ℕ
+more = laid 3 (2 ∷ 2 ∷ 2 ∷ []) 3 (low 1 ++ (low 1 ++ low 1)) (zeros 3)
+
+abbrev pub none-there : List ℕ
+none-there = laid 0 [] 0 [] []
+
+-- bytes: P1's batch, and one with an operation of opcode 2 more before the padding
+abbrev pub longer : List ℕ
+longer = laid 5 (push ++ (0 ∷ (push ++ (2 ∷ 0 ∷ [])))) 2 (low 2 ++ low 3) (1 ∷ 1 ∷ [])
+
+-- bytes: an operation of opcode 2, and one of opcode 3 in a batch of its own, whose value is carried
+abbrev pub carried : ℕ → List ℕ
+carried v = laid 2 (2 ∷ 3 ∷ v ∷ zeros 7) 2 (low 1 ++ low 1) (zeros 2)
+
+-- bytes: an operation in group 4
+abbrev pub fifth : List ℕ
+fifth = bare 1 (0 ∷ 0 ∷ 1 ∷ 0 ∷ [])
+
+pub record OfCompare : Type 0 where
+  -- nothing differs: a block and itself, also at another place and with no room for an entry; blocks of no batch
+  pub P1-itself : compare p2 p2 ≡ reported []
+  pub P1-within : compared 8 (from 2 ((7 ∷ 7 ∷ []) ++ (p2 ++ (7 ∷ [])))) (from 0 p2) 0 ≡ reported []
+  pub P1-first-within : compared 8 (from 0 p2) (from 1 (7 ∷ p2)) 0 ≡ reported []
+  pub long-itself : compare longer longer ≡ reported []
+  pub empty-itself : compare none-there none-there ≡ reported []
+  -- one value: the number of group 1, and operation 0
+  pub value-6 : compare p2 six ≡ reported (entryAt 1 0 1 ∷ entryAt 4 0 0 ∷ [])
+  -- the Noop unflagged is one raw operation more and one padding less
+  pub noop-unflagged : compare p2 unflagged ≡ reported (entryAt 2 0 0 ∷ entryBy 9 (pos 1) ∷ entryBy 10 (negsuc 0) ∷ [])
+  pub noop-flagged : compare unflagged p2 ≡ reported (entryAt 2 0 0 ∷ entryBy 9 (negsuc 0) ∷ entryBy 10 (pos 1) ∷ [])
+  -- "a batch that only one block has is reported as missing on the other side": none of the five others for it
+  pub more-second : compare one two ≡ reported (entryAt 6 1 1 ∷ entryBy 7 (pos 1) ∷ entryBy 8 (pos 1) ∷ entryBy 9 (pos 1) ∷ [])
+  pub more-first : compare two one ≡ reported (entryAt 6 1 2 ∷ entryBy 7 (negsuc 0) ∷ entryBy 8 (negsuc 0) ∷ entryBy 9 (negsuc 0) ∷ [])
+  pub two-more-second : compare one more ≡ reported (entryAt 6 1 1 ∷ entryAt 6 2 1 ∷ entryBy 7 (pos 2) ∷ entryBy 8 (pos 2) ∷ entryBy 9 (pos 2) ∷ [])
+  pub two-more-first : compare more one ≡ reported (entryAt 6 1 2 ∷ entryAt 6 2 2 ∷ entryBy 7 (negsuc 1) ∷ entryBy 8 (negsuc 1) ∷ entryBy 9 (negsuc 1) ∷ [])
+  -- an empty batch against none
+  pub empty-first : compare (bare 0 (low 0)) none-there ≡ reported (entryAt 6 0 2 ∷ entryBy 7 (negsuc 0) ∷ [])
+  pub empty-second : compare none-there (bare 0 (low 0)) ≡ reported (entryAt 6 0 1 ∷ entryBy 7 (pos 1) ∷ [])
+  -- totals of both signs and zero: a batch less, as many padded operations, a raw one more, a padding less; "In its turn" the missing batch is the second
+  pub both-signs : compare (laid 2 (push ++ (0 ∷ [])) 2 (low 2 ++ low 0) (1 ∷ 0 ∷ [])) (bare 2 (low 2)) ≡ reported (entryAt 1 0 0 ∷ entryAt 2 0 0 ∷ entryAt 4 0 0 ∷ entryAt 5 0 0 ∷ entryAt 6 1 2 ∷ entryBy 7 (negsuc 0) ∷ entryBy 9 (pos 1) ∷ entryBy 10 (negsuc 0) ∷ [])
+  -- the same bytes under two tables: the value is placed in a group, or it is not
+  pub two-tables : compared 8 (from 0 p2) (under tableC p2) 100 ≡ reported (entryAt 1 0 1 ∷ entryAt 5 0 0 ∷ [])
+  pub other-tables : compared 8 (under tableC p2) (from 0 p2) 100 ≡ reported (entryAt 1 0 1 ∷ entryAt 5 0 0 ∷ [])
+  -- all five in each of two batches, in order, and three totals
+  pub all-five : compare two longer ≡ reported (entryAt 1 0 0 ∷ entryAt 2 0 0 ∷ entryAt 3 0 0 ∷ entryAt 4 0 0 ∷ entryAt 5 0 0 ∷ entryAt 1 1 0 ∷ entryAt 2 1 0 ∷ entryAt 3 1 0 ∷ entryAt 4 1 0 ∷ entryAt 5 1 0 ∷ entryBy 8 (pos 3) ∷ entryBy 9 (pos 1) ∷ entryBy 10 (pos 2) ∷ [])
+  -- "the first": of two numbers, two operations, two flags, two lengths; and a later one alone
+  pub first-number : compare (twoPushes 5 5) (twoPushes 6 6) ≡ reported (entryAt 1 0 1 ∷ entryAt 4 0 0 ∷ [])
+  pub later-number : compare (twoPushes 5 5) (twoPushes 5 6) ≡ reported (entryAt 1 0 2 ∷ entryAt 4 0 1 ∷ [])
+  pub first-flag : compare one (laid 1 (2 ∷ []) 1 (low 1) (0x0c ∷ [])) ≡ reported (entryAt 2 0 2 ∷ [])
+  pub first-length : compare (bare 3 (low 0x12)) (bare 3 (low 0x21)) ≡ reported (entryAt 1 0 0 ∷ entryAt 3 0 0 ∷ [])
+  pub later-length : compare (bare 3 (0x11 ∷ 0x01 ∷ 0 ∷ 0 ∷ [])) (bare 3 (low 0x21)) ≡ reported (entryAt 1 0 1 ∷ entryAt 3 0 1 ∷ entryAt 5 0 0 ∷ [])
+  -- all eight groups: a kept bit is looked at and is no padding; a group that only one has; an operation in the last group
+  pub kept-last : compare one (laid 1 (2 ∷ []) 1 (low 1) (0x80 ∷ [])) ≡ reported (entryAt 2 0 7 ∷ [])
+  pub group-more : compare one (bare 2 (low 0x11)) ≡ reported (entryAt 1 0 1 ∷ entryAt 3 0 1 ∷ entryAt 5 0 0 ∷ entryBy 8 (pos 1) ∷ entryBy 9 (pos 1) ∷ [])
+  pub last-group : compare (bare 1 (high 0x01)) (bare 1 (high 0x10)) ≡ reported (entryAt 1 0 6 ∷ entryAt 3 0 6 ∷ entryAt 5 0 0 ∷ [])
+  -- "at a place both have": an operation that only one has is not reported, and a Noop more in a group changes no number
+  pub one-longer : compare one (bare 2 (low 2)) ≡ reported (entryAt 1 0 0 ∷ entryAt 3 0 0 ∷ entryBy 8 (pos 1) ∷ entryBy 9 (pos 1) ∷ [])
+  pub longer-first : compare (bare 2 (low 2)) one ≡ reported (entryAt 1 0 0 ∷ entryAt 3 0 0 ∷ entryBy 8 (negsuc 0) ∷ entryBy 9 (negsuc 0) ∷ [])
+  pub noop-more : compare one (laid 2 (2 ∷ 0 ∷ []) 1 (low 2) (0 ∷ [])) ≡ reported (entryAt 3 0 0 ∷ entryBy 8 (pos 1) ∷ entryBy 9 (pos 1) ∷ [])
+  pub padding-more : compare one (laid 2 (2 ∷ 0 ∷ []) 1 (low 2) (1 ∷ [])) ≡ reported (entryAt 2 0 0 ∷ entryAt 3 0 0 ∷ entryBy 8 (pos 1) ∷ entryBy 10 (pos 1) ∷ [])
+  -- what no record covers is in no batch
+  pub covered : blocksApart (block (twos 2) (single ∷ [])) (block (twos 1) (single ∷ [])) ≡ entryBy 8 (negsuc 0) ∷ entryBy 9 (negsuc 0) ∷ []
+  -- "whose opcode or value differs": an opcode, and a value that no number shows, in the second batch, where the place is counted in the batch
+  pub other-opcode : compare one (laid 1 (0 ∷ []) 1 (low 1) (0 ∷ [])) ≡ reported (entryAt 1 0 0 ∷ entryAt 4 0 0 ∷ [])
+  pub other-value : compare (carried 7) (carried 8) ≡ reported (entryAt 4 1 0 ∷ [])
+  pub later-opcode : compare (laid 3 (2 ∷ 2 ∷ 2 ∷ []) 2 (low 1 ++ low 2) (zeros 2)) (laid 3 (2 ∷ 2 ∷ 0 ∷ []) 2 (low 1 ++ low 2) (zeros 2)) ≡ reported (entryAt 1 1 0 ∷ entryAt 4 1 1 ∷ [])
+  -- a place is counted in the batch, paddings among them, whatever groups the two have, and from the start of each side's own batch
+  pub after-padding : compare (laid 3 (2 ∷ 0 ∷ 2 ∷ []) 1 (low 0x12) (1 ∷ [])) (laid 3 (2 ∷ 0 ∷ 0 ∷ []) 1 (low 0x12) (1 ∷ [])) ≡ reported (entryAt 1 0 1 ∷ entryAt 4 0 2 ∷ [])
+  pub padding-there : compare (laid 2 (2 ∷ 0 ∷ []) 1 (low 2) (1 ∷ [])) (bare 2 (low 2)) ≡ reported (entryAt 1 0 0 ∷ entryAt 2 0 0 ∷ entryAt 4 0 1 ∷ entryBy 9 (pos 1) ∷ entryBy 10 (negsuc 0) ∷ [])
+  pub other-groups : compare (laid 2 (2 ∷ 0 ∷ []) 1 (low 0x11) (0 ∷ [])) (bare 2 (low 2)) ≡ reported (entryAt 1 0 0 ∷ entryAt 3 0 0 ∷ entryAt 4 0 1 ∷ entryAt 5 0 0 ∷ [])
+  pub after-longer : compare two (laid 3 (2 ∷ 0 ∷ 2 ∷ []) 2 (low 2 ++ low 1) (zeros 2)) ≡ reported (entryAt 3 0 0 ∷ entryBy 8 (pos 1) ∷ entryBy 9 (pos 1) ∷ [])
+  pub ninth-operation : compare (bare 9 (low 9)) (laid 9 (replicate 8 2 ++ (0 ∷ [])) 1 (low 9) (0 ∷ [])) ≡ reported (entryAt 1 0 0 ∷ entryAt 4 0 8 ∷ [])
+  -- the last group alone; a missing batch with a padding; all eight flags
+  pub last-alone : compare (bare 1 (high 0x10)) (bare 2 (high 0x20)) ≡ reported (entryAt 1 0 7 ∷ entryAt 3 0 7 ∷ entryBy 8 (pos 1) ∷ entryBy 9 (pos 1) ∷ [])
+  pub padded-more : compare p2 (laid 4 (push ++ (0 ∷ (push ++ (0 ∷ [])))) 2 (low 2 ++ low 2) (1 ∷ 1 ∷ [])) ≡ reported (entryAt 6 1 1 ∷ entryBy 7 (pos 1) ∷ entryBy 8 (pos 2) ∷ entryBy 9 (pos 1) ∷ entryBy 10 (pos 1) ∷ [])
+  pub paddings-eight : paddingsIn (is (zeros 9) (replicate 8 1) (zeros 8) 8) ≡ 8
+  -- "only its refusal is given, the first one's if both are, with a mark saying which block": by a lack of bytes, by offset, table and room
+  pub first-refused : compare (3 ∷ 1 ∷ 5 ∷ []) p2 ≡ refusedBy 1 2 1
+  pub second-refused : compare p2 (3 ∷ 1 ∷ 5 ∷ []) ≡ refusedBy 2 2 1
+  pub both-refused : (compared 8 (from 0 (3 ∷ 1 ∷ 5 ∷ [])) (under (3 ∷ []) p2) 100 ≡ refusedBy 1 2 1) × (compared 8 (under (3 ∷ []) p2) (from 0 (3 ∷ 1 ∷ 5 ∷ [])) 100 ≡ refusedBy 1 14 0)
+  pub past-end : (compared 8 (from 21 p2) (from 0 p2) 100 ≡ refusedBy 1 1 0) × (compared 8 (from 0 p2) (from 21 p2) 100 ≡ refusedBy 2 1 0)
+  pub bad-table : (compared 8 (under (3 ∷ []) p2) (from 0 p2) 100 ≡ refusedBy 1 14 0) × (compared 8 (from 0 p2) (under (3 ∷ []) p2) 100 ≡ refusedBy 2 14 0)
+  pub no-room : (compared 8 (into (room 1 2 1) p2) (from 0 p2) 100 ≡ refusedBy 1 13 0) × (compared 8 (from 0 p2) (into (room 2 2 0) p2) 100 ≡ refusedBy 2 13 0)
+  pub just-room : compared 8 (into (room 2 2 1) p2) (into (room 2 2 1) p2) 0 ≡ reported []
+  pub later-place : compare p2 (bare 10 (low 10)) ≡ refusedBy 2 6 0
+  -- "A lent report too short gives 13 last, without a mark": after every refusal of a block; one entry short, none short
+  pub refused-before : (compared 8 (from 0 p2) (from 21 six) 0 ≡ refusedBy 2 1 0) × (compared 8 (from 21 p2) (from 0 six) 0 ≡ refusedBy 1 1 0)
+  pub one-short : compared 8 (from 0 p2) (from 0 six) 1 ≡ refusedBy 0 13 0
+  pub none-short : compared 8 (from 0 p2) (from 0 six) 2 ≡ reported (entryAt 1 0 1 ∷ entryAt 4 0 0 ∷ [])
+  pub nothing-lent : compared 8 (from 0 p2) (from 0 six) 0 ≡ refusedBy 0 13 0
+  -- "and ends zeroed"; the entries, then zeros, four numbers for each
+  pub left-zeroed : (reportLeft 9 (refusedBy 0 13 0) ≡ replicate 9 (pos 0)) × (reportLeft 2 (refusedBy 1 2 3) ≡ replicate 2 (pos 0))
+  pub left-nothing : reportLeft 3 (reported []) ≡ replicate 3 (pos 0)
+  pub left-entries : reportLeft 9 (compare p2 six) ≡ pos 1 ∷ pos 0 ∷ pos 1 ∷ pos 0 ∷ pos 4 ∷ pos 0 ∷ pos 0 ∷ pos 0 ∷ pos 0 ∷ []
+  pub left-batch : reportLeft 4 (compare (carried 7) (carried 8)) ≡ pos 4 ∷ pos 1 ∷ pos 0 ∷ pos 0 ∷ []
+  pub left-missing : reportLeft 8 (compare none-there (bare 0 (low 0))) ≡ pos 6 ∷ pos 0 ∷ pos 1 ∷ pos 0 ∷ pos 7 ∷ pos 0 ∷ pos 0 ∷ pos 1 ∷ []
+  pub left-size : length (entryNumbers (entryAt 1 2 3)) ≡ entrySize
+  pub left-difference : reportLeft 4 (reported (entryBy 10 (negsuc 0) ∷ [])) ≡ pos 10 ∷ pos 0 ∷ pos 0 ∷ negsuc 0 ∷ []
+  pub left-fields : reportLeft 5 (reported (record { kind = 4; batch = 3; place = 2; difference = pos 1 } ∷ [])) ≡ pos 4 ∷ pos 3 ∷ pos 2 ∷ pos 1 ∷ pos 0 ∷ []
+  -- the totals of a block; "only flags under the group count are paddings"
+  pub totals-P7 : (batchTotal p7more ≡ 2) × (paddedTotal p7more ≡ 10) × (rawTotal p7more ≡ 8) × (paddingTotal p7more ≡ 2)
+  pub totals-P6 : (batchTotal p6 ≡ 1) × (paddedTotal p6 ≡ 11) × (rawTotal p6 ≡ 9) × (paddingTotal p6 ≡ 2)
+  pub paddings-under : (paddingsIn (flagged (1 ∷ 1 ∷ zeros 6)) ≡ 1) × (paddingsIn (flagged (0 ∷ replicate 7 1)) ≡ 0) × (paddingsIn nothing ≡ 0)
+  -- by width: what four groups do not hold is refused
+  pub by-width : (compared 4 (from 0 p2) (from 0 p2) 0 ≡ reported []) × (compared 4 (from 0 fifth) (from 0 p2) 100 ≡ refusedBy 1 6 0) × (compared 4 (from 0 p2) (from 0 fifth) 100 ≡ refusedBy 2 6 0)
+  pub width-8 : compare fifth one ≡ reported (entryAt 1 0 0 ∷ entryAt 3 0 0 ∷ entryAt 5 0 0 ∷ [])
+
 -- ---- "Numbers to check": "proved of the rules, together as a single table under one claim"
 
 pub record Numbers : Type 0 where
@@ -850,6 +1000,7 @@ pub record Numbers : Type 0 where
   pub kept : OfKept
   pub faults : OfFaults
   pub strict-reading : OfStrict
+  pub comparison : OfCompare
 
 pub numbers : Numbers
 unfolding document
@@ -1371,4 +1522,73 @@ numbers =
             leaves-zeros = refl;
             used-told = (refl, refl);
           };
+      comparison = record {
+        P1-itself = refl;
+        P1-within = refl;
+        P1-first-within = refl;
+        long-itself = refl;
+        empty-itself = refl;
+        value-6 = refl;
+        noop-unflagged = refl;
+        noop-flagged = refl;
+        more-second = refl;
+        more-first = refl;
+        two-more-second = refl;
+        two-more-first = refl;
+        empty-first = refl;
+        empty-second = refl;
+        both-signs = refl;
+        two-tables = refl;
+        other-tables = refl;
+        all-five = refl;
+        first-number = refl;
+        later-number = refl;
+        first-flag = refl;
+        first-length = refl;
+        later-length = refl;
+        kept-last = refl;
+        group-more = refl;
+        last-group = refl;
+        one-longer = refl;
+        longer-first = refl;
+        noop-more = refl;
+        padding-more = refl;
+        covered = refl;
+        other-opcode = refl;
+        other-value = refl;
+        later-opcode = refl;
+        after-padding = refl;
+        padding-there = refl;
+        other-groups = refl;
+        after-longer = refl;
+        ninth-operation = refl;
+        last-alone = refl;
+        padded-more = refl;
+        paddings-eight = refl;
+        first-refused = refl;
+        second-refused = refl;
+        both-refused = (refl, refl);
+        past-end = (refl, refl);
+        bad-table = (refl, refl);
+        no-room = (refl, refl);
+        just-room = refl;
+        later-place = refl;
+        refused-before = (refl, refl);
+        one-short = refl;
+        none-short = refl;
+        nothing-lent = refl;
+        left-zeroed = (refl, refl);
+        left-nothing = refl;
+        left-entries = refl;
+        left-batch = refl;
+        left-missing = refl;
+        left-size = refl;
+        left-difference = refl;
+        left-fields = refl;
+        totals-P7 = (refl, refl, refl, refl);
+        totals-P6 = (refl, refl, refl, refl);
+        paddings-under = (refl, refl, refl);
+        by-width = (refl, refl, refl);
+        width-8 = refl;
+      };
     }

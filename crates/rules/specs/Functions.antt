@@ -1,12 +1,13 @@
 -- Document 01, "Numbers of refusal": the whole answer of each public function, its refusals in document 01's order, and what it leaves in lent outputs.
-use mathlib.Core.Bool.{Bool, not, _&&_, _||_}
-use mathlib.Core.List.{List, [], map}
+use mathlib.Core.Bool.{Bool, cond, not, _&&_, _||_}
+use mathlib.Core.List.{List, [], _++_, map}
 use mathlib.Core.Option.{Option}
 use Prim.Native.Nat.{ℕ, _+_, _-_, _/_, _%_}
-use lib.ListN.{length}
+use lib.IntN.{ℤ, pos}
+use lib.ListN.{length, take, replicate}
 use lib.Dec.{leb, ltb, eqb}
 use lib.Seq.{sets}
-use Rattle.rules.specs.Lists.{fitted}
+use Rattle.rules.specs.Lists.{fitted, inRow}
 use Rattle.rules.specs.Answer.{Answer, good, refused, Read, found, refuse, refuseFirst, _then_}
 use Rattle.rules.specs.Refusals.{past-end₁, over-limit₃, empty-list₁₂, no-room₁₃, bad-table₁₄, bad-structure₁₅}
 use Rattle.rules.specs.Operations.{Op, operations, codes, values, goodTable, opFault}
@@ -17,6 +18,7 @@ use Rattle.rules.specs.Block.{Room, Head, blockBytes, headAt, blockAt}
 use Rattle.rules.specs.Checks.{recordRight, structureFaults, paddingFaults, commitmentFaults}
 use Rattle.rules.specs.Lookups.{Place, groupOf, nextGroup, rawTable, paddedTable}
 use Rattle.rules.specs.Strict.{refuseUnfinished}
+use Rattle.rules.specs.Compare.{Entry, blocksApart, entryNumbers}
 
 -- ---- an arena: the three lent runs of a block
 
@@ -103,6 +105,45 @@ decoded w t s at room =
 -- strictly, M-107: "the ordinary refusal comes if there is one, else a new 18"
 unfoldable pub strictlyDecoded : ℕ → List ℕ → List ℕ → ℕ → Room → Read Block
 strictlyDecoded w t s at room = decoded w t s at room then λ b next. refuseUnfinished w t b (found b next)
+
+-- ---- compare, M-105: "Two blocks, each with its own offset and table."
+
+-- where one of them is read, and the working room for it
+pub record Side : Type 0 where
+  pub table : List ℕ
+  pub bytes : List ℕ
+  pub at : ℕ
+  pub room : Room
+
+abbrev pub readAt : ℕ → Side → Read Block
+readAt w x = decoded w (x .table) (x .bytes) (x .at) (x .room)
+
+-- the report's entries, or a refusal: its mark, its number and its place. The mark is 1 for the first block, 2 for the second, and 0 where there is none.
+pub data Compared : Type 0 where
+  reported : List Entry → Compared
+  refusedBy : ℕ → ℕ → ℕ → Compared
+
+-- go on with a block, or refuse with a mark
+abbrev pub marked : ℕ → Read Block → (Block → Compared) → Compared
+marked mark (good i) f = f (i .item)
+marked mark (refused n p) f = refusedBy mark n p
+
+-- "If either is refused, only its refusal is given, the first one's if both are, with a mark saying which block." "A lent report too short gives 13 last,
+-- without a mark": for a report of `room` entries
+unfoldable pub compared : ℕ → Side → Side → ℕ → Compared
+compared w x y room =
+    marked 1 (readAt w x) (λ a.
+    marked 2 (readAt w y) (λ b.
+    cond (ltb room (length (blocksApart a b))) (refusedBy 0 no-room₁₃ 0) (reported (blocksApart a b))))
+
+-- a refusal has no entries
+abbrev pub entriesOf : Compared → List Entry
+entriesOf (reported es) = es
+entriesOf (refusedBy m n p) = []
+
+-- what a lent run of n numbers holds afterwards: the entries, then zeros; "and ends zeroed", where refused
+unfoldable pub reportLeft : ℕ → Compared → List ℤ
+reportLeft n d = take n (inRow entryNumbers (entriesOf d) ++ replicate n (pos 0))
 
 -- ---- what a reply tells: "A refusal replies with every length and total 0", as these are those of what is left
 

@@ -10,6 +10,7 @@ pub mod Checks
 pub mod Block
 pub mod Lookups
 pub mod Strict
+pub mod Compare
 pub mod Functions
 pub mod Open
 pub mod Examples
