@@ -15,6 +15,8 @@ use Rattle.claims.proofs.Checked.{shaped-in}
 use Rattle.claims.proofs.CheckedThenReturned.{returns, needed}
 use Rattle.claims.proofs.Finished.{finished}
 use Rattle.claims.proofs.Strict.{strict-reading}
+use Rattle.claims.proofs.Compare.{compare}
+use Rattle.claims.proofs.Longest.{reached}
 use Rattle.claims.proofs.OneList.{one-list}
 use Rattle.claims.proofs.Which.{which, passed-on}
 use Rattle.claims.proofs.Kept.{unread, unread-by, kept}
@@ -30,6 +32,8 @@ claims w width =
       again = again w;
       once = once w;
       strict = strict-reading w width;
+      compare = compare w (width .eight);
+      reached = reached w (width .four) (width .eight);
       one-list = one-list w (width .eight);
       returns = returns;
       needed = needed;

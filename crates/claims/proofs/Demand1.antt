@@ -6,7 +6,9 @@ use mathlib.Core.Bool.{Bool, true, false, cond, not, _&&_, _||_}
 use Prim.Native.Nat.{ℕ, zero, suc, _+_, _-_, _/_, _≤_, _<_, _^_}
 use native.Mathlib.Omega.{arith}
 use borrow.Author.Tests.{ltb-false, leb-false, eqb-true, le-leb, le-ltb}
-use lib.ListN.{length, getD, take, drop, replicate, length-map}
+use lib.IntN.{pos}
+use lib.ListN.{length, getD, take, drop, replicate, length-map, length-replicate}
+use lib.Seq.{take-all}
 use lib.Dec.{leb, ltb, eqb}
 use lib.Count.{trailingZeros}
 use Rattle.rules.specs.Lists.{total, inRow}
@@ -19,7 +21,8 @@ use Rattle.rules.specs.Bytes.{least, countBy, countAt, valueAt, opAt, opsAt, ba
 use Rattle.rules.specs.Block.{Room, Head, Layout, blockBytes, placingsFault, countFrom, batchAt, batchesAt, headAt, layoutAt, batchesBy, blockAt}
 use Rattle.rules.specs.Checks.{Held, ninth, recordRight, structureFaults, heldFrom, held, paddingFault, paddingFaults, underCount, placingFault, begins, groupsFault, emptyZero, commitmentFault, commitmentFaults, paddingRight}
 use Rattle.rules.specs.Lookups.{groupOf, nextGroup}
-use Rattle.rules.specs.Functions.{Arena, arena, blockIn, within, filled, roomFor, built, encoded, written, decoded, strictlyDecoded, most, headed, countHere, opHere, structureChecked, paddingChecked, commitmentChecked, tableOf, tableLeft, groupLookup, nextLookup}
+use Rattle.rules.specs.Functions.{Arena, arena, blockIn, within, filled, roomFor, built, encoded, written, decoded, strictlyDecoded, Side, readAt, reported, refusedBy, marked, compared, reportLeft, most, headed, countHere, opHere, structureChecked, paddingChecked, commitmentChecked, tableOf, tableLeft, groupLookup, nextLookup}
+use Rattle.rules.specs.Compare.{Entry, blocksApart}
 use Rattle.rules.proofs.Answer.{first-append}
 use Rattle.rules.proofs.Runs.{zeros-fitted}
 use Rattle.claims.proofs.Lists.{true-false}
@@ -28,7 +31,7 @@ use Rattle.claims.proofs.Row.{row-made}
 use Rattle.claims.proofs.Right.{Width}
 use Rattle.claims.proofs.ReadThenChecked.{nibbles-made, count-limit, batchCount-limit}
 use Rattle.claims.proofs.FirstDifference.{Verdict, passes, unlisted, differs, verdict}
-use Rattle.claims.specs.Demand1.{Refusal, _of_, OneOf, Replies, zeros, ops, batches, buildRefusals, encodeRefusals, decodeRefusals, strictRefusals, headRefusals, told, toldBatches, countRefusals, opRefusals, structureRefusals, paddingRefusals, commitmentRefusals, tableRefusals, lookupRefusals, Demand1}
+use Rattle.claims.specs.Demand1.{Refusal, _of_, OneOf, Replies, zeros, ops, batches, buildRefusals, encodeRefusals, decodeRefusals, strictRefusals, sideRefusals, compareRefusals, RepliesBy, headRefusals, told, toldBatches, countRefusals, opRefusals, structureRefusals, paddingRefusals, commitmentRefusals, tableRefusals, lookupRefusals, Demand1}
 
 -- ---- answers whose results have one property, and whose refusals another
 
@@ -374,6 +377,20 @@ module _ (w : ℕ) where
       go (good i) e h = took i e (verdict w width t s at room (i .item) (i .next) e)
       go (refused n p) e h = rw e (sooner rs more n p h)
 
+  compare : (x y : Side) (room : ℕ) → RepliesBy (compareRefusals x y) (compared w x y room)
+  unfolding compared
+  compare x y room = go (readAt w x) (decode (x .table) (x .bytes) (x .at) (x .room)) (readAt w y) (decode (y .table) (y .bytes) (y .at) (y .room))
+    where
+      last : (t : Bool) (es : List Entry) → RepliesBy (compareRefusals x y) (cond t (refusedBy 0 13 0) (reported es))
+      last true es = inl (refl, omega arith)
+      last false es = tt
+
+      go : (d : Read Block) → Replies (sideRefusals x) d → (e : Read Block) → Replies (sideRefusals y) e
+          → RepliesBy (compareRefusals x y) (marked 1 d (λ a. marked 2 e (λ b. cond (ltb room (length (blocksApart a b))) (refusedBy 0 13 0) (reported (blocksApart a b)))))
+      go (refused n p) h e k = h
+      go (good i) h (refused n p) k = k
+      go (good i) h (good j) k = last (ltb room (length (blocksApart (i .item) (j .item)))) (blocksApart (i .item) (j .item))
+
   head : (t s : List ℕ) (at : ℕ) → Replies (headRefusals (length s) (told (countAt s at))) (headed t s at)
   unfolding headed placesFor Narrow Scarce
   head t s at =
@@ -479,6 +496,10 @@ module _ (w : ℕ) where
   unfolding tableLeft
   table-zeroes out n p = sym (zeros-fitted (length out))
 
+  compare-zeroes : (room m n p : ℕ) → reportLeft room (refusedBy m n p) ≡ replicate room (pos 0)
+  unfolding reportLeft inRow
+  compare-zeroes room m n p = take-all room (replicate room (pos 0)) (omega (arith, length-replicate room (pos 0)))
+
   nothing-written : (out : List ℕ) (at n p : ℕ) → written out at (refused n p) ≡ out
   unfolding written
   nothing-written out at n p = refl
@@ -490,6 +511,7 @@ module _ (w : ℕ) where
         encode = encode;
         decode = decode;
         strict = strict width;
+        compare = compare;
         head = head;
         reader-count = reader-count;
         reader-op = reader-op;
@@ -502,5 +524,6 @@ module _ (w : ℕ) where
         build-zeroes = λ a n p. filled-none a;
         decode-zeroes = λ a n p. filled-none a;
         table-zeroes = table-zeroes;
+        compare-zeroes = compare-zeroes;
         encode-changes-nothing = nothing-written;
       }

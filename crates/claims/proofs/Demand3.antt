@@ -286,7 +286,7 @@ taken-part b s at next h =
     rw (e, d) (take-append-seam b (st .after))
 
 module _ (w : ℕ) (t : List ℕ) where
-  stood : (s : List ℕ) → Bytes s → (at : ℕ) (room : Room) (b : Block) (next : ℕ) → decoded w t s at room ≡ found b next → take (next - at) (drop at s) ≡ blockBytes t b
+  pub stood : (s : List ℕ) → Bytes s → (at : ℕ) (room : Room) (b : Block) (next : ℕ) → decoded w t s at room ≡ found b next → take (next - at) (drop at s) ≡ blockBytes t b
   stood s bytes at room b next h = taken-part (blockBytes t b) s at next (block-taken s bytes w t at room b next h)
 
   -- whatever decoding takes, encoding writes byte for byte what stands there

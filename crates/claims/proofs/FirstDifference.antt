@@ -94,7 +94,7 @@ module _ (w : ℕ) (width : Width w) (t : List ℕ) where
       (rw (raw-ended t (d .current)) (last-some xs h), tt)
 
 -- so its records from any place on leave something unmarked
-free-append : (ms ns : List Bool) → free (ms ++ ns) ≡ free ms + free ns
+pub free-append : (ms ns : List Bool) → free (ms ++ ns) ≡ free ms + free ns
 free-append [] ns = omega arith
 free-append (true ∷ ms) ns = free-append ms ns
 free-append (false ∷ ms) ns = omega (arith, free-append ms ns)

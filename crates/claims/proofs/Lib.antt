@@ -27,5 +27,7 @@ pub mod Kept
 pub mod Which
 pub mod Full
 pub mod Strict
+pub mod Compare
+pub mod Longest
 pub mod OneList
 pub mod Claims

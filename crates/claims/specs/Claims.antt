@@ -16,6 +16,7 @@ use Rattle.claims.specs.Demand3.{lent, Premises, Demand3}
 use Rattle.claims.specs.Passes.{Passes}
 use Rattle.claims.specs.Finished.{Bytes, Finished}
 use Rattle.claims.specs.Strict.{Strict}
+use Rattle.claims.specs.Compare.{Compare, Reached}
 use Rattle.claims.specs.OneList.{OneList}
 use Rattle.claims.specs.Settled.{Returns, Needed}
 use Rattle.claims.specs.Which.{Which, PassedOn}
@@ -43,6 +44,9 @@ pub record Claims (w : ℕ) : Type 0 where
       → Taken w t s at room b next → Taken w t s′ at′ room′ b next′ → take (next - at) (drop at s) ≡ take (next′ - at′) (drop at′ s′)
   -- "How do you know a file is finished?" M-107: what passes strict reading, and what its 18 says
   pub strict : Strict w
+  -- M-105: what the report of two blocks says, how long it can be, and that it can be so long
+  pub compare : Compare w
+  pub reached : Reached w
   -- batch data that passes commitment belongs to one list
   pub one-list : OneList w
   -- what passes the checks, encoded and decoded; and that the condition for getting the same back is needed. This and `kept` are said of width 8: at a

@@ -5,13 +5,14 @@
 use mathlib.Core.Path.{_≡_}
 use mathlib.Core.Logic.{_⊎_}
 use mathlib.Core.List.{List, [], _∷_, _++_}
-use Prim.Native.Nat.{ℕ, _+_, _<_}
+use Prim.Native.Nat.{ℕ, zero, suc, _+_, _<_}
+use lib.IntN.{pos}
 use lib.ListN.{length, replicate}
 use Rattle.rules.specs.Answer.{Answer, good, refused, Read, itemOf}
 use Rattle.rules.specs.Record.{Record, Block, noBlock}
 use Rattle.rules.specs.Bytes.{countAt}
 use Rattle.rules.specs.Block.{Room, Head, headAt}
-use Rattle.rules.specs.Functions.{Arena, arena, blockIn, filled, built, encoded, written, decoded, strictlyDecoded, headed, countHere, opHere, structureChecked, paddingChecked, commitmentChecked, tableOf, tableLeft, groupLookup, nextLookup, leaves}
+use Rattle.rules.specs.Functions.{Arena, arena, blockIn, filled, built, encoded, written, decoded, strictlyDecoded, Side, Compared, reported, refusedBy, compared, reportLeft, headed, countHere, opHere, structureChecked, paddingChecked, commitmentChecked, tableOf, tableLeft, groupLookup, nextLookup, leaves}
 
 -- a number of refusal, and how many places it can have: its place is under that, so it is 0 where there is one
 pub record Refusal : Type 0 where
@@ -62,6 +63,21 @@ abbrev pub toldBatches : Read Head → ℕ
 toldBatches (good h) = h .item .batches
 toldBatches (refused n p) = 0
 
+-- M-105, by mark: 1 and 2 have decode's refusals of the first and of the second block, "A lent report too short gives 13 last, without a mark", and there
+-- is no other mark
+abbrev pub sideRefusals : Side → List Refusal
+sideRefusals x = decodeRefusals (length (x .bytes)) (told (countAt (x .bytes) (x .at))) (toldBatches (headAt (x .table) (x .bytes) (x .at) (x .room)))
+
+abbrev pub compareRefusals : Side → Side → ℕ → List Refusal
+compareRefusals x y zero = 13 of 1 ∷ []
+compareRefusals x y (suc zero) = sideRefusals x
+compareRefusals x y (suc (suc zero)) = sideRefusals y
+compareRefusals x y (suc (suc (suc m))) = []
+
+abbrev pub RepliesBy : (ℕ → List Refusal) → Compared → Type 0
+RepliesBy rs (reported es) = Unit {0}
+RepliesBy rs (refusedBy m n p) = OneOf (rs m) n p
+
 -- of its head alone, which wants no room
 abbrev pub headRefusals : ℕ → ℕ → List Refusal
 headRefusals size n = 3 of 1 ∷ 14 of 1 ∷ 1 of 1 ∷ 2 of (size + 1) ∷ 4 of n ∷ 17 of n ∷ 5 of 1 ∷ []
@@ -98,6 +114,7 @@ pub record Demand1 (w : ℕ) : Type 0 where
   pub encode : (t : List ℕ) (a : Arena) (size at : ℕ) → Replies (encodeRefusals (ops a) (batches a)) (encoded w t a size at)
   pub decode : (t s : List ℕ) (at : ℕ) (room : Room) → Replies (decodeRefusals (length s) (told (countAt s at)) (toldBatches (headAt t s at room))) (decoded w t s at room)
   pub strict : (t s : List ℕ) (at : ℕ) (room : Room) → Replies (strictRefusals (length s) (told (countAt s at)) (toldBatches (headAt t s at room))) (strictlyDecoded w t s at room)
+  pub compare : (x y : Side) (room : ℕ) → RepliesBy (compareRefusals x y) (compared w x y room)
   pub head : (t s : List ℕ) (at : ℕ) → Replies (headRefusals (length s) (told (countAt s at))) (headed t s at)
   pub reader-count : (s : List ℕ) (at : ℕ) → Replies (countRefusals (length s)) (countHere s at)
   pub reader-op : (t s : List ℕ) (at i : ℕ) → Replies (opRefusals (length s) i) (opHere t s at i)
@@ -112,5 +129,7 @@ pub record Demand1 (w : ℕ) : Type 0 where
   pub build-zeroes : (a : Arena) (n p : ℕ) → filled a (leaves noBlock (refused n p)) ≡ zeros a
   pub decode-zeroes : (a : Arena) (n p : ℕ) → filled a (leaves noBlock (itemOf (refused n p))) ≡ zeros a
   pub table-zeroes : (out : List ℕ) (n p : ℕ) → tableLeft out (refused n p) ≡ replicate (length out) 0
+  -- M-105: the lent report "ends zeroed"
+  pub compare-zeroes : (room m n p : ℕ) → reportLeft room (refusedBy m n p) ≡ replicate room (pos 0)
   -- "a refused encode changes no byte"
   pub encode-changes-nothing : (out : List ℕ) (at n p : ℕ) → written out at (refused n p) ≡ out

@@ -9,6 +9,7 @@ pub mod Kept
 pub mod Which
 pub mod Finished
 pub mod Strict
+pub mod Compare
 pub mod OneList
 pub mod Sizes
 pub mod Claims
