@@ -5,6 +5,7 @@ ghost use lib.ListN.{length, take, set, replicate};
 ghost use lib.Seq.{sets};
 ghost use Rattle.rules.specs.Digits.{leAt, leBytes};
 ghost use Rattle.rules.specs.Lists.{fitted};
+ghost use Rattle.word.specs.Numbers.{zeroed};
 
 // A byte, widened.
 pub fn wide(x: u8) -> u64
@@ -73,6 +74,14 @@ pub fn store8(out: &mut [u8], at: usize, v: u8)
 }
 
 pub fn store64(out: &mut [u64], at: usize, v: u64)
+    ensures { λ _. ⌜ now (out .exit) ≡ set (now (out .entry)) at v ⌝ }
+{
+    if at < out.len() {
+        out[at] = v;
+    }
+}
+
+pub fn store32(out: &mut [i32], at: usize, v: i32)
     ensures { λ _. ⌜ now (out .exit) ≡ set (now (out .entry)) at v ⌝ }
 {
     if at < out.len() {
@@ -157,6 +166,16 @@ pub fn zero_bytes(out: &mut [u8], k: usize)
 
 pub fn zero_words(out: &mut [u64], k: usize)
     ensures { λ _. ⌜ now (out .exit) ≡ fitted (length (now (out .entry))) (take k (now (out .entry))) ⌝ }
+{
+    let mut i = k;
+    while i < out.len() {
+        out[i] = 0;
+        i += 1;
+    }
+}
+
+pub fn zero_numbers(out: &mut [i32], k: usize)
+    ensures { λ _. ⌜ now (out .exit) ≡ zeroed (now (out .entry)) k ⌝ }
 {
     let mut i = k;
     while i < out.len() {
