@@ -18,10 +18,10 @@ use Rattle.checks.proofs.Walk.{records-turn, records-end, equal-lengths
 use Rattle.checks.proofs.Passed.{checked, all-fit}
 
 -- the operations of the batches from the b-th of n on
-unfoldable rest : ℕ → List ℕ → ℕ → ℕ
+unfoldable pub rest : ℕ → List ℕ → ℕ → ℕ
 rest n s b = total (map ninth (recordsFrom (n - b) s b))
 
-rest-turn : (n : ℕ) (s : List ℕ) (b : ℕ) → b < n → rest n s b ≡ ninth (recordAt s b) + rest n s (b + 1)
+pub rest-turn : (n : ℕ) (s : List ℕ) (b : ℕ) → b < n → rest n s b ≡ ninth (recordAt s b) + rest n s (b + 1)
 unfolding rest total
 rest-turn n s b h = rw (records-turn n s b h)
 
@@ -30,11 +30,11 @@ unfolding rest total
 rest-none n s b h = rw (records-end n s b h)
 
 module _ (cs vs rs : List ℕ) (c : Structured (arena cs vs rs)) where
-  rest-all : rest (length rs / recordSize) rs 0 ≡ length cs
+  pub rest-all : rest (length rs / recordSize) rs 0 ≡ length cs
   unfolding rest recordsIn
   rest-all = let k = checked (c .width) cs vs rs (c .passed) in rw sub-zero (k .1 .sum ∙ length-operations cs vs (equal-lengths cs vs rs (k .0)))
 
-  lies : (b from : ℕ) → b < length rs / recordSize → from + rest (length rs / recordSize) rs b ≡ length cs → Lies (arena cs vs rs) b from
+  pub lies : (b from : ℕ) → b < length rs / recordSize → from + rest (length rs / recordSize) rs b ≡ length cs → Lies (arena cs vs rs) b from
   lies b from h e =
       let k = checked (c .width) cs vs rs (c .passed) in
       record {

@@ -1,15 +1,16 @@
 -- The groups of one batch, one after the other. Assumes nothing.
-use mathlib.Core.Path.{_≡_, sym}
+use mathlib.Core.Path.{_≡_, refl, sym, ap}
 use mathlib.Core.Bool.{Bool, true, _&&_}
 use mathlib.Core.List.{List, [], _∷_}
 use Prim.Native.Nat.{ℕ, suc, _+_, _-_, _≤_, _<_}
 use native.Mathlib.Nat.{add-zero, sub-zero}
 use native.Mathlib.Numerals.{add-one}
 use native.Mathlib.Omega.{arith}
+use borrow.Author.Tests.{leb-true}
 use lib.ListN.{length, getD, take}
 use lib.Seq.{drop-cons}
 use lib.Dec.{leb, eqb}
-use Rattle.rules.specs.Lists.{every}
+use Rattle.rules.specs.Lists.{every, All}
 use Rattle.rules.specs.Operations.{Op, operations}
 use Rattle.rules.specs.Record.{Record, differences, recordAt, cut, part}
 use Rattle.rules.specs.Checks.{ninth, startsRight, recordRight}
@@ -38,6 +39,29 @@ module _ (r : Record) (x : Fits r) where
 
   pub right-starts : startsRight (r .starts) ≡ true
   right-starts = true-left (startsRight (r .starts)) last (true-right first (startsRight (r .starts) && last) (true-right flags (first && (startsRight (r .starts) && last)) rest))
+
+-- ---- the sizes and flags of a record are bytes
+
+abbrev pub Bytes : List ℕ → Type 0
+Bytes ns = All (λ n. n < 256) ns
+
+pub differences-bytes : (a : ℕ) (s : List ℕ) → startsRight (a ∷ s) ≡ true → Bytes (differences (a ∷ s))
+unfolding startsRight differences
+differences-bytes a [] h = tt
+differences-bytes a (b ∷ s) h =
+    let q = true-right (leb a b) (leb b (a + 9) && startsRight (b ∷ s)) h in
+    let l = leb-true b (a + 9) (true-left (leb b (a + 9)) (startsRight (b ∷ s)) q) in
+    (omega arith, differences-bytes b s (true-right (leb b (a + 9)) (startsRight (b ∷ s)) q))
+
+pub differences-length : (a : ℕ) (s : List ℕ) → length (differences (a ∷ s)) ≡ length s
+unfolding differences
+differences-length a [] = refl
+differences-length a (b ∷ s) = ap suc (differences-length b s)
+
+-- flags that are 0 or 1
+pub flags-small : (fs : List ℕ) → ((i : ℕ) → i < length fs → getD fs i 0 ≤ 1) → Bytes fs
+flags-small [] h = tt
+flags-small (f ∷ fs) h = (omega (arith, h 0 (omega arith)), flags-small fs (λ i l. h (suc i) (omega arith)))
 
 -- what the walks know of a batch's record
 pub record Laid (r : Record) : Type 0 where

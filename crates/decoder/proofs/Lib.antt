@@ -3,3 +3,4 @@ pub mod Sizes
 pub mod Batches
 pub mod Blocks
 pub mod Kept
+pub mod Taken

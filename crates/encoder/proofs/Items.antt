@@ -2,7 +2,7 @@
 use mathlib.Core.Path.{_≡_, refl, sym, ap, _∙_}
 use mathlib.Core.Bool.{Bool, true, false, cond}
 use mathlib.Core.List.{List, [], _∷_, _++_}
-use Prim.Native.Nat.{ℕ, zero, suc, _+_, _-_, _*_, _/_, _≤_, _<_}
+use Prim.Native.Nat.{ℕ, suc, _+_, _-_, _*_, _/_, _≤_, _<_}
 use native.Mathlib.Numerals.{add-one}
 use native.Mathlib.Nat.{sub-zero}
 use native.Mathlib.Omega.{arith}
@@ -20,7 +20,7 @@ use Rattle.rules.proofs.Digits.{split, length-leBytes}
 use Rattle.rules.proofs.Operations.{op, kind-at, length-operations, operations-turn, operations-end}
 use Rattle.checks.proofs.Walk.{records-turn, records-end}
 use Rattle.encoder.specs.Parts.{opsSize}
-use Rattle.rules.proofs.Sizes.{length-count, length-nibbles, length-flags, more-0, more-1, more-2}
+use Rattle.rules.proofs.Sizes.{length-records, length-count, length-nibbles, length-flags, more-0, more-1, more-2}
 use Rattle.rules.proofs.Runs.{sets-next}
 
 -- ---- operations
@@ -98,15 +98,6 @@ all-records rs = rw sub-zero
 
 pub more-most : (v : ℕ) → more v ≤ 2
 more-most v = split v 128 (λ h. omega (arith, more-0 v h)) (λ h. split v 16384 (λ k. omega (arith, more-1 v h k)) (λ k. omega (arith, more-2 v k)))
-
-length-from : (k : ℕ) (s : List ℕ) (b : ℕ) → length (recordsFrom k s b) ≡ k
-unfolding recordsFrom
-length-from zero s b = refl
-length-from (suc k) s b = ap suc (length-from k s (b + 1))
-
-length-records : (rs : List ℕ) → length (recordsIn rs) ≡ length rs / recordSize
-unfolding recordsIn
-length-records rs = length-from (length rs / recordSize) rs 0
 
 -- ---- the block
 

@@ -20,7 +20,7 @@ use Rattle.rules.proofs.Operations.{true-left, true-right}
 use Rattle.rules.proofs.Digits.{split}
 use Rattle.rules.proofs.Runs.{fitted-length}
 use Rattle.op_batch.proofs.Right.{sound}
-use Rattle.checks.proofs.Groups.{right-starts}
+use Rattle.checks.proofs.Groups.{right-starts, Bytes, differences-bytes, differences-length, flags-small}
 use Rattle.checks.proofs.Walk.{records-turn, records-end}
 use Rattle.claims.proofs.Shape.{RightGroup, RightBatch}
 use Rattle.claims.proofs.ItemsWrittenThenRead.{digits-number}
@@ -38,9 +38,6 @@ either-way false true f g = g refl
 either-way false false f g = refl
 
 -- ---- numbers of bytes
-
-abbrev Bytes : List ℕ → Type 0
-Bytes ns = All (λ n. n < 256) ns
 
 number-once : (xs ys : List ℕ) → length xs ≡ length ys → Bytes xs → Bytes ys → number 256 xs ≡ number 256 ys → xs ≡ ys
 number-once xs ys l h k e = sym (digits-number 256 xs h) ∙ (ap₂ (λ (n v : ℕ). digits 256 n v) l e ∙ digits-number 256 ys k)
@@ -68,19 +65,6 @@ starts-back a (b ∷ s) h =
     let r = true-right (leb b (a + 9)) (startsRight (b ∷ s)) (true-right (leb a b) (leb b (a + 9) && startsRight (b ∷ s)) h) in
     let e : a + (b - a) ≡ b = omega (arith, leb-true a b (true-left (leb a b) (leb b (a + 9) && startsRight (b ∷ s)) h)) in
     rw e (ap (λ (l : List ℕ). a ∷ l) (starts-back b s r))
-
-differences-bytes : (a : ℕ) (s : List ℕ) → startsRight (a ∷ s) ≡ true → Bytes (differences (a ∷ s))
-unfolding startsRight differences
-differences-bytes a [] h = tt
-differences-bytes a (b ∷ s) h =
-    let q = true-right (leb a b) (leb b (a + 9) && startsRight (b ∷ s)) h in
-    let l = leb-true b (a + 9) (true-left (leb b (a + 9)) (startsRight (b ∷ s)) q) in
-    (omega arith, differences-bytes b s (true-right (leb b (a + 9)) (startsRight (b ∷ s)) q))
-
-differences-length : (a : ℕ) (s : List ℕ) → length (differences (a ∷ s)) ≡ length s
-unfolding differences
-differences-length a [] = refl
-differences-length a (b ∷ s) = ap suc (differences-length b s)
 
 -- starts that begin at 0 and never fall are said by their sizes
 same-starts : (s ns : List ℕ) → length s ≡ suc (length ns) → getD s 0 0 ≡ 0 → startsRight s ≡ true → Bytes ns → eqb (number 256 (differences s)) (number 256 ns) ≡ same s (startsFrom 0 ns)
@@ -113,11 +97,6 @@ unfolding fitted
 fitted-bytes zero xs h = tt
 fitted-bytes (suc n) [] h = (omega arith, fitted-bytes n [] tt)
 fitted-bytes (suc n) (x ∷ xs) h = (h .0, fitted-bytes n xs (h .1))
-
--- flags that are 0 or 1
-flags-small : (fs : List ℕ) → ((i : ℕ) → i < length fs → getD fs i 0 ≤ 1) → Bytes fs
-flags-small [] h = tt
-flags-small (f ∷ fs) h = (omega (arith, h 0 (omega arith)), flags-small fs (λ i l. h (suc i) (omega arith)))
 
 module _ (s : List ℕ) (k : ℕ) (runs : Runs s k) (w : ℕ) (wide : w ≤ 8) (t : List ℕ) where
   abbrev Made : List Group → Type 0
