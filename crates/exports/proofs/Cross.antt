@@ -1,21 +1,28 @@
 -- A reply made from the library's enum is the reply made from the definitions' answer. Assumes nothing.
-use mathlib.Core.Path.{_≡_, refl}
+use mathlib.Core.Path.{_≡_, refl, ap, _∙_}
 use mathlib.Core.List.{List}
 use mathlib.Core.Option.{Option, none, some}
 use Prim.Native.Nat.{ℕ}
+use lib.IntN.{ℤ}
 use Rattle.rules.specs.Answer.{Answer, good, refused, Read}
 use Rattle.rules.specs.Record.{Block, noBlock}
 use Rattle.rules.specs.Block.{Head}
 use Rattle.rules.specs.Lookups.{Place, Raw, rawAt, Padded, paddedAt}
+use Rattle.rules.specs.Functions as rule
+use Rattle.rules.specs.Functions.{Arena, reported, refusedBy}
 use Rattle.operation.specs.Verdict.{verdictOf}
 use Rattle.build.specs.Outcome.{builtOf}
 use Rattle.encoder.specs.Replies.{encodedOf}
 use Rattle.decoder.specs.Replies.{decodedOf}
 use Rattle.head.specs.Replies.{headOf}
+use Rattle.comparison.specs.declared.Compared.{Compared}
+use Rattle.comparison.specs.Replies.{comparedOf}
+use Rattle.comparison.specs.Replies as comparison
 use Rattle.prefix.specs.Tables.{tabledOf, paddedFound, rawFound}
 use Rattle.op_batch.specs.OpBatch.{lookupOf, nextOf}
-use Rattle.exports.specs.Replies.{buildReply, encodeReply, decodeReply, headReply, checkReply, tableReply, paddedReply, rawReply, groupReply, nextReply}
-use Rattle.exports.specs.Flat.{flatBuilt, flatEncoded, flatDecoded, flatHeaded, flatVerdict, flatTabled, flatPadded, flatRaw, flatGroup, flatNext}
+use Rattle.exports.specs.declared.CompareReply.{CompareReply}
+use Rattle.exports.specs.Replies.{buildReply, encodeReply, decodeReply, headReply, compareReply, Compares, checkReply, tableReply, paddedReply, rawReply, groupReply, nextReply}
+use Rattle.exports.specs.Flat.{flatBuilt, flatEncoded, flatDecoded, flatHeaded, flatCompared, flatVerdict, flatTabled, flatPadded, flatRaw, flatGroup, flatNext}
 
 pub cross-built : (d : Answer Block) → flatBuilt (builtOf d) ≡ buildReply d
 unfolding noBlock
@@ -34,6 +41,21 @@ cross-decoded at (refused n p) = refl
 pub cross-headed : (d : Read Head) → flatHeaded (headOf d) ≡ headReply d
 cross-headed (good i) = refl
 cross-headed (refused n p) = refl
+
+cross-compared : (d : rule.Compared) → flatCompared (comparedOf d) ≡ compareReply d
+cross-compared (reported es) = refl
+cross-compared (refusedBy m n p) = refl
+
+-- and so compare's contract
+pub cross-compares : {answer : rule.Compared} {a a′ c c′ : Arena} {out out′ : List ℤ} {d : Compared} {r : CompareReply}
+    → r ≡ flatCompared d → comparison.Compares answer a a′ c c′ out out′ d → Compares answer r a a′ c c′ out out′
+cross-compares {answer} e h =
+    record {
+      reply = e ∙ (ap flatCompared (h .reports .reply) ∙ cross-compared answer);
+      first = h .first;
+      second = h .second;
+      report = h .reports .report;
+    }
 
 pub cross-verdict : (d : Answer Unit) → flatVerdict (verdictOf d) ≡ checkReply d
 cross-verdict (good u) = refl

@@ -10,6 +10,7 @@ one-answer =
       oli-encode = λ answer at before r q x y h k. (h .reply ∙ sym (k .reply), h .bytes ∙ sym (k .bytes));
       oli-decode = λ answer at before r q x y h k. (h .reply ∙ sym (k .reply), h .runs ∙ sym (k .runs));
       oli-decode-strict = λ answer at before r q x y h k. (h .reply ∙ sym (k .reply), h .runs ∙ sym (k .runs));
+      oli-compare = λ answer a c out r q x y h k. (h .reply ∙ sym (k .reply), λ i. ((h .first ∙ sym (k .first)) i, (h .second ∙ sym (k .second)) i, (h .report ∙ sym (k .report)) i));
       oli-raw-table = λ answer before r q x y h k. (h .reply ∙ sym (k .reply), h .left ∙ sym (k .left));
       oli-padded-table = λ answer before r q x y h k. (h .reply ∙ sym (k .reply), h .left ∙ sym (k .left));
       oli-build-le = λ answer before r q x y h k. (h .reply ∙ sym (k .reply), h .runs ∙ sym (k .runs));

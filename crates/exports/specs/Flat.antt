@@ -9,6 +9,8 @@ use Rattle.decoder.specs.declared.Decoded.{Decoded}
 use Rattle.decoder.specs.declared.Decoded.the-variants as decoded
 use Rattle.head.specs.declared.Headed.{Headed}
 use Rattle.head.specs.declared.Headed.the-variants as headed
+use Rattle.comparison.specs.declared.Compared.{Compared}
+use Rattle.comparison.specs.declared.Compared.the-variants as compared
 use Rattle.prefix.specs.declared.Tabled.{Tabled}
 use Rattle.prefix.specs.declared.Tabled.the-variants as tabled
 use Rattle.prefix.specs.declared.PaddedFound.{PaddedFound}
@@ -23,6 +25,7 @@ use Rattle.exports.specs.declared.BuildReply.{BuildReply}
 use Rattle.exports.specs.declared.EncodeReply.{EncodeReply}
 use Rattle.exports.specs.declared.DecodeReply.{DecodeReply}
 use Rattle.exports.specs.declared.HeadReply.{HeadReply}
+use Rattle.exports.specs.declared.CompareReply.{CompareReply}
 use Rattle.exports.specs.declared.CheckReply.{CheckReply}
 use Rattle.exports.specs.declared.TableReply.{TableReply}
 use Rattle.exports.specs.declared.IndexReply.{IndexReply}
@@ -44,6 +47,10 @@ flatDecoded (decoded.Refused n p) = record { number = n; place = p; batches = 0;
 abbrev pub flatHeaded : Headed → HeadReply
 flatHeaded (headed.Found o b next) = record { number = 0; place = 0; batches = b; operations = o }
 flatHeaded (headed.Refused n p) = record { number = n; place = p; batches = 0; operations = 0 }
+
+abbrev pub flatCompared : Compared → CompareReply
+flatCompared (compared.Reported e) = record { mark = 0; number = 0; place = 0; entries = e }
+flatCompared (compared.Refused m n p) = record { mark = m; number = n; place = p; entries = 0 }
 
 abbrev pub flatVerdict : Verdict → CheckReply
 flatVerdict verdict.Passed = record { number = 0; place = 0 }

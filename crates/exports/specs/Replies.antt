@@ -4,6 +4,7 @@ use mathlib.Core.Bool.{Bool, true, false, not, cond}
 use mathlib.Core.List.{List, []}
 use mathlib.Core.Option.{Option, none, some}
 use Prim.Native.Nat.{ℕ, _/_}
+use lib.IntN.{ℤ}
 use lib.ListN.{length}
 use lib.Dec.{eqb}
 use Rattle.rules.specs.Answer.{Answer, good, refused, refuse, Read, itemOf}
@@ -13,12 +14,13 @@ use Rattle.rules.specs.Operations.{codes, values}
 use Rattle.rules.specs.Record.{Block, recordSize, wordBytes, recordsBytes, noBlock}
 use Rattle.rules.specs.Block.{Room, Head}
 use Rattle.rules.specs.Lookups.{Place, Raw, rawAt, Padded, paddedAt}
-use Rattle.rules.specs.Functions.{Arena, arena, roomIn, filled, written, tableLeft, totals, lengthTold, used, leaves, decoded, strictlyDecoded}
+use Rattle.rules.specs.Functions.{Arena, arena, roomIn, filled, written, tableLeft, totals, lengthTold, used, leaves, decoded, strictlyDecoded, Compared, reported, refusedBy, reportLeft}
 use Rattle.crossing.specs.Words.{whole}
 use Rattle.exports.specs.declared.BuildReply.{BuildReply}
 use Rattle.exports.specs.declared.EncodeReply.{EncodeReply}
 use Rattle.exports.specs.declared.DecodeReply.{DecodeReply}
 use Rattle.exports.specs.declared.HeadReply.{HeadReply}
+use Rattle.exports.specs.declared.CompareReply.{CompareReply}
 use Rattle.exports.specs.declared.CheckReply.{CheckReply}
 use Rattle.exports.specs.declared.TableReply.{TableReply}
 use Rattle.exports.specs.declared.IndexReply.{IndexReply}
@@ -62,6 +64,18 @@ pub record Reads (answer : Room → Read Block) (at : ℕ) (r : DecodeReply) (be
 abbrev pub headReply : Read Head → HeadReply
 headReply (good h) = record { number = 0; place = 0; batches = h .item .batches; operations = length (h .item .ops) }
 headReply (refused n p) = record { number = n; place = p; batches = 0; operations = 0 }
+
+-- how many entries the report has; the mark is 0 where nothing is refused
+abbrev pub compareReply : Compared → CompareReply
+compareReply (reported es) = record { mark = 0; number = 0; place = 0; entries = length es }
+compareReply (refusedBy m n p) = record { mark = m; number = n; place = p; entries = 0 }
+
+-- compare's reply and what it leaves in the lent report; both working rooms end zeroed, whatever the answer is
+pub record Compares (answer : Compared) (r : CompareReply) (a a′ c c′ : Arena) (out out′ : List ℤ) : Type 0 where
+  pub reply : r ≡ compareReply answer
+  pub first : a′ ≡ filled a noBlock
+  pub second : c′ ≡ filled c noBlock
+  pub report : out′ ≡ reportLeft (length out) answer
 
 abbrev pub checkReply : Answer Unit → CheckReply
 checkReply d = record { number = numberIn d; place = placeIn d }

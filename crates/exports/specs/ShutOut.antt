@@ -1,20 +1,23 @@
 -- At a named input each export has this reply and leaves this, and nothing else: so one that refuses everything, passes everything, answers the place 0, writes
 -- nothing, leaves what it was lent, ignores the write position, tells an invented length, tells a wrong value as
--- a wrong opcode or takes a block that is not finished in strict reading is shut out. Lent runs are full of nines.
+-- a wrong opcode, takes a block that is not finished in strict reading or tells a wrong difference of two blocks is shut out. Lent runs are full of nines.
 use mathlib.Core.Path.{_≡_}
 use mathlib.Core.List.{List, [], _∷_, _++_}
 use Prim.Native.Nat.{ℕ}
+use lib.IntN.{ℤ, pos, negℤ}
 use lib.ListN.{replicate}
 use Rattle.rules.specs.Record.{recordAt, recordsBytes, recordBytes, wordBytes}
 use Rattle.rules.specs.Lookups.{rawAt, paddedAt, paddedIndex, rawIndex}
-use Rattle.rules.specs.Functions.{Arena, arena, built, encoded, decoded, strictlyDecoded, headed, structureChecked, paddingChecked, commitmentChecked, rawTabled, paddedTabled, groupLookup, nextLookup}
+use Rattle.rules.specs.Functions.{Arena, arena, built, encoded, decoded, strictlyDecoded, compared, headed, structureChecked, paddingChecked, commitmentChecked, rawTabled, paddedTabled, groupLookup, nextLookup}
 use Rattle.rules.specs.Examples.{tableT, op, is, lent, pair, over, low, push, laid, p1, p2}
 use Rattle.crossing.specs.Words.{wordsIn}
+use Rattle.comparison.specs.Replies.{side, roomFor}
 use Rattle.exports.specs.declared.BuildReply.{BuildReply}
 use Rattle.exports.specs.declared.EncodeReply.{EncodeReply}
 use Rattle.exports.specs.declared.DecodeReply.{DecodeReply}
+use Rattle.exports.specs.declared.CompareReply.{CompareReply}
 use Rattle.exports.specs.declared.TableReply.{TableReply}
-use Rattle.exports.specs.Replies.{Builds, Writes, Reads, Tables, BuildsBytes, ReadsBytes, TablesBytes, headReply, checkReply, paddedReply, rawReply, oneRecord, wholeWords, inWhole, groupReply, nextReply}
+use Rattle.exports.specs.Replies.{Builds, Writes, Reads, Tables, BuildsBytes, ReadsBytes, TablesBytes, headReply, Compares, checkReply, paddedReply, rawReply, oneRecord, wholeWords, inWhole, groupReply, nextReply}
 
 abbrev pub nines : ℕ → List ℕ
 nines n = replicate n 9
@@ -42,6 +45,12 @@ emptyLast = laid 2 (push ++ (0 ∷ [])) 2 (low 2 ++ low 0) (1 ∷ 0 ∷ [])
 
 abbrev pub keptFlag : List ℕ
 keptFlag = laid 2 (push ++ (0 ∷ [])) 1 (low 2) (5 ∷ [])
+
+-- compare of two runs of bytes, from two places on, with a report of so many numbers
+abbrev pub ComparesHere : List ℕ → ℕ → List ℕ → ℕ → ℕ → CompareReply → Arena → Arena → List ℤ → Type 0
+ComparesHere s at z from n r a c out =
+    let report = replicate n (pos 9) in
+    Compares (compared 8 (side tableT s at numbersOfTwo) (side tableT z from numbersOfTwo) (roomFor report)) r numbersOfTwo a numbersOfTwo c report out
 
 -- what P1's block leaves there
 abbrev pub codesLeft : List ℕ
@@ -106,6 +115,20 @@ pub record ShutOut : Type 0 where
       → (r ≡ record { number = 18; place = 0; batches = 0; operations = 0; used = 0 }) × (after ≡ zeroed 3 83)
   pub kept-strict-le : (r : DecodeReply) (after : Arena) → ReadsBytes (strictlyDecoded 8 tableT keptFlag 0) 0 r bytes after
       → (r ≡ record { number = 18; place = 0; batches = 0; operations = 0; used = 0 }) × (after ≡ zeroed 25 83)
+  -- P2's bytes and those with an empty batch more, which one side lacks; a report a number over, and one too short
+  pub oli-compare : (r : CompareReply) (a c : Arena) (out : List ℤ) → ComparesHere emptyLast 0 p2 0 9 r a c out
+      → (r ≡ record { mark = 0; number = 0; place = 0; entries = 2 }) × (a ≡ zeroed 3 165) × (c ≡ zeroed 3 165) × (out ≡ pos 6 ∷ pos 1 ∷ pos 2 ∷ pos 0 ∷ pos 7 ∷ pos 0 ∷ pos 0 ∷ negℤ (pos 1) ∷ pos 0 ∷ [])
+  pub compare-swapped : (r : CompareReply) (a c : Arena) (out : List ℤ) → ComparesHere p2 0 emptyLast 0 9 r a c out
+      → (r ≡ record { mark = 0; number = 0; place = 0; entries = 2 }) × (out ≡ pos 6 ∷ pos 1 ∷ pos 1 ∷ pos 0 ∷ pos 7 ∷ pos 0 ∷ pos 0 ∷ pos 1 ∷ pos 0 ∷ [])
+  pub compare-same : (r : CompareReply) (a c : Arena) (out : List ℤ) → ComparesHere p2 0 p2 0 9 r a c out
+      → (r ≡ record { mark = 0; number = 0; place = 0; entries = 0 }) × (out ≡ replicate 9 (pos 0))
+  pub compare-short : (r : CompareReply) (a c : Arena) (out : List ℤ) → ComparesHere emptyLast 0 p2 0 7 r a c out
+      → (r ≡ record { mark = 0; number = 13; place = 0; entries = 0 }) × (a ≡ zeroed 3 165) × (c ≡ zeroed 3 165) × (out ≡ replicate 7 (pos 0))
+  -- refusals: the second block's, and the first's before it
+  pub compare-second : (r : CompareReply) (a c : Arena) (out : List ℤ) → ComparesHere p2 0 p2 20 9 r a c out
+      → (r ≡ record { mark = 2; number = 2; place = 20; entries = 0 }) × (a ≡ zeroed 3 165) × (c ≡ zeroed 3 165) × (out ≡ replicate 9 (pos 0))
+  pub compare-first : (r : CompareReply) (a c : Arena) (out : List ℤ) → ComparesHere p2 21 p2 20 9 r a c out
+      → (r ≡ record { mark = 1; number = 1; place = 0; entries = 0 }) × (a ≡ zeroed 3 165) × (c ≡ zeroed 3 165) × (out ≡ replicate 9 (pos 0))
   -- checks
   pub passed : (checkReply (structureChecked 8 (lent p1)) ≡ record { number = 0; place = 0 })
       × (checkReply (paddingChecked 8 (lent p1)) ≡ record { number = 0; place = 0 })

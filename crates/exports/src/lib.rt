@@ -7,12 +7,14 @@ ghost use lib.ListN.{length};
 ghost use Rattle.rules.specs.Record.{recordAt, noBlock};
 ghost use Rattle.rules.specs.Block.{Room};
 ghost use Rattle.rules.specs.Lookups.{rawAt, paddedAt, paddedIndex, rawIndex};
-ghost use Rattle.rules.specs.Functions.{arena, built, encoded, decoded, strictlyDecoded, headed, structureChecked, paddingChecked, commitmentChecked, rawTabled, paddedTabled, tableOf, groupLookup, nextLookup};
+ghost use Rattle.rules.specs.Functions.{arena, built, encoded, decoded, strictlyDecoded, compared, headed, structureChecked, paddingChecked, commitmentChecked, rawTabled, paddedTabled, tableOf, groupLookup, nextLookup};
 ghost use Rattle.prefix.specs.Tables.{tableBy};
+ghost use Rattle.comparison.specs.Replies.{side, roomFor};
 ghost use Rattle.crossing.specs.Words.{wordsIn, fewWords};
-ghost use Rattle.exports.specs.Replies.{Builds, Writes, Reads, readBy, headReply, checkReply, Tables, paddedReply, rawReply, oneRecord, wholeWords, inWhole, filledBytes, BuildsBytes, ReadsBytes, TablesBytes, groupReply, nextReply};
-ghost use Rattle.exports.specs.Flat.{flatBuilt, flatEncoded, flatDecoded, flatHeaded, flatVerdict, flatTabled, flatPadded, flatRaw, flatGroup, flatNext};
+ghost use Rattle.exports.specs.Replies.{Builds, Writes, Reads, readBy, headReply, Compares, checkReply, Tables, paddedReply, rawReply, oneRecord, wholeWords, inWhole, filledBytes, BuildsBytes, ReadsBytes, TablesBytes, groupReply, nextReply};
+ghost use Rattle.exports.specs.Flat.{flatBuilt, flatEncoded, flatDecoded, flatHeaded, flatCompared, flatVerdict, flatTabled, flatPadded, flatRaw, flatGroup, flatNext};
 use build::Built;
+use comparison::Compared;
 use decoder::Decoded;
 use encoder::Encoded;
 use head::Headed;
@@ -55,6 +57,14 @@ pub struct HeadReply {
     pub place: usize,
     pub batches: usize,
     pub operations: usize,
+}
+
+#[repr(C)]
+pub struct CompareReply {
+    pub mark: u8,
+    pub number: u8,
+    pub place: usize,
+    pub entries: usize,
 }
 
 #[repr(C)]
@@ -252,6 +262,68 @@ pub extern "C" fn oli_head(table: &[u8], bytes: &[u8], at: usize) -> HeadReply
 {
     let r = head::head(table, bytes, at);
     flat_headed(r)
+}
+
+// ---- two blocks
+
+fn flat_compared(r: Compared) -> CompareReply
+    ensures { λ a. ⌜ a ≡ flatCompared r ⌝ }
+{
+    match r {
+        Compared::Reported { entries } => CompareReply {
+            mark: 0,
+            number: 0,
+            place: 0,
+            entries,
+        },
+        Compared::Refused {
+            mark,
+            number,
+            place,
+        } => CompareReply {
+            mark,
+            number,
+            place,
+            entries: 0,
+        },
+    }
+}
+
+// How they differ (M-105). The mark says whose refusal it is: 1 the first block's, 2 the second's, 0 that of a report too short.
+#[no_mangle]
+pub extern "C" fn oli_compare(
+    first_table: &[u8],
+    first: &[u8],
+    first_at: usize,
+    second_table: &[u8],
+    second: &[u8],
+    second_at: usize,
+    first_codes: &mut [u8],
+    first_values: &mut [u64],
+    first_records: &mut [u8],
+    second_codes: &mut [u8],
+    second_values: &mut [u64],
+    second_records: &mut [u8],
+    report: &mut [i32],
+) -> CompareReply
+    ensures { λ r. ⌜ Compares (compared 8 (side (now («first_table» .entry)) (now (first .entry)) «first_at» (arena (now («first_codes» .entry)) (now («first_values» .entry)) (now («first_records» .entry)))) (side (now («second_table» .entry)) (now (second .entry)) «second_at» (arena (now («second_codes» .entry)) (now («second_values» .entry)) (now («second_records» .entry)))) (roomFor (now (report .entry)))) r (arena (now («first_codes» .entry)) (now («first_values» .entry)) (now («first_records» .entry))) (arena (now («first_codes» .exit)) (now («first_values» .exit)) (now («first_records» .exit))) (arena (now («second_codes» .entry)) (now («second_values» .entry)) (now («second_records» .entry))) (arena (now («second_codes» .exit)) (now («second_values» .exit)) (now («second_records» .exit))) (now (report .entry)) (now (report .exit)) ⌝ }
+{
+    let r = comparison::compare(
+        first_table,
+        first,
+        first_at,
+        second_table,
+        second,
+        second_at,
+        first_codes,
+        first_values,
+        first_records,
+        second_codes,
+        second_values,
+        second_records,
+        report,
+    );
+    flat_compared(r)
 }
 
 // ---- checks

@@ -10,6 +10,8 @@ one-answer =
       encode = λ t a at before r q x y h k. (h .reply ∙ sym (k .reply), h .bytes ∙ sym (k .bytes));
       decode = λ t s at before r q x y h k. (h .reply ∙ sym (k .reply), h .runs ∙ sym (k .runs));
       decode-strict = λ t s at before r q x y h k. (h .reply ∙ sym (k .reply), h .runs ∙ sym (k .runs));
+      compare =
+          λ t s at u z from a c before r q x y h k. (h .reports .reply ∙ sym (k .reports .reply), λ i. ((h .first ∙ sym (k .first)) i, (h .second ∙ sym (k .second)) i, (h .reports .report ∙ sym (k .reports .report)) i));
       structure = λ a. equal _;
       padding = λ a. equal _;
       commitment = λ t a. equal _;

@@ -4,3 +4,4 @@ pub mod Checks
 pub mod Lookups
 pub mod OneAnswer
 pub mod Contracts
+pub mod Compare

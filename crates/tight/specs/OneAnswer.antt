@@ -2,9 +2,10 @@
 use mathlib.Core.Path.{_≡_}
 use mathlib.Core.List.{List}
 use Prim.Native.Nat.{ℕ}
+use lib.IntN.{ℤ}
 use lib.ListN.{length}
 use Rattle.rules.specs.Lookups.{rawAt, paddedAt, paddedIndex, rawIndex}
-use Rattle.rules.specs.Functions.{Arena, built, structureChecked, paddingChecked, commitmentChecked, rawTabled, paddedTabled, groupLookup, nextLookup, headed, countHere, opHere}
+use Rattle.rules.specs.Functions.{Arena, built, compared, structureChecked, paddingChecked, commitmentChecked, rawTabled, paddedTabled, groupLookup, nextLookup, headed, countHere, opHere}
 use Rattle.claims.specs.One.{One, Only}
 use Rattle.operation.specs.Verdict.{verdictOf}
 use Rattle.op_batch.specs.declared.OpBatch.{OpBatch}
@@ -13,6 +14,7 @@ use Rattle.wire.specs.Replies.{countReadOf, opReadOf}
 use Rattle.build.specs.Outcome.{Outcome}
 use Rattle.encoder.specs.Replies.{Encodes}
 use Rattle.decoder.specs.Replies.{Decodes, StrictlyDecodes}
+use Rattle.comparison.specs.Replies.{side, roomFor, Compares}
 use Rattle.head.specs.Replies.{headOf}
 use Rattle.prefix.specs.Tables.{Answered, paddedFound, rawFound}
 
@@ -21,6 +23,9 @@ pub record OneAnswer : Type 0 where
   pub encode : (t : List ℕ) (a : Arena) (at : ℕ) (before : List ℕ) → One (λ r after. Encodes t a at before after r)
   pub decode : (t s : List ℕ) (at : ℕ) (before : Arena) → One (λ r after. Decodes t s at before after r)
   pub decode-strict : (t s : List ℕ) (at : ℕ) (before : Arena) → One (λ r after. StrictlyDecodes t s at before after r)
+  -- the report and both rooms
+  pub compare : (t s : List ℕ) (at : ℕ) (u z : List ℕ) (from : ℕ) (a c : Arena) (before : List ℤ)
+      → One (λ r (after : Arena × Arena × List ℤ). Compares (compared 8 (side t s at a) (side u z from c) (roomFor before)) a (after .0) c (after .1) before (after .2) r)
   pub structure : (a : Arena) → Only (λ r. r ≡ verdictOf (structureChecked 8 a))
   pub padding : (a : Arena) → Only (λ r. r ≡ verdictOf (paddingChecked 8 a))
   pub commitment : (t : List ℕ) (a : Arena) → Only (λ r. r ≡ verdictOf (commitmentChecked 8 t a))
