@@ -234,6 +234,17 @@ pub fn fail(program: &[u8], path: &[u8]) {
     os::fail(b"");
 }
 
+// What kept a file from being read, by the failed call's error.
+pub fn unread(page: &mut [u8], error: i32) {
+    match error {
+        libc::ENOENT | libc::ENOTDIR => say(page, b"there is no such file\n"),
+        libc::EACCES | libc::EPERM => say(page, b"it may not be read\n"),
+        libc::EISDIR => say(page, b"it is a directory\n"),
+        libc::ENAMETOOLONG => say(page, b"its name is too long\n"),
+        _ => say(page, b"it cannot be read\n"),
+    }
+}
+
 pub fn wrong(program: &[u8], path: &[u8], what: &[u8]) {
     let mut line = errors();
     about(&mut line, program, path);

@@ -8,6 +8,7 @@ use console::say;
 use decoder::Decoded;
 use listing::After;
 use listing::Block;
+use listing::minus;
 use listing::plus;
 use op_batch::OpBatch;
 
@@ -19,13 +20,6 @@ struct Group {
     own: usize,
     pads: usize,
     flag: u8,
-}
-
-fn size(start: usize, end: usize) -> usize {
-    if end <= start {
-        return 0;
-    }
-    end - start
 }
 
 fn padding_in(size: usize, flag: u8) -> usize
@@ -47,7 +41,7 @@ fn group_at(batch: OpBatch, g: usize) -> Group
     let end = batch.starts[g + 1] as usize;
     let flag = batch.flags[g];
     let count = batch.count as usize;
-    let all = size(start, end);
+    let all = minus(end, start);
     let pads = padding_in(all, flag);
     Group {
         there: g < count,
@@ -301,7 +295,7 @@ fn print_batch(
     values: &mut [u64],
     records: &mut [u8],
 ) {
-    print_at_number(page, b" at batch ", place);
+    listing::print_at(page, b" at batch ", place);
     say(page, b": ");
     if batch.starts[8] == 0 {
         say(page, b"an empty batch");
@@ -391,21 +385,6 @@ fn print_why(
 
 // ---- a file's line
 
-fn print_at_number(page: &mut [u8], what: &[u8], n: usize) {
-    say(page, what);
-    number(page, n as u64);
-}
-
-// The byte that a refusal of decode points to, where it has one.
-fn print_place(page: &mut [u8], s: &[u8], refusal: u8, place: usize) {
-    match refusal {
-        2..=10 | 17 => {
-            print_at_number(page, b" at byte ", listing::place_byte(s, refusal, place))
-        }
-        _ => {}
-    }
-}
-
 fn start(page: &mut [u8], answer: &[u8], path: &[u8]) {
     say(page, answer);
     console::quote(page, path, 4096);
@@ -414,8 +393,7 @@ fn start(page: &mut [u8], answer: &[u8], path: &[u8]) {
 
 fn start_refused(page: &mut [u8], path: &[u8], s: &[u8], refusal: u8, place: usize) {
     start(page, b"not finished ", path);
-    number(page, word::wide(refusal));
-    print_place(page, s, refusal, place);
+    listing::print_numbered(page, s, 0, refusal, place);
 }
 
 // How many bytes follow, where there are any; `whole` where the file's end was seen.
@@ -492,21 +470,10 @@ fn check_bytes(page: &mut [u8], path: &[u8], s: &[u8], whole: bool) {
 
 // ---- files
 
-// What kept the file from being read, by the last call's error.
-fn print_error(page: &mut [u8], error: i32) {
-    match error {
-        libc::ENOENT | libc::ENOTDIR => say(page, b"there is no such file\n"),
-        libc::EACCES | libc::EPERM => say(page, b"it may not be read\n"),
-        libc::EISDIR => say(page, b"it is a directory\n"),
-        libc::ENAMETOOLONG => say(page, b"its name is too long\n"),
-        _ => say(page, b"it cannot be read\n"),
-    }
-}
-
 fn unread(page: &mut [u8], path: &[u8]) {
     let error = os::errno();
     start(page, b"not finished ", path);
-    print_error(page, error);
+    console::unread(page, error);
 }
 
 fn check_read(page: &mut [u8], path: &[u8], fd: i32, room: &mut [u8]) {

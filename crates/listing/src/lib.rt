@@ -15,6 +15,19 @@ pub fn plus(a: usize, b: usize) -> usize {
     std::num::wrapping_add_usize(a, b)
 }
 
+pub fn times4(n: usize) -> usize {
+    let two = plus(n, n);
+    plus(two, two)
+}
+
+// What is left of a after b; 0 where b is more.
+pub fn minus(a: usize, b: usize) -> usize {
+    if a <= b {
+        return 0;
+    }
+    a - b
+}
+
 // ---- operations
 
 // An operation's name, at the start of out; and how many bytes it has.
@@ -57,7 +70,8 @@ fn print_op(page: &mut [u8], code: u8, v: u64) {
     say(page, b")");
 }
 
-fn print_op_at(page: &mut [u8], codes: &[u8], values: &[u64], at: usize) {
+// The one at a place, after a space.
+pub fn print_op_at(page: &mut [u8], codes: &[u8], values: &[u64], at: usize) {
     if at < codes.len() {
         if at < values.len() {
             print_op(page, codes[at], values[at]);
@@ -258,13 +272,11 @@ fn flagged(batch: OpBatch) -> usize
 }
 
 // How many paddings a block has.
-fn paddings(records: &[u8], batches: usize) -> usize
-    requires { ⌜ batches ≤ 16384 ⌝ }
-{
+pub fn paddings(records: &[u8], batches: usize) -> usize {
     let mut n: usize = 0;
     let mut b: usize = 0;
     while b < batches {
-        n += flagged(record(records, b));
+        n = plus(n, flagged(record(records, b)));
         b += 1;
     }
     n
@@ -380,19 +392,14 @@ fn batch_byte(s: &[u8], at: usize, refusal: u8, batch: usize) -> usize {
     plus(nibbles, times4(batch))
 }
 
-fn times4(n: usize) -> usize {
-    let two = plus(n, n);
-    plus(two, two)
-}
-
-// The byte that the place of a refusal means, where it means one.
-pub fn place_byte(s: &[u8], refusal: u8, place: usize) -> usize {
+// The byte that the place of a refusal means, where it means one; the block is at a byte.
+pub fn place_byte(s: &[u8], from: usize, refusal: u8, place: usize) -> usize {
     if refusal == 2 {
         return place;
     }
-    let c = wire::read_count(s, 0);
+    let c = wire::read_count(s, from);
     let CountRead::Found { value, next } = c else {
-        return 0;
+        return from;
     };
     if refusal == 4 || refusal == 17 {
         return operation_byte(s, next, place);
@@ -449,7 +456,7 @@ fn print_meaning(page: &mut [u8], refusal: u8) {
     }
 }
 
-fn print_at(page: &mut [u8], what: &[u8], place: usize) {
+pub fn print_at(page: &mut [u8], what: &[u8], place: usize) {
     say(page, what);
     number(page, place as u64);
 }
@@ -475,4 +482,13 @@ pub fn print_refusal(page: &mut [u8], refusal: u8, place: usize) {
     number(page, word::wide(refusal));
     say(page, b": ");
     print_words(page, refusal, place);
+}
+
+// The number of a refusal of decode, and the byte that it points to, where it has one.
+pub fn print_numbered(page: &mut [u8], s: &[u8], from: usize, refusal: u8, place: usize) {
+    number(page, word::wide(refusal));
+    match refusal {
+        2..=10 | 17 => print_at(page, b" at byte ", place_byte(s, from, refusal, place)),
+        _ => {}
+    }
 }

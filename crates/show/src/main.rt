@@ -21,7 +21,7 @@ fn say_place(page: &mut [u8], s: &[u8], at: usize, refusal: u8, place: usize) {
         3..=10 | 17 => say_byte(
             page,
             b", at byte ",
-            plus(at, listing::place_byte(s, refusal, place)),
+            plus(at, listing::place_byte(s, 0, refusal, place)),
         ),
         _ => {}
     }

@@ -1,10 +1,10 @@
 use borrow.Author.Needs.{needs}
-use Prim.Native.Nat.{_≤_, _-_, _*_}
+use Prim.Native.Nat.{_≤_, _-_}
 use Rattle.listing.proofs.paddings.Statement.{statement}
 use Rattle.listing.proofs.paddings.Tie as tie
 
 abbrev Inv-loop : tie.InvT-loop
-Inv-loop records batches n₀ b₀ n b = (b ≤ batches) × (n ≤ 8 * b)
+Inv-loop records batches n₀ b₀ n b = b ≤ batches
 
 abbrev μ-loop : tie.MeasureT-loop
 μ-loop records batches n₀ b₀ n b = batches - b
@@ -18,8 +18,8 @@ record-requires c κs = search needs
 flagged-requires : tie.Need-flagged-requires Inv-loop μ-loop
 flagged-requires c κs = search needs
 
-add-n : tie.Need-add-n Inv-loop μ-loop
-add-n c = search needs
+plus-requires : tie.Need-plus-requires Inv-loop μ-loop
+plus-requires c κs = search needs
 
 add-b : tie.Need-add-b Inv-loop μ-loop
 add-b c = search needs
@@ -42,7 +42,7 @@ paddings-spec =
     loop-holds
     record-requires
     flagged-requires
-    add-n
+    plus-requires
     add-b
     loop-less
     loop-again
