@@ -188,6 +188,21 @@ pub fn block_room(s: &[u8], from: usize) -> Rooms
     }
 }
 
+// Working room for one of two blocks that are compared: no case of theirs needs more.
+pub fn pair_room(s: &[u8], from: usize) -> Rooms
+    ensures { λ r. ⌜ (r .codes ≤ 16384) × (r .values ≤ 16384) × (r .records ≤ 1343652) ⌝ }
+{
+    let k = room(s, from, 16384);
+    let v = room(s, k.at, 16384);
+    let r = room(s, v.at, MOST);
+    Rooms {
+        codes: k.lent,
+        values: v.lent,
+        records: r.lent,
+        at: r.at,
+    }
+}
+
 // Outputs are lent full of these, so that zeroing is seen.
 fn soil8(out: &mut [u8]) {
     fill8(out, 0, out.len(), 165);
@@ -195,6 +210,14 @@ fn soil8(out: &mut [u8]) {
 
 pub fn soil64(out: &mut [u64]) {
     fill64(out, 0, out.len(), 11936128518282651045);
+}
+
+pub fn soil32(out: &mut [i32]) {
+    let mut i: usize = 0;
+    while i < out.len() {
+        out[i] = -1515870811;
+        i += 1;
+    }
 }
 
 pub fn soil(codes: &mut [u8], values: &mut [u64], records: &mut [u8]) {
@@ -227,7 +250,8 @@ pub fn say_function(what: u64) {
         10 => say(b"raw index"),
         11 => say(b"group"),
         12 => say(b"next group"),
-        _ => say(b"decode strict"),
+        13 => say(b"decode strict"),
+        _ => say(b"compare"),
     }
 }
 
@@ -315,6 +339,35 @@ fn differs64(s: &[u8], from: usize, given: usize, ours: &[u64]) -> usize {
     i
 }
 
+// What is not negative, as it is.
+fn plain(n: i32) -> u64 {
+    if 0 <= n {
+        return n as u64;
+    }
+    0
+}
+
+// A signed number as the file has it: its 32 bits. Those of a negative one are the opposites of those of `!n`, which is not.
+fn bits(n: i32) -> u64 {
+    if 0 <= n {
+        return plain(n);
+    }
+    std::num::wrapping_sub_u64(4294967295, plain(!n))
+}
+
+fn differs32(s: &[u8], from: usize, given: usize, ours: &[i32]) -> usize {
+    let mut x = Read { value: 0, at: from };
+    let mut i: usize = 0;
+    while i < ours.len() {
+        x = item(s, x, i < given);
+        if x.value != bits(ours[i]) {
+            return i;
+        }
+        i += 1;
+    }
+    i
+}
+
 // A run of outputs that was read up to its items: ours is so long, and differs first at `at`.
 fn compared(mut c: Case, s: &[u8], h: Head, what: &[u8], ours: usize, at: usize) -> Case {
     c.at = skip(s, h.at, h.given);
@@ -342,6 +395,12 @@ pub fn bytes_are(c: Case, s: &[u8], what: &[u8], ours: &[u8]) -> Case {
 pub fn words_are(c: Case, s: &[u8], what: &[u8], ours: &[u64]) -> Case {
     let h = run_head(s, c.at, MOST);
     let at = differs64(s, h.at, h.given, ours);
+    compared(c, s, h, what, ours.len(), at)
+}
+
+pub fn signed_are(c: Case, s: &[u8], what: &[u8], ours: &[i32]) -> Case {
+    let h = run_head(s, c.at, MOST);
+    let at = differs32(s, h.at, h.given, ours);
     compared(c, s, h, what, ours.len(), at)
 }
 

@@ -14,10 +14,13 @@ use cases::fill64;
 use cases::is;
 use cases::made;
 use cases::number;
+use cases::pair_room;
 use cases::refusal;
 use cases::room;
 use cases::say_function;
+use cases::signed_are;
 use cases::soil;
+use cases::soil32;
 use cases::soil64;
 use cases::words;
 use cases::words_are;
@@ -114,6 +117,99 @@ fn from_bytes(mut c: Case, s: &[u8], table: &[u8], block: &[u8], from: usize) ->
         &mut out_codes[..x],
         &mut out_values[..y],
         &mut out[..z],
+    )
+}
+
+fn compare(
+    c: Case,
+    s: &[u8],
+    table: &[u8],
+    one: &[u8],
+    one_at: usize,
+    two_table: &[u8],
+    two: &[u8],
+    two_at: usize,
+    codes: &mut [u8],
+    values: &mut [u64],
+    records: &mut [u8],
+    two_codes: &mut [u8],
+    two_values: &mut [u64],
+    two_records: &mut [u8],
+    report: &mut [i32],
+) -> Case {
+    soil(codes, values, records);
+    soil(two_codes, two_values, two_records);
+    soil32(report);
+    let r = exports::oli_compare(
+        table,
+        one,
+        one_at,
+        two_table,
+        two,
+        two_at,
+        codes,
+        values,
+        records,
+        two_codes,
+        two_values,
+        two_records,
+        report,
+    );
+    let d = is(c, s, b"mark", r.mark as usize);
+    let e = refusal(d, s, r.number, r.place);
+    let f = is(e, s, b"entries", r.entries);
+    let g = block_is(f, s, codes, values, records);
+    let h = block_is(g, s, two_codes, two_values, two_records);
+    signed_are(h, s, b"report", report)
+}
+
+// Two blocks, where the line says how much room the first has, and the second; after that comes the length of the report.
+fn in_rooms(
+    mut c: Case,
+    s: &[u8],
+    table: &[u8],
+    one: &[u8],
+    one_at: usize,
+    two_table: &[u8],
+    two: &[u8],
+    two_at: usize,
+    first: usize,
+    second: usize,
+) -> Case {
+    let r = pair_room(s, first);
+    let q = pair_room(s, second);
+    let m = room(s, q.at, 65536);
+    c.at = m.at;
+    let x = r.codes;
+    let y = r.values;
+    let z = r.records;
+    let u = q.codes;
+    let v = q.values;
+    let w = q.records;
+    let n = m.lent;
+    let mut codes = space::list_codes();
+    let mut values = space::list_values();
+    let mut records = space::records();
+    let mut two_codes = space::list_codes();
+    let mut two_values = space::list_values();
+    let mut two_records = space::records();
+    let mut report = report_room();
+    compare(
+        c,
+        s,
+        table,
+        one,
+        one_at,
+        two_table,
+        two,
+        two_at,
+        &mut codes[..x],
+        &mut values[..y],
+        &mut records[..z],
+        &mut two_codes[..u],
+        &mut two_values[..v],
+        &mut two_records[..w],
+        &mut report[..n],
     )
 }
 
@@ -253,6 +349,38 @@ fn on_bytes(mut c: Case, s: &[u8], table: &[u8]) -> Case {
     from_bytes(c, s, table, &run[..n], from.value as usize)
 }
 
+// The second block of two, after the first and its room.
+fn with_second(c: Case, s: &[u8], table: &[u8], one: &[u8], one_at: usize, first: usize) -> Case {
+    let mut two_table = [0u8; 256];
+    let mut run = space::records();
+    let r = pair_room(s, first);
+    let t = bytes(s, r.at, &mut two_table);
+    let k = bytes(s, t.at, &mut run);
+    let from = number(s, k.at);
+    let x = t.lent;
+    let n = k.lent;
+    in_rooms(
+        c,
+        s,
+        table,
+        one,
+        one_at,
+        &two_table[..x],
+        &run[..n],
+        from.value as usize,
+        first,
+        from.at,
+    )
+}
+
+fn on_pair(c: Case, s: &[u8], table: &[u8]) -> Case {
+    let mut run = space::records();
+    let k = bytes(s, c.at, &mut run);
+    let from = number(s, k.at);
+    let n = k.lent;
+    with_second(c, s, table, &run[..n], from.value as usize, from.at)
+}
+
 // The functions on a block: encode, the checks and the tables.
 fn with_block(
     c: Case,
@@ -314,6 +442,7 @@ fn dispatch(c: Case, s: &[u8], table: &[u8]) -> Case {
         2 | 4 | 5 | 6 | 7 | 8 => on_block(c, s, table),
         9 | 10 => on_entries(c, s),
         11 | 12 => on_record(c, s),
+        14 => on_pair(c, s, table),
         _ => astray(c),
     }
 }
@@ -326,12 +455,12 @@ fn astray(mut c: Case) -> Case {
 
 // ---- a file
 
-// In counts 1 to 13 are the cases of a file that agree, by function; these are of all files.
-const CASES: usize = 14;
+// In counts 1 to 14 are the cases of a file that agree, by function; these are of all files.
+const CASES: usize = 15;
 
-const DIFFER: usize = 15;
+const DIFFER: usize = 16;
 
-const NOT_READ: usize = 16;
+const NOT_READ: usize = 17;
 
 fn add(counts: &mut [u64], i: usize) {
     if i < counts.len() {
@@ -434,7 +563,7 @@ fn print_count(what: u64, n: usize) {
 
 fn print_counts(counts: &[u64]) {
     let mut what: usize = 1;
-    while what <= 13 {
+    while what <= 14 {
         print_count(what as u64, counted(counts, what));
         what += 1;
     }
@@ -507,6 +636,13 @@ fn total(counts: &[u64]) {
 
 // ---- room
 
+// 16,384 entries.
+fn report_room() -> [i32; 65536]
+    ensures { λ r. ⌜ 65536 ≡ length r ⌝ }
+{
+    [0; 65536]
+}
+
 fn text_room() -> [u8; 262144]
     ensures { λ r. ⌜ 262144 ≡ length r ⌝ }
 {
@@ -550,7 +686,7 @@ fn main() {
         help();
         return;
     }
-    let mut counts = [0u64; 17];
+    let mut counts = [0u64; 18];
     files(os::arg_count(), &mut counts);
     total(&counts);
 }

@@ -4,10 +4,10 @@ use Rattle.replay.proofs.print_counts.Statement.{statement}
 use Rattle.replay.proofs.print_counts.Tie as tie
 
 abbrev Inv-loop : tie.InvT-loop
-Inv-loop counts what₀ what = what ≤ 14
+Inv-loop counts what₀ what = what ≤ 15
 
 abbrev μ-loop : tie.MeasureT-loop
-μ-loop counts what₀ what = 14 - what
+μ-loop counts what₀ what = 15 - what
 
 loop-holds : tie.Need-loop-holds Inv-loop μ-loop
 loop-holds c = search needs
