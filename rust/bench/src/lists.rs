@@ -56,6 +56,26 @@ impl List {
             .collect();
         Self { ops }
     }
+
+    /// Another list of the same kinds, so that its batches are of the same size, which differs in each
+    /// batch: every seventh operation is another, and the last (a batch that ends because it is full
+    /// has seven or more).
+    pub fn other(&self) -> Self {
+        let table = original::table();
+        let last = self.ops.len() - 1;
+        let another = |op: u8| {
+            let mut others = (op + 1..128).chain(1..=op);
+            others.find(|&other| table[other as usize] == 0)
+        };
+        let ops = self.ops.iter().enumerate().map(|(i, &(op, value))| {
+            match (i % 7 == 6 || i == last, table[op as usize]) {
+                (false, _) => (op, value),
+                (true, 0) => (another(op).unwrap_or(op), value),
+                (true, _) => (op, value.checked_sub(1).unwrap_or(1)),
+            }
+        });
+        Self { ops: ops.collect() }
+    }
 }
 
 /// Xorshift over 64 bits.

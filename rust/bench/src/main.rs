@@ -10,6 +10,11 @@
 //! `strict` is the strict decoder on a finished block. The original has none: there it stands for
 //! decode, the list without padding, its batches, and the comparison of the two. After each list
 //! comes what strictness costs the port: (strict - decode) / build, of the best samples.
+//!
+//! `compare` is the comparison of two blocks, `decodes` that of reading both and no more: with a copy of
+//! the same block (`same`), and with one of the same size that differs in each batch (`other`). The
+//! original has none: there it stands for reading both and asking of each batch whether the two are
+//! equal. After each list comes what comparing costs beside reading: (compare - decodes) / decodes.
 
 mod floor;
 mod lists;
@@ -57,11 +62,15 @@ const CONTENDERS: &[Contender] = &[
     },
 ];
 
-const FUNCTIONS: [&str; 10] = [
+const FUNCTIONS: [&str; 14] = [
     "build",
     "encode",
     "decode",
     "strict",
+    "decodes same",
+    "compare same",
+    "decodes other",
+    "compare other",
     "decode, 1 MiB",
     "structure",
     "padding",
@@ -110,16 +119,38 @@ fn main() {
                         .map(|(name, best)| ((name, function), best)),
                 );
             }
-            let best = |name, function| bests.get(&(name, function)).copied();
-            for Contender { name, .. } in CONTENDERS.iter().filter(|c| c.name != "copy") {
-                if let (Some(build), Some(decode), Some(strict)) = (
-                    best(*name, "build"),
-                    best(*name, "decode"),
-                    best(*name, "strict"),
-                ) {
-                    let cost = (strict - decode) / build;
-                    println!("  (strict - decode) / build  {name:<10} {cost:5.2}");
-                }
+            shares(&bests);
+        }
+    }
+}
+
+/// What strictness costs beside build, and comparing beside two decodes.
+fn shares(bests: &BTreeMap<(&str, &str), f64>) {
+    let best = |name, function| bests.get(&(name, function)).copied();
+    let names = || {
+        CONTENDERS
+            .iter()
+            .map(|c| c.name)
+            .filter(|&name| name != "copy")
+    };
+    for name in names() {
+        if let (Some(build), Some(decode), Some(strict)) = (
+            best(name, "build"),
+            best(name, "decode"),
+            best(name, "strict"),
+        ) {
+            let cost = (strict - decode) / build;
+            println!("  (strict - decode) / build  {name:<10} {cost:5.2}");
+        }
+    }
+    for (which, decodes, compare) in [
+        ("same", "decodes same", "compare same"),
+        ("other", "decodes other", "compare other"),
+    ] {
+        for name in names() {
+            if let (Some(decodes), Some(compare)) = (best(name, decodes), best(name, compare)) {
+                let cost = (compare - decodes) / decodes;
+                println!("  (compare - decodes) / decodes, {which:<5}  {name:<10} {cost:5.2}");
             }
         }
     }

@@ -4,7 +4,7 @@
 use std::{hint::black_box, rc::Rc};
 
 use oliastrofu::{
-    Block, le,
+    Block, ENTRY, Source, le,
     lent::{self, Outputs},
 };
 
@@ -38,6 +38,23 @@ struct Prepared {
     values: Vec<u64>,
     block: Rc<Block>,
     bytes: Vec<u8>,
+    /// Of the other list.
+    other: Vec<u8>,
+}
+
+/// The bytes of a list's block.
+fn written(table: &[u8], list: &List) -> Vec<u8> {
+    let (codes, values): (Vec<u8>, Vec<u64>) = list.ops.iter().copied().unzip();
+    let block = oliastrofu::build(table, &codes, &values).expect("the list is good");
+    oliastrofu::encode(table, &block).expect("the block is good")
+}
+
+fn source<'a>(table: &'a [u8], bytes: &'a [u8]) -> Source<'a> {
+    Source {
+        table,
+        bytes,
+        at: 0,
+    }
 }
 
 impl Prepared {
@@ -48,13 +65,33 @@ impl Prepared {
         let bytes = oliastrofu::encode(&table, &block).expect("the block is good");
         let finished = oliastrofu::decode_strict(&table, &bytes, 0).expect("it was built");
         assert_eq!(finished.listed(), codes.len());
+        let other = written(&table, &list.other());
+        let report = oliastrofu::compare(source(&table, &bytes), source(&table, &other));
+        let report = report.expect("both are good");
+        // In each batch a number and an operation or two, and in nothing else.
+        assert!((1..=2).contains(&(report.len() / block.batches().len())));
         Self {
             table,
             codes,
             values,
             block,
             bytes,
+            other,
         }
+    }
+
+    /// The block's bytes, beside a copy and beside the other's.
+    fn pairs(&self) -> [Two; 2] {
+        let of = |names: [&'static str; 2], other: &[u8]| Two {
+            names,
+            table: self.table,
+            one: self.bytes.clone(),
+            other: other.to_vec(),
+        };
+        [
+            of(["decodes same", "compare same"], &self.bytes),
+            of(["decodes other", "compare other"], &self.other),
+        ]
     }
 
     /// A large buffer with the block in it, and its place.
@@ -66,15 +103,73 @@ impl Prepared {
     }
 }
 
+/// Two blocks' bytes, and what their tasks are called: to read both, and to compare them.
+#[derive(Clone)]
+struct Two {
+    names: [&'static str; 2],
+    table: [u8; 128],
+    one: Vec<u8>,
+    other: Vec<u8>,
+}
+
+impl Two {
+    fn sources(&self) -> [Source<'_>; 2] {
+        [&self.one, &self.other].map(|bytes| source(&self.table, bytes))
+    }
+
+    /// On room that is lent once: of the blocks' own lengths, and for five entries to a batch and four.
+    fn lent(self, block: &Block) -> [Task; 2] {
+        let [decodes, compare] = self.names;
+        let mut rooms = [Room::of(block), Room::of(block)];
+        let mut work = [Room::of(block), Room::of(block)];
+        let mut report = vec![0; ENTRY * (5 * block.batches().len() + 4)];
+        let two = self.clone();
+        [
+            Task::new(decodes, move || {
+                let [one, other] = black_box(&mut rooms);
+                let [first, second] = black_box(&self).sources();
+                [(first, one), (second, other)].map(|(source, room)| {
+                    lent::decode(source.table, source.bytes, source.at, room.lent())
+                })
+            }),
+            Task::new(compare, move || {
+                let [one, other] = black_box(&mut work);
+                let [first, second] = black_box(&two).sources();
+                let report = black_box(&mut report);
+                lent::compare(first, second, one.lent(), other.lent(), report)
+                    .map(|differences| differences.len())
+            }),
+        ]
+    }
+
+    /// With room of their own.
+    fn owned(self) -> [Task; 2] {
+        let [decodes, compare] = self.names;
+        let two = self.clone();
+        [
+            Task::new(decodes, move || {
+                let sources = black_box(&self).sources();
+                sources.map(|source| oliastrofu::decode(source.table, source.bytes, source.at))
+            }),
+            Task::new(compare, move || {
+                let [first, second] = black_box(&two).sources();
+                oliastrofu::compare(first, second)
+            }),
+        ]
+    }
+}
+
 pub fn tasks(list: &List) -> Vec<Task> {
     let prepared = Prepared::new(list);
     let (buffer, at) = prepared.among_others();
+    let pairs = prepared.pairs();
     let Prepared {
         table,
         codes,
         values,
         block,
         bytes,
+        ..
     } = prepared;
     let mut built = Room::of(&block);
     let mut read = Room::of(&block);
@@ -90,7 +185,8 @@ pub fn tasks(list: &List) -> Vec<Task> {
     let mut padded = oliastrofu::padded_table(&block)
         .expect("the block is good")
         .0;
-    vec![
+    let mut tasks: Vec<Task> = pairs.into_iter().flat_map(|two| two.lent(&block)).collect();
+    tasks.extend([
         Task::new("build", move || {
             lent::build(
                 &table,
@@ -130,13 +226,15 @@ pub fn tasks(list: &List) -> Vec<Task> {
             let block = block.clone();
             move || lent::padded_table(black_box(&block).arena(), black_box(&mut padded))
         }),
-    ]
+    ]);
+    tasks
 }
 
 /// Where the port makes the room.
 pub fn owned(list: &List) -> Vec<Task> {
     let prepared = Prepared::new(list);
     let (buffer, at) = prepared.among_others();
+    let mut tasks: Vec<Task> = prepared.pairs().into_iter().flat_map(Two::owned).collect();
     let Prepared {
         table,
         codes,
@@ -145,7 +243,7 @@ pub fn owned(list: &List) -> Vec<Task> {
         ..
     } = prepared;
     let strictly = bytes.clone();
-    vec![
+    tasks.extend([
         Task::new("build", move || {
             oliastrofu::build(&table, black_box(&codes), black_box(&values))
         }),
@@ -158,7 +256,8 @@ pub fn owned(list: &List) -> Vec<Task> {
         Task::new("decode, 1 MiB", move || {
             oliastrofu::decode(&table, black_box(&buffer), at)
         }),
-    ]
+    ]);
+    tasks
 }
 
 /// Over bytes alone, on room that is lent once.
@@ -200,6 +299,7 @@ pub fn bytes(list: &List) -> Vec<Task> {
         values,
         block,
         bytes,
+        ..
     } = Prepared::new(list);
     let values = of(&values);
     let lent = Rc::new(Bytes::of(&block));

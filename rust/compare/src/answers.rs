@@ -2,7 +2,7 @@
 //!
 //! A line is eight words with one space between two: the export, a digest of all that it was lent,
 //! the number of refusal, the place, the three other numbers of the reply, and a digest of the
-//! outputs. What a reply does not have is 0. What is asked depends on whether an earlier answer was
+//! outputs. What a reply does not have is 0; compare has its entries and its mark. What is asked depends on whether an earlier answer was
 //! a refusal, and never on its number.
 
 use std::{
@@ -11,7 +11,7 @@ use std::{
     path::Path,
 };
 
-use model::{Answer, Arena, Call, Function, Room};
+use model::{Answer, Arena, Call, Function, Room, Source};
 
 /// A form of a function: on numbers, over bytes (with bytes left over in inputs and outputs), or
 /// the head of a block to decode.
@@ -41,7 +41,10 @@ impl Answers {
         let Some(answer) = answer else {
             return writeln!(self.to, "{name} {lent:016x} not zeroed");
         };
-        let [first, second, third] = answer.rest;
+        let [first, mut second, third] = answer.rest;
+        if call.function() == Function::Compare {
+            second = answer.mark.into();
+        }
         writeln!(
             self.to,
             "{name} {lent:016x} {} {} {first} {second} {third} {:016x}",
@@ -97,6 +100,13 @@ impl Digest {
         self.run(arena.records);
     }
 
+    fn source(&mut self, source: Source<'_>) {
+        self.run(source.table);
+        self.run(source.bytes);
+        self.size(source.at);
+        self.room(source.room);
+    }
+
     fn room(&mut self, room: Room) {
         self.size(room.codes);
         self.size(room.values);
@@ -111,6 +121,11 @@ fn outputs(answer: &Answer) -> u64 {
     digest.run(&answer.records);
     digest.run(&answer.buffer);
     digest.run(&answer.entries);
+    // Only compare has one: without it the digest is that of the other outputs alone.
+    if !answer.report.is_empty() {
+        let numbers: Vec<u32> = answer.report.iter().map(|n| n.cast_unsigned()).collect();
+        digest.run(&numbers);
+    }
     digest.0
 }
 
@@ -180,6 +195,15 @@ fn lent(form: Form, call: Call<'_>) -> u64 {
         Call::Group { record, index: at } | Call::NextGroup { record, group: at } => {
             digest.run(record);
             digest.size(at);
+        }
+        Call::Compare {
+            first,
+            second,
+            report,
+        } => {
+            digest.source(first);
+            digest.source(second);
+            digest.size(report);
         }
     }
     digest.0

@@ -117,7 +117,7 @@ pub fn answer(call: Call<'_>, more: usize, left: usize) -> Option<Answer> {
             let reply = le::raw_index(&bytes(table, more), padded);
             found(reply.found, reply.index, 0)
         }
-        Call::Group { .. } | Call::NextGroup { .. } => return None,
+        Call::Group { .. } | Call::NextGroup { .. } | Call::Compare { .. } => return None,
     };
     Some(answer)
 }
@@ -163,9 +163,11 @@ pub fn broken(call: Call<'_>) -> Option<Answer> {
             ..refused
         }),
         Call::PaddedIndex { .. } | Call::RawIndex { .. } => Some(Answer::default()),
-        Call::Decode { .. } | Call::Strict { .. } | Call::Group { .. } | Call::NextGroup { .. } => {
-            None
-        }
+        Call::Decode { .. }
+        | Call::Strict { .. }
+        | Call::Group { .. }
+        | Call::NextGroup { .. }
+        | Call::Compare { .. } => None,
     }
 }
 
@@ -173,7 +175,7 @@ pub fn broken(call: Call<'_>) -> Option<Answer> {
 /// of lookups in long tables less.
 pub fn worth(call: Call<'_>, answer: &Answer, turn: u64) -> bool {
     let every = match call {
-        Call::Group { .. } | Call::NextGroup { .. } => return false,
+        Call::Group { .. } | Call::NextGroup { .. } | Call::Compare { .. } => return false,
         Call::PaddedIndex { table, .. } | Call::RawIndex { table, .. } if table.len() > 64 => 512,
         _ => 8,
     };

@@ -170,7 +170,8 @@ pub fn known(function: Function, fault: Fault, number: u8, did: Did) -> bool {
             OperationsOverLimit | BatchesOverLimit => (number, did) == (3, Answers),
             _ => false,
         },
-        Function::Decode => match fault {
+        // Compare reads as decode does.
+        Function::Decode | Function::Compare => match fault {
             // It has no limits, and goes on to what comes later.
             OperationsOverLimit | BytesOverLimit => number == 3 && did != Panics,
             BatchesOverLimit => number == 3 && (did == Answers || matches!(did, Refuses(6..=11))),

@@ -1,10 +1,12 @@
 //! The comparison: calls, who answers them, and what is counted.
 
 pub mod answers;
+pub mod apart;
 #[cfg(feature = "port")]
 pub mod bytes;
 pub mod inputs;
 pub mod known;
+pub mod pairs;
 #[cfg(feature = "port")]
 pub mod port;
 pub mod run;

@@ -19,6 +19,7 @@ use std::{
 use compare::{
     Run, Seed, Stopped,
     answers::Answers,
+    pairs,
     run::{Strict, Tally},
     sections,
     theirs::Did,
@@ -146,6 +147,16 @@ fn all(run: &mut Run, seed: u64, count: u64, start: Instant) -> Result<(), Stopp
         line(run, &format!("twist {turn} of {}", count / 16));
         sections::unfinished_turn(run, &mut seed)?;
     }
+    let short = if run.answers.is_none() { 2 } else { 1 };
+    pairs::pairs(run, short, &mut |run| line(run, "two blocks"))?;
+    if run.answers.is_none() {
+        line(run, "two blocks at the limits");
+        pairs::limits(run)?;
+    }
+    for turn in 0..count / 32 {
+        line(run, &format!("pair {turn} of {}", count / 32));
+        pairs::turn(run, &mut seed)?;
+    }
     Ok(())
 }
 
@@ -220,6 +231,7 @@ fn report(tally: &Tally, name: &str) {
     for what in Strict::ALL {
         println!("{:>10}  {}", tally.strict[what as usize], what.words());
     }
+    reported(tally);
     println!("\nNOT COMPARED WITH THE ORIGINAL");
     for (why, times) in &tally.not_asked {
         println!("{times:>10}  {why}");
@@ -228,6 +240,36 @@ fn report(tally: &Tally, name: &str) {
         "{:>10}  place of a structure refusal whose sum is wrong (the number is compared)",
         tally.places
     );
+}
+
+/// What compare said of two blocks.
+fn reported(tally: &Tally) {
+    println!("\nCOMPARE (by the request's words, and by what the original shows of two blocks)");
+    println!("{:>10}  pairs of blocks", tally.pairs);
+    let kinds = [
+        "reports of nothing",
+        "entries: a number",
+        "entries: a flag",
+        "entries: a length",
+        "entries: an operation",
+        "entries: a group count",
+        "entries: a missing batch",
+        "entries: batches",
+        "entries: padded operations",
+        "entries: raw operations",
+        "entries: paddings",
+    ];
+    for (times, what) in tally.reported.iter().zip(kinds) {
+        println!("{times:>10}  {what}");
+    }
+    let whose = [
+        "the report is too short",
+        "the first block",
+        "the second block",
+    ];
+    for (times, what) in tally.marked.iter().zip(whose) {
+        println!("{times:>10}  refused: {what}");
+    }
 }
 
 fn numbers(tally: &Tally, name: &str) {

@@ -1,7 +1,7 @@
 //! The port's answers. Outputs are lent full of other bytes, so that what is not zeroed shows.
 
-use model::{Answer, Call, RECORD, Room};
-use oliastrofu::{Refusal, boundary};
+use model::{Answer, Call, RECORD, Room, Source};
+use oliastrofu::{Difference, ENTRY, Refusal, Side, boundary, lent::Outputs};
 
 fn dirty(room: Room) -> Answer {
     Answer {
@@ -152,6 +152,50 @@ pub fn answer(call: Call<'_>) -> Answer {
                 ..found(reply.found, reply.group, 0)
             }
         }
+        Call::Compare {
+            first,
+            second,
+            report,
+        } => compare(first, second, report),
+    }
+}
+
+fn source(side: Source<'_>) -> oliastrofu::Source<'_> {
+    oliastrofu::Source {
+        table: side.table,
+        bytes: side.bytes,
+        at: side.at,
+    }
+}
+
+/// Working room and report are lent full of other numbers.
+fn compare(first: Source<'_>, second: Source<'_>, report: usize) -> Answer {
+    let (mut one, mut two) = (dirty(first.room), dirty(second.room));
+    let mut numbers = vec![-0x5a5a_5a5b; report];
+    fn lent(room: &mut Answer) -> Outputs<'_> {
+        Outputs {
+            codes: &mut room.codes,
+            values: &mut room.values,
+            records: &mut room.records,
+        }
+    }
+    let reply = boundary::compare(
+        source(first),
+        source(second),
+        lent(&mut one),
+        lent(&mut two),
+        &mut numbers,
+    );
+    Answer {
+        mark: reply.mark,
+        number: reply.number,
+        place: reply.place,
+        rest: [reply.entries, 0, 0],
+        codes: [one.codes, two.codes].concat(),
+        values: [one.values, two.values].concat(),
+        records: [one.records, two.records].concat(),
+        report: numbers,
+        ..Answer::default()
     }
 }
 
@@ -252,8 +296,29 @@ pub fn owned_agrees(call: Call<'_>, answer: &Answer) -> bool {
             Ok(table) => answer.number == 0 && table.0 == answer.entries[..answer.rest[0]],
             Err(error) => refused(error) == refusal(answer),
         },
+        Call::Compare { first, second, .. } => {
+            match oliastrofu::compare(source(first), source(second)) {
+                Ok(report) => {
+                    let (entries, _) = answer.report.as_chunks::<ENTRY>();
+                    let said = entries[..answer.rest[0]].iter().copied();
+                    answer.number == 0
+                        && report.len() == answer.rest[0]
+                        && report.differences().eq(said.map(Difference::of_entry))
+                        && !report.differences().any(unknown)
+                }
+                Err(error) => {
+                    let side = [None, Some(Side::First), Some(Side::Second)];
+                    error.side == side[usize::from(answer.mark)]
+                        && refused(error.refusal) == refusal(answer)
+                }
+            }
+        }
         _ => true,
     }
+}
+
+fn unknown(difference: Difference) -> bool {
+    matches!(difference, Difference::Other(_))
 }
 
 fn block(arena: model::Arena<'_>) -> oliastrofu::Block {

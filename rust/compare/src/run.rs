@@ -4,12 +4,13 @@ use std::{collections::BTreeMap, fmt::Write as _};
 
 use model::{
     Answer, Arena, Batch, Call, FIELD, Function, MOST_BATCHES, MOST_BYTES, MOST_LISTED,
-    MOST_PADDED, RECORD, Room, batches_of,
+    MOST_PADDED, RECORD, Room, Source, batches_of,
 };
 use original::Refused;
 
 use crate::{
     answers::{Answers, Form},
+    apart,
     inputs::{Block, List},
     known::{self, Fault},
     theirs::{self, Did, did},
@@ -23,25 +24,31 @@ pub struct Stopped(pub String);
 #[derive(Default)]
 pub struct Tally {
     /// The port against the model, by function.
-    pub model: [u64; 13],
+    pub model: [u64; 14],
     /// The port's functions over bytes against the model, by function.
-    pub bytes: [u64; 13],
+    pub bytes: [u64; 14],
     /// The numbers of the port's `oli_head`, held against the model for every decode.
     pub heads: [u64; 19],
     /// The port (or the model in its place) against the original, by function.
-    pub original: [u64; 13],
+    pub original: [u64; 14],
     /// The numbers of all answers that were compared, by function; 0 is no refusal.
-    pub numbers: [[u64; 19]; 13],
+    pub numbers: [[u64; 19]; 14],
     /// The differences that are known.
     pub known: BTreeMap<(Function, Fault, u8, Did), u64>,
     /// Answers that are the same but for a place that the original names otherwise or not at all.
     pub places: u64,
     /// Blocks with a flag at or above a batch's count, compared with the original, by function.
-    pub kept: [u64; 13],
+    pub kept: [u64; 14],
     /// Those of them that both sides take, with the same answer.
-    pub kept_taken: [u64; 13],
+    pub kept_taken: [u64; 14],
     /// What strict reading is to say, by the request's own words.
     pub strict: [u64; 7],
+    /// Two blocks that were held beside each other in all ways (M-105).
+    pub pairs: u64,
+    /// Reports without an entry, then the entries of each kind (M-105).
+    pub reported: [u64; 11],
+    /// Refusals of compare: of a report too short, of the first block, of the second.
+    pub marked: [u64; 3],
     /// Calls that the original could not be given.
     pub not_asked: BTreeMap<&'static str, u64>,
 }
@@ -100,7 +107,7 @@ impl Strict {
 }
 
 pub struct Run {
-    ours: fn(Call<'_>) -> Answer,
+    pub(crate) ours: fn(Call<'_>) -> Answer,
     /// Those who answer are the port, and are held against the model too.
     pub port: bool,
     /// The original's own table.
@@ -304,6 +311,11 @@ impl Run {
                 at,
                 room,
             } => self.beside_rule(call, ours, table, bytes, at, room),
+            Call::Compare {
+                first,
+                second,
+                report,
+            } => self.beside_compare(call, ours, [first, second], report),
             Call::Build { table, .. } | Call::Encode { table, .. } | Call::Decode { table, .. }
                 if other_table(table) =>
             {
@@ -496,6 +508,77 @@ impl Run {
         }
         let why = "strict reading is not by the rule";
         Err(stopped(why, call, ours, &show(want)))
+    }
+
+    /// Compare beside the request's own words, over what decode says of the two blocks; and beside
+    /// what the original shows of them.
+    fn beside_compare(
+        &mut self,
+        call: Call<'_>,
+        ours: &Answer,
+        sides: [Source<'_>; 2],
+        report: usize,
+    ) -> Checked<()> {
+        self.count_report(ours);
+        let decoded = sides.map(|side| (self.ours)(decode_of(side)));
+        let want = apart::by_rule(sides, &decoded, report);
+        if *ours != want {
+            let why = "compare is not by the rule";
+            return Err(stopped(why, call, ours, &show(&want)));
+        }
+        self.beside_shown(call, ours, sides, report)
+    }
+
+    fn count_report(&mut self, ours: &Answer) {
+        if ours.number != 0 {
+            self.tally.marked[usize::from(ours.mark.min(2))] += 1;
+            return;
+        }
+        let entries = apart::entries(ours);
+        self.tally.reported[0] += u64::from(entries.is_empty());
+        for &[kind, ..] in entries {
+            self.tally.reported[kind.clamp(1, 10) as usize] += 1;
+        }
+    }
+
+    /// Both blocks by the original's decoder, and what it shows of them side by side.
+    fn beside_shown(
+        &mut self,
+        call: Call<'_>,
+        ours: &Answer,
+        sides: [Source<'_>; 2],
+        report: usize,
+    ) -> Checked<()> {
+        if sides.iter().any(|side| side.table != self.table) {
+            return self.skip("another table than the original's");
+        }
+        if ours.mark != 0 && [13, 14].contains(&ours.number) {
+            return self.skip("refused with 13 or 14");
+        }
+        let [Ok(first), Ok(second)] = sides.map(|side| u32::try_from(side.at)) else {
+            return self.skip("an offset over 32 bits");
+        };
+        let shown = |side: Source<'_>, at| original::decode(side.bytes, at).map(|read| read.0);
+        let theirs = match (shown(sides[0], first), ours.mark) {
+            (Ok(one), 0 | 2) => shown(sides[1], second).map(|two| [one, two]),
+            (one, _) => one.map(|one| [one, Vec::new()]),
+        };
+        let agree = match &theirs {
+            Ok(_) if ours.mark != 0 => false,
+            Ok([one, two]) => match apart::shown(one, two) {
+                Ok(entries) if ours.number == 13 => entries.len() > report / 4,
+                Ok(entries) => entries == apart::entries(ours),
+                Err(_) => false,
+            },
+            Err(refused) => same_refusal(ours, refused),
+        };
+        self.settle(call, ours, &theirs, agree, || {
+            let side = sides[usize::from(ours.mark.clamp(1, 2)) - 1];
+            match (ours.number, ours.mark) {
+                (3, 1 | 2) => decode_limit(side.table, side.bytes, side.at),
+                _ => None,
+            }
+        })
     }
 
     fn beside_structure(&mut self, call: Call<'_>, ours: &Answer, arena: Arena<'_>) -> Checked<()> {
@@ -723,6 +806,16 @@ impl Run {
     #[cfg(not(feature = "port"))]
     pub fn owned(&mut self, _: Call<'_>, _: &Answer) -> Checked<()> {
         Ok(())
+    }
+}
+
+/// The call that reads one of two blocks that are compared.
+pub fn decode_of(source: Source<'_>) -> Call<'_> {
+    Call::Decode {
+        table: source.table,
+        bytes: source.bytes,
+        at: source.at,
+        room: source.room,
     }
 }
 
@@ -989,6 +1082,9 @@ fn kept(call: Call<'_>) -> bool {
         Call::Decode {
             table, bytes, at, ..
         } => kept_in_bytes(table, bytes, at),
+        Call::Compare { first, second, .. } => [first, second]
+            .iter()
+            .any(|side| kept_in_bytes(side.table, side.bytes, side.at)),
         Call::Encode { arena, .. }
         | Call::Structure { arena }
         | Call::Padding { arena }
@@ -1082,6 +1178,26 @@ pub fn describe(call: Call<'_>) -> String {
         Call::NextGroup { record, group } => {
             format!("{name}\nrecord {}\ngroup {group}", hex(record))
         }
+        Call::Compare {
+            first,
+            second,
+            report,
+        } => {
+            let side = |side: Source<'_>| {
+                format!(
+                    "table {}\nbytes {}\nat {}, {:?}",
+                    hex(side.table),
+                    hex(side.bytes),
+                    side.at,
+                    side.room
+                )
+            };
+            format!(
+                "{name}\nfirst: {}\nsecond: {}\nreport of {report}",
+                side(first),
+                side(second)
+            )
+        }
     }
 }
 
@@ -1095,11 +1211,15 @@ fn show(answer: &Answer) -> String {
             hex(&run[..end.map_or(0, |at| at + 1)])
         )
     }
+    let filled = answer.report.iter().rposition(|&number| number != 0);
+    let report = &answer.report[..filled.map_or(0, |at| at + 1).min(600)];
     format!(
-        "number {}, place {}, rest {:?}\n  codes {}\n  values {}\n  records {}\n  buffer {}\n  entries {}",
+        "mark {}, number {}, place {}, rest {:?}\n  report [{}] {report:?}\n  codes {}\n  values {}\n  records {}\n  buffer {}\n  entries {}",
+        answer.mark,
         answer.number,
         answer.place,
         answer.rest,
+        answer.report.len(),
         cut(&answer.codes),
         cut(&answer.values),
         cut(&answer.records),

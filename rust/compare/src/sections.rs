@@ -126,7 +126,11 @@ fn room_of(block: &Block) -> Room {
 }
 
 /// Goes through all sequences over some letters, up to a length.
-fn sequences(letters: usize, most: usize, mut each: impl FnMut(&[usize]) -> Done) -> Done {
+pub(crate) fn sequences(
+    letters: usize,
+    most: usize,
+    mut each: impl FnMut(&[usize]) -> Done,
+) -> Done {
     for length in 0..=most {
         let mut word = vec![0; length];
         loop {
@@ -749,7 +753,7 @@ fn good_bytes(seed: &mut Seed, table: &[u8], kinds: &Kinds) -> Vec<u8> {
 
 /// Room for any block that begins there; for a count that is too large as well, so that what comes
 /// after it is compared.
-fn room_for(bytes: &[u8], at: usize) -> Room {
+pub(crate) fn room_for(bytes: &[u8], at: usize) -> Room {
     let count = model::read_count(bytes, at).map_or(0, |(count, _)| count);
     let operations = bytes.len().max(count);
     Room {

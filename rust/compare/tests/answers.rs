@@ -5,10 +5,11 @@ use std::{fs, path::Path};
 use compare::{
     Run, Seed, Stopped,
     answers::{Answers, Form},
+    pairs,
     run::strictly,
     sections,
 };
-use model::{Answer, Call, Room};
+use model::{Answer, Call, Room, Source};
 
 type Who = fn(Call<'_>) -> Answer;
 
@@ -21,7 +22,8 @@ fn lines(name: &str, who: Who) -> Vec<String> {
     let mut all = || {
         sections::cases(&mut run)?;
         sections::operations(&mut run, 2)?;
-        (0..60).try_for_each(|_| sections::turn(&mut run, &mut seed))
+        (0..60).try_for_each(|_| sections::turn(&mut run, &mut seed))?;
+        (0..2).try_for_each(|_| pairs::turn(&mut run, &mut seed))
     };
     all().unwrap_or_else(|Stopped(words)| panic!("{words}"));
     let written = run.answers.expect("they are written").finish();
@@ -86,9 +88,10 @@ fn every_part_of_an_answer_has_its_word() {
         records: vec![17; 17],
         buffer: vec![17; 17],
         entries: vec![17; 17],
+        ..Answer::default()
     };
     let path = Path::new(env!("CARGO_TARGET_TMPDIR")).join("words");
-    let line = |form, call, answer: &Answer| {
+    let line = |form, call: Call<'_>, answer: &Answer| {
         let mut answers = Answers::create(&path).expect("a file");
         answers.put(form, call, Some(answer)).expect("a line");
         assert_eq!(answers.finish().expect("the file's end"), 1);
@@ -135,5 +138,54 @@ fn every_part_of_an_answer_has_its_word() {
     let strict = strictly(call);
     assert!(line(Form::Numbers, strict, &good).starts_with("decode_strict "));
     assert!(line(form, strict, &good).starts_with("decode_strict_le "));
+    compare_has_its_words(|call, answer| line(Form::Numbers, call, answer));
     fs::remove_file(&path).expect("the file is there");
+}
+
+/// A line of compare has entries and mark, and nothing of its answer and of what it is lent is left
+/// out.
+fn compare_has_its_words(line: impl Fn(Call<'_>, &Answer) -> String) {
+    let side = Source {
+        table: &[0; 128],
+        bytes: &[17; 17],
+        at: 17,
+        room: Room {
+            codes: 17,
+            values: 17,
+            records: 17,
+        },
+    };
+    let call = |first, second, report| Call::Compare {
+        first,
+        second,
+        report,
+    };
+    let answer = Answer {
+        number: 6,
+        place: 5,
+        mark: 2,
+        rest: [3, 0, 0],
+        report: vec![-1; 17],
+        ..Answer::default()
+    };
+    let whole = line(call(side, side, 17), &answer);
+    let words: Vec<&str> = whole.split_whitespace().collect();
+    assert_eq!(words[0], "compare");
+    assert_eq!(words[2..7], ["6", "5", "3", "2", "0"]);
+    let changes: [fn(&mut Answer); 5] = [
+        |a| a.mark = 1,
+        |a| a.rest[0] = 4,
+        |a| a.report[16] = 1,
+        |a| a.report.truncate(16),
+        |a| a.report.clear(),
+    ];
+    for (i, change) in changes.iter().enumerate() {
+        let mut other = answer.clone();
+        change(&mut other);
+        assert_ne!(line(call(side, side, 17), &other), whole, "{i}");
+    }
+    let other = Source { at: 16, ..side };
+    assert_ne!(line(call(other, side, 17), &answer), whole);
+    assert_ne!(line(call(side, other, 17), &answer), whole);
+    assert_ne!(line(call(side, side, 16), &answer), whole);
 }

@@ -8,7 +8,7 @@ mod le;
 
 use core::slice;
 
-use model::{Answer, Arena, Room};
+use model::{Answer, Arena, Room, Source};
 
 #[repr(C)]
 pub struct BuildReply {
@@ -76,6 +76,14 @@ pub struct NextReply {
     place: usize,
     found: u8,
     group: usize,
+}
+
+#[repr(C)]
+pub struct CompareReply {
+    mark: u8,
+    number: u8,
+    place: usize,
+    entries: usize,
 }
 
 /// # Safety
@@ -469,5 +477,79 @@ pub unsafe extern "C" fn oli_next_group(
         place: answer.place,
         found: answer.rest[0] as u8,
         group: answer.rest[1],
+    }
+}
+
+/// # Safety
+/// As for [`oli_build`].
+#[unsafe(no_mangle)]
+pub unsafe extern "C" fn oli_compare(
+    first_table: *const u8,
+    first_table_len: usize,
+    first: *const u8,
+    first_len: usize,
+    first_at: usize,
+    second_table: *const u8,
+    second_table_len: usize,
+    second: *const u8,
+    second_len: usize,
+    second_at: usize,
+    first_codes: *mut u8,
+    first_codes_len: usize,
+    first_values: *mut u64,
+    first_values_len: usize,
+    first_records: *mut u8,
+    first_records_len: usize,
+    second_codes: *mut u8,
+    second_codes_len: usize,
+    second_values: *mut u64,
+    second_values_len: usize,
+    second_records: *mut u8,
+    second_records_len: usize,
+    report: *mut i32,
+    report_len: usize,
+) -> CompareReply {
+    // SAFETY: the caller's.
+    unsafe {
+        let one = Source {
+            table: run(first_table, first_table_len),
+            bytes: run(first, first_len),
+            at: first_at,
+            room: Room {
+                codes: first_codes_len,
+                values: first_values_len,
+                records: first_records_len,
+            },
+        };
+        let other = Source {
+            table: run(second_table, second_table_len),
+            bytes: run(second, second_len),
+            at: second_at,
+            room: Room {
+                codes: second_codes_len,
+                values: second_values_len,
+                records: second_records_len,
+            },
+        };
+        let answer = model::compare(one, other, report_len);
+        let (codes, values, records) = (&answer.codes, &answer.values, &answer.records);
+        put(first_codes, first_codes_len, &codes[..first_codes_len]);
+        put(second_codes, second_codes_len, &codes[first_codes_len..]);
+        put(first_values, first_values_len, &values[..first_values_len]);
+        put(
+            second_values,
+            second_values_len,
+            &values[first_values_len..],
+        );
+        let (one_of, other_of) = records.split_at(first_records_len);
+        put(first_records, first_records_len, one_of);
+        put(second_records, second_records_len, other_of);
+        put(report, report_len, &answer.report);
+        CompareReply {
+            mark: answer.mark,
+            number: answer.number,
+            place: answer.place,
+            entries: answer.rest[0],
+        }
     }
 }

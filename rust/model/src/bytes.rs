@@ -233,9 +233,15 @@ pub fn head(table: &[u8], bytes: &[u8], at: usize) -> Result<(usize, usize), Ref
     Ok((total, list.len()))
 }
 
-type Read = (Vec<Operation>, Vec<Batch>, usize);
+/// Operations, batches and bytes used.
+pub(crate) type Read = (Vec<Operation>, Vec<Batch>, usize);
 
-fn decode_tried(table: &[u8], bytes: &[u8], at: usize, room: Room) -> Result<Read, Refusal> {
+pub(crate) fn decode_tried(
+    table: &[u8],
+    bytes: &[u8],
+    at: usize,
+    room: Room,
+) -> Result<Read, Refusal> {
     let (list, total, mut here) = head_tried(table, bytes, at, room)?;
 
     let mut batches = Vec::new();

@@ -18,6 +18,15 @@ pub struct Room {
     pub records: usize,
 }
 
+/// Where compare reads a block, and its working room.
+#[derive(Clone, Copy, Debug, PartialEq, Eq)]
+pub struct Source<'a> {
+    pub table: &'a [u8],
+    pub bytes: &'a [u8],
+    pub at: usize,
+    pub room: Room,
+}
+
 #[derive(Clone, Copy, Debug)]
 pub enum Call<'a> {
     Build {
@@ -79,6 +88,12 @@ pub enum Call<'a> {
         at: usize,
         room: Room,
     },
+    /// Compare (M-105); the report is lent as so many numbers.
+    Compare {
+        first: Source<'a>,
+        second: Source<'a>,
+        report: usize,
+    },
 }
 
 #[derive(Clone, Copy, Debug, PartialEq, Eq, PartialOrd, Ord)]
@@ -96,10 +111,11 @@ pub enum Function {
     Group,
     NextGroup,
     Strict,
+    Compare,
 }
 
 impl Function {
-    pub const ALL: [Self; 13] = [
+    pub const ALL: [Self; 14] = [
         Self::Build,
         Self::Encode,
         Self::Decode,
@@ -113,6 +129,7 @@ impl Function {
         Self::Group,
         Self::NextGroup,
         Self::Strict,
+        Self::Compare,
     ];
 
     pub fn name(self) -> &'static str {
@@ -130,6 +147,7 @@ impl Function {
             Self::Group => "group",
             Self::NextGroup => "next group",
             Self::Strict => "decode strict",
+            Self::Compare => "compare",
         }
     }
 }
@@ -150,6 +168,7 @@ impl Call<'_> {
             Self::Group { .. } => Function::Group,
             Self::NextGroup { .. } => Function::NextGroup,
             Self::Strict { .. } => Function::Strict,
+            Self::Compare { .. } => Function::Compare,
         }
     }
 }
@@ -160,11 +179,15 @@ pub struct Answer {
     /// The number of refusal, 0 if there is none.
     pub number: u8,
     pub place: usize,
+    /// Compare: whose refusal it is, 1 the first block's, 2 the second's, 0 of neither.
+    pub mark: u8,
     /// The other numbers of the reply in its order: build has batches and operations; encode the
     /// length; decode, strict or not, batches, operations and bytes used; tables their entries; index lookups
-    /// found (0 or 1) and index; group found, group and position; next group found and group.
+    /// found (0 or 1) and index; group found, group and position; next group found and group; compare
+    /// the report's entries.
     pub rest: [usize; 3],
-    /// Build and decode: the three outputs in their lent lengths.
+    /// Build and decode: the three outputs in their lent lengths. Compare: its working room, each
+    /// run of the first block with that of the second after it.
     pub codes: Vec<u8>,
     pub values: Vec<u64>,
     pub records: Vec<u8>,
@@ -172,6 +195,8 @@ pub struct Answer {
     pub buffer: Vec<u8>,
     /// Tables: the output in its lent length.
     pub entries: Vec<u64>,
+    /// Compare: the report in its lent length, four numbers to an entry.
+    pub report: Vec<i32>,
 }
 
 impl Answer {
@@ -220,5 +245,10 @@ pub fn answer(call: Call<'_>) -> Answer {
             at,
             room,
         } => crate::decode_strict(table, bytes, at, room),
+        Call::Compare {
+            first,
+            second,
+            report,
+        } => crate::compare(first, second, report),
     }
 }

@@ -9,9 +9,10 @@
 //! alone and before each fault that comes later. Where an operation is at fault, opcode and value
 //! have numbers of their own (M-101): there are cases of both in one operation, and of one operation
 //! before another. Strict reading (M-107) has every fault of decode before its 18, blocks that
-//! batching makes, and blocks that it does not.
+//! batching makes, and blocks that it does not. Compare (M-105) has every fault of decode in the first
+//! block, in the second and in both, before its own 13, and two blocks for every kind of difference.
 
-use crate::{Arena, Batch, Call, FIELD, Operation, RECORD, Room, count_bytes};
+use crate::{Arena, Batch, Call, FIELD, Operation, RECORD, Room, Source, count_bytes};
 
 /// A case: what it shows, the call, and the number and place that document 01 gives.
 pub struct Case<'a> {
@@ -1267,6 +1268,289 @@ fn strict(visit: &mut Visit<'_>) {
     );
 }
 
+// TWO BLOCKS
+// ================================================================================================
+
+/// M-105: two blocks, and a report of so many numbers.
+struct Pair<'a> {
+    name: String,
+    pair: Option<(u8, u8)>,
+    first: &'a Bytes,
+    second: &'a Bytes,
+    report: usize,
+    number: u8,
+    place: usize,
+}
+
+impl Bytes {
+    /// Where compare reads it, in a buffer of its own.
+    fn source<'a>(&'a self, (bytes, at): &'a (Vec<u8>, usize)) -> Source<'a> {
+        Source {
+            table: &self.table,
+            bytes,
+            at: *at,
+            room: self.room,
+        }
+    }
+}
+
+fn take_pair(visit: &mut Visit<'_>, two: Pair<'_>) {
+    let [one, other] = [two.first, two.second].map(Bytes::buffer);
+    visit(Case {
+        name: format!("compare: {} ({})", two.name, two.number),
+        pair: two.pair,
+        call: Call::Compare {
+            first: two.first.source(&one),
+            second: two.second.source(&other),
+            report: two.report,
+        },
+        number: two.number,
+        place: two.place,
+    });
+}
+
+fn compare(visit: &mut Visit<'_>) {
+    refused_pairs(visit);
+    reported_pairs(visit);
+    lent_reports(visit);
+    two_tables(visit);
+    long_pairs(visit);
+}
+
+/// Every fault of decode in the first block, in the second, and in both, each time with a report that is
+/// too short besides.
+fn refused_pairs(visit: &mut Visit<'_>) {
+    let good = good_bytes();
+    let other = bytes_of(&[P], &[(&[1], 0)]);
+    let faults = byte_faults();
+    for (i, fault) in faults.iter().enumerate() {
+        let mut bad = good.clone();
+        (fault.spoil)(&mut bad);
+        let mut take = |side: &str, pair, first: &Bytes, second: &Bytes, report| {
+            let name = format!("{side}: {}", fault.name);
+            let (number, place) = (fault.number, fault.place);
+            take_pair(
+                visit,
+                Pair {
+                    name,
+                    pair,
+                    first,
+                    second,
+                    report,
+                    number,
+                    place,
+                },
+            )
+        };
+        let short = Some((fault.number, 13));
+        take("the first", None, &bad, &other, 40);
+        take("the first, a short report", short, &bad, &other, 3);
+        take("the second", None, &other, &bad, 41);
+        take("the second, a short report", short, &other, &bad, 0);
+        // The fault before it, and the one after it: whichever comes first.
+        for near in [i.wrapping_sub(1), i + 1] {
+            if let Some(near) = faults.get(near) {
+                let mut second = good.clone();
+                (near.spoil)(&mut second);
+                let pair = Some((fault.number, near.number));
+                take("both", pair, &bad, &second, 40);
+            }
+        }
+    }
+}
+
+type Parts<'a> = (&'a [Operation], &'a [(&'a [u8], u8)]);
+
+/// Two blocks for every kind of difference, either of them first.
+fn reported_pairs(visit: &mut Visit<'_>) {
+    let p1: Parts<'_> = (&[push(5), NOOP], &[(&[2], 1)]);
+    let eight: Vec<Operation> = [(1..=7).map(push).collect(), vec![NOOP, push(8), NOOP]].concat();
+    let batches: &[(&[u8], u8)] = &[(&[8], 1), (&[2], 1)];
+    let mut other = eight.clone();
+    other[8] = push(9);
+    let kept: &[(&[u8], u8)] = &[(&[8], 1), (&[2], 0x85)];
+    let more = [eight.clone(), vec![P]].concat();
+    let with_empty: &[(&[u8], u8)] = &[(&[8], 1), (&[], 0), (&[2], 1)];
+    let pairs: [(&str, Parts<'_>, Parts<'_>); 18] = [
+        ("P1 and itself", p1, p1),
+        ("P1 and another value", p1, (&[push(6), NOOP], &[(&[2], 1)])),
+        (
+            "P1 and its Noop unflagged",
+            p1,
+            (&[push(5), NOOP], &[(&[2], 0)]),
+        ),
+        (
+            "P1 and a kept flag",
+            p1,
+            (&[push(5), NOOP], &[(&[2], 0x81)]),
+        ),
+        ("P1 and nothing", p1, (&[], &[])),
+        ("P1 and an empty batch", p1, (&[], &[(&[], 0)])),
+        (
+            "P1 and an empty batch after it",
+            p1,
+            (&[push(5), NOOP], &[(&[2], 1), (&[], 0)]),
+        ),
+        (
+            "nothing and empty batches",
+            (&[], &[]),
+            (&[], &[(&[], 0), (&[], 3)]),
+        ),
+        (
+            "an empty batch and its flags",
+            (&[], &[(&[], 1)]),
+            (&[], &[(&[], 0x80)]),
+        ),
+        (
+            "an operation and a Noop",
+            (&[P], &[(&[1], 0)]),
+            (&[NOOP], &[(&[1], 0)]),
+        ),
+        (
+            "a Noop and a padding",
+            (&[NOOP], &[(&[1], 0)]),
+            (&[NOOP], &[(&[1], 1)]),
+        ),
+        (
+            "carried values",
+            (&[op(3, 6)], &[(&[1], 0)]),
+            (&[op(3, 7)], &[(&[1], 0)]),
+        ),
+        (
+            "one group and two",
+            (&[P, P, P], &[(&[3], 0)]),
+            (&[P, P, P], &[(&[1, 2], 0)]),
+        ),
+        (
+            "an operation more, at a place only one has",
+            (&[P, P], &[(&[2], 0)]),
+            (&[P, P, op(3, 1)], &[(&[3], 0)]),
+        ),
+        (
+            "all five of one batch",
+            (&[P], &[(&[1], 0)]),
+            (&[NOOP, P, NOOP], &[(&[2, 1], 2)]),
+        ),
+        (
+            "another value in the second batch",
+            (&eight, batches),
+            (&other, batches),
+        ),
+        (
+            "kept flags in the second batch",
+            (&eight, batches),
+            (&more, &[(&[8], 1), (&[3], 0x80)]),
+        ),
+        (
+            "an empty batch between two",
+            (&eight, with_empty),
+            (&eight, kept),
+        ),
+    ];
+    for (name, one, other) in pairs {
+        let [one, other] = [one, other].map(|(list, batches)| bytes_of(list, batches));
+        for (name, first, second) in [
+            (name.to_string(), &one, &other),
+            (format!("{name}, turned"), &other, &one),
+        ] {
+            let (pair, report) = (None, 60);
+            let (number, place) = (0, 0);
+            take_pair(
+                visit,
+                Pair {
+                    name,
+                    pair,
+                    first,
+                    second,
+                    report,
+                    number,
+                    place,
+                },
+            );
+        }
+    }
+}
+
+/// Reports of every length around the need of two blocks with three differences.
+fn lent_reports(visit: &mut Visit<'_>) {
+    let one = bytes_of(&[push(5), NOOP], &[(&[2], 1)]);
+    let other = bytes_of(&[push(5), NOOP], &[(&[2], 0)]);
+    for report in [0, 1, 3, 4, 7, 8, 11, 12, 13, 14, 15, 16, 17] {
+        let number = if report < 12 { 13 } else { 0 };
+        take_pair(
+            visit,
+            Pair {
+                name: format!("three differences in {report} numbers"),
+                pair: None,
+                first: &one,
+                second: &other,
+                report,
+                number,
+                place: 0,
+            },
+        );
+    }
+}
+
+/// The same bytes under two tables.
+fn two_tables(visit: &mut Visit<'_>) {
+    let one = bytes_of(&[push(5), NOOP], &[(&[2], 1)]);
+    for (name, kind, number) in [
+        ("an immediate that is only carried for the second", 2, 0),
+        ("an opcode that is unassigned for the second", 3, 4),
+    ] {
+        let mut other = one.clone();
+        other.table[1] = kind;
+        take_pair(
+            visit,
+            Pair {
+                name: name.into(),
+                pair: None,
+                first: &one,
+                second: &other,
+                report: 16,
+                number,
+                place: 0,
+            },
+        );
+    }
+}
+
+/// 16,384 batches without operations, beside the same and beside one: all others are missing.
+fn long_pairs(visit: &mut Visit<'_>) {
+    let table = table_t();
+    let mut long = vec![1, 0, 0x40, 0, 0];
+    long.resize(5 + 5 * 16_384, 0);
+    let source = |bytes| Source {
+        table: &table,
+        bytes,
+        at: 0,
+        room: Room {
+            codes: 1,
+            values: 0,
+            records: 16_384 * RECORD,
+        },
+    };
+    let one = &[1, 1, 0, 0, 0, 0, 0, 0, 0, 0][..];
+    for (name, first, second, report, number) in [
+        ("16,384 batches and the same", &long[..], &long[..], 9, 0),
+        ("16,384 differences, a number short", &long, one, 65_535, 13),
+        ("the same turned, an entry short", one, &long, 65_532, 13),
+    ] {
+        visit(Case {
+            name: format!("compare: {name} ({number})"),
+            pair: None,
+            call: Call::Compare {
+                first: source(first),
+                second: source(second),
+                report,
+            },
+            number,
+            place: 0,
+        });
+    }
+}
+
 // CHECKS
 // ================================================================================================
 
@@ -1695,4 +1979,5 @@ pub fn all(visit: &mut Visit<'_>) {
     tables(visit);
     lookups(visit);
     strict(visit);
+    compare(visit);
 }

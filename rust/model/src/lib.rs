@@ -13,6 +13,7 @@ mod bytes;
 mod call;
 pub mod cases;
 mod checks;
+mod compare;
 mod data;
 mod lookups;
 
@@ -20,8 +21,9 @@ pub use batching::build;
 pub use bytes::{
     count_bytes, decode, decode_strict, encode, head, own_list, read_count, read_operation,
 };
-pub use call::{Answer, Arena, Call, Function, Room, answer};
+pub use call::{Answer, Arena, Call, Function, Room, Source, answer};
 pub use checks::{commitment, padding, record_holds, structure};
+pub use compare::{ENTRY, compare};
 pub use data::{
     Batch, FIELD, MOST_BATCHES, MOST_BYTES, MOST_LISTED, MOST_PADDED, Operation, RECORD, Refusal,
     batches_of, good_table, kind,

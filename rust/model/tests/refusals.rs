@@ -11,6 +11,7 @@ fn nothing_left(call: Call<'_>, answer: &model::Answer) {
     assert!(answer.values.iter().all(|&b| b == 0));
     assert!(answer.records.iter().all(|&b| b == 0));
     assert!(answer.entries.iter().all(|&b| b == 0));
+    assert!(answer.report.iter().all(|&number| number == 0));
     if let Call::Encode { buffer, .. } = call {
         assert_eq!(answer.buffer, buffer);
     }
@@ -118,6 +119,18 @@ fn no_number_and_no_pair_is_left_out() {
     for number in [1, 2, 3, 4, 5, 6, 7, 8, 9, 10, 11, 13, 14, 17] {
         assert!(alone.contains(&(Function::Decode, number)), "{number}");
         let pair = (Function::Strict, number, 18);
+        assert!(pairs.contains(&pair), "{pair:?}");
+    }
+    // Compare (M-105): all that decode refuses, in both blocks, before 13 of the report.
+    for number in [0, 1, 2, 3, 4, 5, 6, 7, 8, 9, 10, 11, 13, 14, 17] {
+        let one = (Function::Compare, number);
+        assert!(alone.contains(&one), "{one:?}");
+        let pair = (Function::Compare, number, 13);
+        assert!(number == 0 || pairs.contains(&pair), "{pair:?}");
+    }
+    // Where both are refused the first's comes, whichever number is less.
+    for (first, second) in [(14, 1), (1, 14), (6, 7), (7, 6), (10, 11), (11, 10)] {
+        let pair = (Function::Compare, first, second);
         assert!(pairs.contains(&pair), "{pair:?}");
     }
     // Decode's finer orders.

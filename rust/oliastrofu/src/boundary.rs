@@ -12,6 +12,8 @@
 
 #![allow(unsafe_code)]
 
+use crate::{Source, lent::Outputs};
+
 // With the feature `model-shim` (tests only) the names below are the shim's.
 #[cfg(feature = "model-shim")]
 use model_shim as _;
@@ -105,6 +107,17 @@ pub struct NextReply {
     pub group: usize,
 }
 
+/// What `oli_compare` replies. The mark is 1 for a refusal of the first block, 2 for one of the
+/// second, else 0.
+#[repr(C)]
+#[derive(Clone, Copy, Debug, Default, PartialEq, Eq)]
+pub struct CompareReply {
+    pub mark: u8,
+    pub number: u8,
+    pub place: usize,
+    pub entries: usize,
+}
+
 /// Declares exports, each with a safe function over it: slices that are read, a number, slices that
 /// are written, a number.
 macro_rules! exports {
@@ -157,6 +170,115 @@ exports! {
     group = oli_group(record: u8; index;;) -> GroupReply;
     /// `oli_next_group` on a lent slice, which should be one record.
     next_group = oli_next_group(record: u8; group;;) -> NextReply;
+}
+
+/// What compare is lent: a pointer and a length each.
+type Bytes = (*const u8, usize);
+type Runs = ((*mut u8, usize), (*mut u64, usize), (*mut u8, usize));
+
+unsafe extern "C" {
+    fn oli_compare(
+        _: *const u8,
+        _: usize,
+        _: *const u8,
+        _: usize,
+        first_at: usize,
+        _: *const u8,
+        _: usize,
+        _: *const u8,
+        _: usize,
+        second_at: usize,
+        _: *mut u8,
+        _: usize,
+        _: *mut u64,
+        _: usize,
+        _: *mut u8,
+        _: usize,
+        _: *mut u8,
+        _: usize,
+        _: *mut u64,
+        _: usize,
+        _: *mut u8,
+        _: usize,
+        report: *mut i32,
+        _: usize,
+    ) -> CompareReply;
+}
+
+/// # Safety
+/// Each pointer and length of the room and of the report is a run that lives through the call, and
+/// nobody else's.
+unsafe fn compare_in(
+    first: Source<'_>,
+    second: Source<'_>,
+    rooms: [Runs; 2],
+    report: (*mut i32, usize),
+) -> CompareReply {
+    let of = |run: &[u8]| -> Bytes { (run.as_ptr(), run.len()) };
+    let (first_table, first_bytes) = (of(first.table), of(first.bytes));
+    let (second_table, second_bytes) = (of(second.table), of(second.bytes));
+    let [one, two] = rooms;
+    // SAFETY: the slices live through the call; for the rest, the caller's.
+    unsafe {
+        oli_compare(
+            first_table.0,
+            first_table.1,
+            first_bytes.0,
+            first_bytes.1,
+            first.at,
+            second_table.0,
+            second_table.1,
+            second_bytes.0,
+            second_bytes.1,
+            second.at,
+            one.0.0,
+            one.0.1,
+            one.1.0,
+            one.1.1,
+            one.2.0,
+            one.2.1,
+            two.0.0,
+            two.0.1,
+            two.1.0,
+            two.1.1,
+            two.2.0,
+            two.2.1,
+            report.0,
+            report.1,
+        )
+    }
+}
+
+/// `oli_compare` on lent slices: two blocks, working room for each, and a report of
+/// [`ENTRY`](crate::ENTRY) numbers to an entry.
+///
+/// ```
+/// use oliastrofu::{Source, VM_TABLE, boundary, lent::Outputs};
+/// let nothing = Source { table: &VM_TABLE, bytes: &[1, 0, 0, 0, 0], at: 0 };
+/// let empty = || Outputs { codes: &mut [], values: &mut [], records: &mut [] };
+/// let mut report = [9; 5];
+/// let reply = boundary::compare(nothing, nothing, empty(), empty(), &mut report);
+/// assert_eq!((reply.number, reply.entries, report), (0, 0, [0; 5]));
+/// ```
+#[inline]
+pub fn compare(
+    first: Source<'_>,
+    second: Source<'_>,
+    first_room: Outputs<'_>,
+    second_room: Outputs<'_>,
+    report: &mut [i32],
+) -> CompareReply {
+    fn runs(room: &mut Outputs<'_>) -> Runs {
+        (
+            (room.codes.as_mut_ptr(), room.codes.len()),
+            (room.values.as_mut_ptr(), room.values.len()),
+            (room.records.as_mut_ptr(), room.records.len()),
+        )
+    }
+    let (mut first_room, mut second_room) = (first_room, second_room);
+    let rooms = [runs(&mut first_room), runs(&mut second_room)];
+    // SAFETY: each pair is a mutable slice that lives through the call; no one else has it.
+    unsafe { compare_in(first, second, rooms, (report.as_mut_ptr(), report.len())) }
 }
 
 /// The runs that build and decode fill, made for the call, of exactly these lengths: opcodes and
@@ -282,6 +404,47 @@ impl New {
             );
             (reply, new.filled(operations, records))
         }
+    }
+
+    /// `oli_compare` on lent slices, working room and a report that are made for the call: for so
+    /// many operations and bytes of records of each block, and so many numbers of the report.
+    ///
+    /// ```
+    /// use oliastrofu::{Source, VM_TABLE, boundary::New};
+    /// let source = |bytes| Source { table: &VM_TABLE, bytes, at: 0 };
+    /// let (nothing, batch) = ([1, 0, 0, 0, 0], [1, 1, 0, 0, 0, 0, 0, 0, 0, 0]);
+    /// let (reply, report) = New::compare(source(&nothing), source(&batch), (0, 0), (0, 82), 9);
+    /// assert_eq!((reply.number, reply.entries), (0, 2));
+    /// assert_eq!(report, [6, 0, 1, 0, 7, 0, 0, 1, 0]);
+    /// ```
+    pub fn compare(
+        first: Source<'_>,
+        second: Source<'_>,
+        first_room: (usize, usize),
+        second_room: (usize, usize),
+        report: usize,
+    ) -> (CompareReply, Vec<i32>) {
+        let mut one = Self::with(first_room.0, first_room.1);
+        let mut two = Self::with(second_room.0, second_room.1);
+        let mut numbers = Vec::with_capacity(report);
+        let rooms = [
+            one.runs(first_room.0, first_room.1),
+            two.runs(second_room.0, second_room.1),
+        ];
+        // SAFETY: as above.
+        unsafe {
+            let reply = compare_in(first, second, rooms, (numbers.as_mut_ptr(), report));
+            numbers.set_len(report);
+            (reply, numbers)
+        }
+    }
+
+    fn runs(&mut self, operations: usize, records: usize) -> Runs {
+        (
+            (self.codes.as_mut_ptr(), operations),
+            (self.values.as_mut_ptr(), operations),
+            (self.records.as_mut_ptr(), records),
+        )
     }
 }
 

@@ -1,16 +1,18 @@
 //! Every function over lent slices: nothing is allocated.
 //!
 //! Outputs longer than the result are filled with zeros after it. A refused build, decode or table
-//! leaves its outputs all zero; a refused encode changes no byte.
+//! leaves its outputs all zero; a refused encode changes no byte. Compare's working room is all zero
+//! after every call, its report after a refused one.
 
 use crate::{
-    Arena, Finished, PaddedIndex, RECORD, RawIndex, Refusal,
+    Arena, CompareRefusal, Differences, Finished, PaddedIndex, RECORD, RawIndex, Refusal, Source,
     boundary::{
         self, BuildReply, CheckReply, DecodeReply, EncodeReply, HeadReply, IndexReply, TableReply,
     },
 };
 
-/// The runs that build and decode fill: opcodes, values, and records of 82 bytes.
+/// The runs that build and decode fill, and that compare works in: opcodes, values, and records of 82
+/// bytes.
 #[derive(Debug)]
 pub struct Outputs<'a> {
     pub codes: &'a mut [u8],
@@ -190,6 +192,59 @@ pub fn decode_strict<'a>(
         out.records,
     ))?;
     Ok(Finished::<Arena<'_>>::in_front(read, out))
+}
+
+/// Compares two blocks: how the second differs from the first, in a lent report.
+///
+/// Working room is as for [`decode`], for each block; [`head`] says how much it needs. It ends zeroed,
+/// whatever the answer. An entry of the report is [`ENTRY`](crate::ENTRY) numbers; those after the last
+/// entry are zero. If a block is refused the refusal says which, the first if both are; a report too
+/// short is refused last, without a side. Refused, the report is all zero.
+///
+/// ```
+/// use oliastrofu::{Cause, Difference, Source, lent::{self, Outputs}};
+/// let mut table = [3; 128];
+/// table[..4].copy_from_slice(&[0, 1, 0, 2]);
+/// // The second has 6 for 5 as its immediate.
+/// let first = [5, 1, 5, 0, 0, 0, 0, 0, 0, 0, 0, 1, 0, 0, 0, 2, 0, 0, 0, 1];
+/// let second = [5, 1, 6, 0, 0, 0, 0, 0, 0, 0, 0, 1, 0, 0, 0, 2, 0, 0, 0, 1];
+/// let source = |bytes| Source { table: &table, bytes, at: 0 };
+///
+/// let (mut codes, mut values, mut records) = ([9; 4], [9; 4], [9; 2 * 82]);
+/// let (codes, values, records) = (
+///     codes.split_at_mut(2),
+///     values.split_at_mut(2),
+///     records.split_at_mut(82),
+/// );
+/// let one = Outputs { codes: codes.0, values: values.0, records: records.0 };
+/// let two = Outputs { codes: codes.1, values: values.1, records: records.1 };
+/// let mut report = [9; 12];
+/// let differences = lent::compare(source(&first), source(&second), one, two, &mut report)?;
+/// assert!(differences.eq([
+///     Difference::Number { batch: 0, group: 1 },
+///     Difference::Operation { batch: 0, place: 0 },
+/// ]));
+/// assert_eq!(report, [1, 0, 1, 0, 4, 0, 0, 0, 0, 0, 0, 0]);
+///
+/// // Two entries have no room in seven numbers.
+/// let one = Outputs { codes: codes.0, values: values.0, records: records.0 };
+/// let two = Outputs { codes: codes.1, values: values.1, records: records.1 };
+/// let refused = lent::compare(source(&first), source(&second), one, two, &mut report[..7]);
+/// let refused = refused.unwrap_err();
+/// assert_eq!((refused.side, refused.refusal.cause), (None, Cause::Room));
+/// assert_eq!(report, [0; 12]);
+/// # Ok::<(), oliastrofu::CompareRefusal>(())
+/// ```
+pub fn compare<'a>(
+    first: Source<'_>,
+    second: Source<'_>,
+    first_room: Outputs<'_>,
+    second_room: Outputs<'_>,
+    report: &'a mut [i32],
+) -> Result<Differences<'a>, CompareRefusal> {
+    let reply = boundary::compare(first, second, first_room, second_room, report);
+    CompareRefusal::check(reply.mark, reply.number, reply.place)?;
+    Ok(Differences::in_front(report, reply.entries))
 }
 
 /// The structure check.

@@ -27,6 +27,40 @@
 //! Not every block that can be read is one that batching makes: it may have empty batches or groups,
 //! or flags that stand for nothing. [`decode_strict`] takes only those that batching makes, and gives
 //! a [`Finished`], which can't be had otherwise.
+//!
+//! [`compare`] says how two blocks differ, difference by difference ([`Difference`]).
+//!
+//! ```
+//! // Two batches, push(5) with a padding and one more operation; and one batch, push(6) and three more.
+//! let bytes = [
+//!     7, 91, 5, 0, 0, 0, 0, 0, 0, 0, 0, 34, 2, 0, 0, 0, 2, 0, 0, 0, 1, 0, 0, 0, 1, 0,
+//! ];
+//! let others = [
+//!     9, 91, 6, 0, 0, 0, 0, 0, 0, 0, 34, 35, 41, 1, 0, 0, 0, 3, 1, 0, 0, 0,
+//! ];
+//! let first = oliastrofu::Source { table: &oliastrofu::VM_TABLE, bytes: &bytes, at: 0 };
+//! let second = oliastrofu::Source { bytes: &others, ..first };
+//! let mut lines = Vec::new();
+//! for difference in &oliastrofu::compare(first, second)? {
+//!     lines.push(difference.to_string());
+//! }
+//! assert_eq!(
+//!     lines,
+//!     [
+//!         "batch 0, group 0: the numbers differ",
+//!         "batch 0, group 0: the padding flags differ",
+//!         "batch 0, group 0: the counts of operations differ",
+//!         "batch 0, its operation 0: the operations differ",
+//!         "batch 0: the counts of groups differ",
+//!         "batch 1: missing in the second block",
+//!         "batches: -1 (second minus first)",
+//!         "operations, paddings among them: +1 (second minus first)",
+//!         "operations without paddings: +2 (second minus first)",
+//!         "paddings: -1 (second minus first)",
+//!     ]
+//! );
+//! # Ok::<(), oliastrofu::CompareRefusal>(())
+//! ```
 
 #![deny(unsafe_code)]
 #![deny(
@@ -40,6 +74,7 @@
 
 mod batch;
 pub mod boundary;
+mod compare;
 mod finished;
 pub mod le;
 pub mod lent;
@@ -49,9 +84,12 @@ mod refusal;
 pub use batch::{
     Arena, Batch, Block, PaddedIndex, PaddedTable, RECORD, RawIndex, RawTable, VM_TABLE,
 };
+pub use compare::{
+    CompareRefusal, Difference, Differences, ENTRY, LONGEST_REPORT, Report, Side, Source,
+};
 pub use finished::Finished;
 pub use owned::{
-    build, commitment, decode, decode_strict, encode, group_of, head, next_group, padded_index,
-    padded_table, padding, raw_index, raw_table, structure,
+    build, commitment, compare, decode, decode_strict, encode, group_of, head, next_group,
+    padded_index, padded_table, padding, raw_index, raw_table, structure,
 };
 pub use refusal::{Cause, Refusal};

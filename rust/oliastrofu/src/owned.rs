@@ -1,9 +1,9 @@
 //! The same functions with room of their own: what they give back is a `Vec` or made of them.
 
 use crate::{
-    Arena, Batch, Block, Cause, Finished, PaddedIndex, PaddedTable, RECORD, RawIndex, RawTable,
-    Refusal,
-    boundary::{DecodeReply, New},
+    Arena, Batch, Block, Cause, CompareRefusal, ENTRY, Finished, LONGEST_REPORT, PaddedIndex,
+    PaddedTable, RECORD, RawIndex, RawTable, Refusal, Report, Source,
+    boundary::{CompareReply, DecodeReply, New},
     lent::{self, Head},
 };
 
@@ -236,6 +236,76 @@ fn likely(bytes: &[u8], at: usize) -> Option<(usize, usize)> {
         .checked_sub(4)?;
     let batches = (operations / 8).saturating_add(1).min(rest / 5);
     Some((operations, batches))
+}
+
+/// How the second of two blocks differs from the first. Each has a table of its own, and its own place
+/// in its own bytes, which may be those of the other.
+///
+/// Batch by batch: the first group whose number differs, whose flag differs, whose length differs, the
+/// first operation at a place both have that differs, and the group count; a batch that only one has
+/// is missing in the other. Then the differences of the totals, second minus first. Nothing is reported
+/// exactly if the two are the same block, under one table exactly if their bytes are the same. A block
+/// that [`decode`] refuses is refused in the same way; neither is for want of room.
+///
+/// ```
+/// use oliastrofu::{Difference, Side, Source};
+/// let mut table = [3; 128];
+/// table[..4].copy_from_slice(&[0, 1, 0, 2]);
+/// // Two blocks one after another: an operation, and the same with another batch of one.
+/// let bytes = [
+///     3, 2, 1, 0, 0, 0, 1, 0, 0, 0, 0, // 11 bytes
+///     5, 2, 2, 2, 0, 0, 0, 1, 0, 0, 0, 1, 0, 0, 0, 0, 0,
+/// ];
+/// let first = Source { table: &table, bytes: &bytes, at: 0 };
+/// let second = Source { at: 11, ..first };
+/// assert!(oliastrofu::compare(first, first)?.is_empty());
+/// let report = oliastrofu::compare(first, second)?;
+/// assert!(report.differences().eq([
+///     Difference::Missing { batch: 1, side: Side::First },
+///     Difference::Batches(1),
+///     Difference::Padded(1),
+///     Difference::Raw(1),
+/// ]));
+/// let report = oliastrofu::compare(second, first)?;
+/// assert_eq!(report.differences().last(), Some(Difference::Raw(-1)));
+/// # Ok::<(), oliastrofu::CompareRefusal>(())
+/// ```
+pub fn compare(first: Source<'_>, second: Source<'_>) -> Result<Report, CompareRefusal> {
+    let guess = |source: Source<'_>| likely(source.bytes, source.at).unwrap_or((0, 0));
+    let (mut reply, mut numbers) = compared(first, second, guess(first), guess(second));
+    if Cause::of_number(reply.number) == Cause::Room {
+        (reply, numbers) = compared(first, second, needed(first), needed(second));
+    }
+    CompareRefusal::check(reply.mark, reply.number, reply.place)?;
+    cut(&mut numbers, reply.entries.saturating_mul(ENTRY));
+    Ok(Report::owned(numbers))
+}
+
+/// Compares with room for so many operations and batches of each, and for every report on so many
+/// batches: at most five entries for one that both have, one for one that only one has, and four.
+fn compared(
+    first: Source<'_>,
+    second: Source<'_>,
+    one: (usize, usize),
+    two: (usize, usize),
+) -> (CompareReply, Vec<i32>) {
+    let common = one.1.min(two.1);
+    let entries = (one.1.max(two.1))
+        .saturating_add(common.saturating_mul(4))
+        .saturating_add(4)
+        .min(LONGEST_REPORT);
+    let room = |(operations, batches): (usize, usize)| (operations, of_records(batches));
+    let numbers = entries.saturating_mul(ENTRY);
+    New::compare(first, second, room(one), room(two), numbers)
+}
+
+/// The operations and batches that a block has; the most there can be where even that is refused, so
+/// that room is not what it is refused for.
+fn needed(source: Source<'_>) -> (usize, usize) {
+    match head(source.table, source.bytes, source.at) {
+        Ok(head) => (head.operations, head.batches),
+        Err(_) => (MOST_PADDED, MOST_BATCHES),
+    }
 }
 
 /// How many operations and batches the block at a place in the bytes has; see [`lent::head`].

@@ -1,8 +1,9 @@
 //! The safe functions: both forms say the same, refusals have words, and nothing panics.
 
 use oliastrofu::{
-    Arena, Batch, Block, Cause, PaddedIndex, RECORD, RawIndex, Refusal, VM_TABLE, boundary, build,
-    commitment, decode, decode_strict, encode, group_of, head,
+    Arena, Batch, Block, Cause, CompareRefusal, Difference, ENTRY, LONGEST_REPORT, PaddedIndex,
+    RECORD, RawIndex, Refusal, Side, Source, VM_TABLE, boundary, build, commitment, compare,
+    decode, decode_strict, encode, group_of, head,
     lent::{self, Outputs},
     next_group, padded_index, padded_table, padding, raw_index, raw_table, structure,
 };
@@ -433,6 +434,331 @@ fn the_longest_finished_block() -> Result<(), Refusal> {
     Ok(())
 }
 
+#[test]
+fn every_difference_has_words() {
+    let words = |entry| Difference::of_entry(entry).to_string();
+    for (entry, want) in [
+        ([1, 3, 2, 0], "batch 3, group 2: the numbers differ"),
+        ([2, 3, 7, 0], "batch 3, group 7: the padding flags differ"),
+        (
+            [3, 0, 0, 0],
+            "batch 0, group 0: the counts of operations differ",
+        ),
+        (
+            [4, 1, 70, 0],
+            "batch 1, its operation 70: the operations differ",
+        ),
+        ([5, 9, 0, 0], "batch 9: the counts of groups differ"),
+        ([6, 9, 1, 0], "batch 9: missing in the first block"),
+        ([6, 9, 2, 0], "batch 9: missing in the second block"),
+        ([7, 0, 0, 1], "batches: +1 (second minus first)"),
+        (
+            [8, 0, 0, -65_535],
+            "operations, paddings among them: -65535 (second minus first)",
+        ),
+        (
+            [9, 0, 0, 20],
+            "operations without paddings: +20 (second minus first)",
+        ),
+        ([10, 0, 0, -1], "paddings: -1 (second minus first)"),
+    ] {
+        assert_eq!(words(entry), want);
+    }
+    // What is none stands for nothing, and nothing panics.
+    for entry in [
+        [0, 0, 0, 0],
+        [11, 0, 0, 0],
+        [-1, 0, 0, 0],
+        [1, -1, 0, 0],
+        [4, 0, i32::MIN, 0],
+        [5, 1, 1, 0],
+        [6, 0, 3, 0],
+        [6, 0, 1, 1],
+        [7, 1, 0, 1],
+        [10, 0, 1, 1],
+    ] {
+        assert_eq!(Difference::of_entry(entry), Difference::Other(entry));
+        assert!(words(entry).starts_with("an entry without a meaning: ["));
+    }
+}
+
+#[test]
+fn the_words_of_a_refused_pair() {
+    let refusal = Refusal {
+        cause: Cause::Nibble,
+        place: 2,
+    };
+    let words = |side| CompareRefusal { side, refusal }.to_string();
+    let rest = "refusal 6: a group's length is over 9, in batch 2";
+    assert_eq!(words(Some(Side::First)), format!("the first block: {rest}"));
+    assert_eq!(
+        words(Some(Side::Second)),
+        format!("the second block: {rest}")
+    );
+    assert_eq!(words(None), format!("the report: {rest}"));
+}
+
+/// How two blocks differ, from the blocks themselves.
+fn apart(one: &Block, other: &Block) -> Vec<Difference> {
+    let mut all = Vec::new();
+    let (ones, others): (Vec<Batch>, Vec<Batch>) =
+        (one.batches().collect(), other.batches().collect());
+    let mut from = [0, 0];
+    for batch in 0..ones.len().max(others.len()) {
+        let (Some(a), Some(b)) = (ones.get(batch), others.get(batch)) else {
+            let side = match ones.get(batch) {
+                None => Side::First,
+                Some(_) => Side::Second,
+            };
+            all.push(Difference::Missing { batch, side });
+            continue;
+        };
+        let first = |differs: &dyn Fn(usize) -> bool| (0..8).find(|&group| differs(group));
+        let length = |batch: &Batch, group: usize| batch.starts[group + 1] - batch.starts[group];
+        let number = first(&|group| a.numbers[group] != b.numbers[group]);
+        let flag = first(&|group| a.flags[group] != b.flags[group]);
+        let lengths = first(&|group| length(a, group) != length(b, group));
+        all.extend(number.map(|group| Difference::Number { batch, group }));
+        all.extend(flag.map(|group| Difference::Flag { batch, group }));
+        all.extend(lengths.map(|group| Difference::Length { batch, group }));
+        let place = (0..a.operations().min(b.operations())).find(|place| {
+            let (i, j) = (from[0] + place, from[1] + place);
+            one.codes[i] != other.codes[j] || one.values[i] != other.values[j]
+        });
+        all.extend(place.map(|place| Difference::Operation { batch, place }));
+        if a.count != b.count {
+            all.push(Difference::Count { batch });
+        }
+        from = [from[0] + a.operations(), from[1] + b.operations()];
+    }
+    let paddings =
+        |batches: &[Batch]| -> usize { batches.iter().map(|batch| batch.paddings().count()).sum() };
+    let paddings = [paddings(&ones), paddings(&others)];
+    let padded = [one.codes.len(), other.codes.len()];
+    let more = |[one, other]: [usize; 2]| other as i32 - one as i32;
+    let raw = more(padded) - more(paddings);
+    all.extend([
+        Difference::Batches(more([ones.len(), others.len()])),
+        Difference::Padded(more(padded)),
+        Difference::Raw(raw),
+        Difference::Paddings(more(paddings)),
+    ]);
+    all.retain(|difference| {
+        use Difference::{Batches, Padded, Paddings, Raw};
+        !matches!(difference, Batches(0) | Padded(0) | Raw(0) | Paddings(0))
+    });
+    all
+}
+
+/// Room as lent, full of other bytes.
+fn filled(operations: usize, batches: usize) -> Block {
+    Block {
+        codes: vec![9; operations],
+        values: vec![9; operations],
+        records: vec![9; batches * RECORD],
+    }
+}
+
+fn outputs(block: &mut Block) -> Outputs<'_> {
+    Outputs {
+        codes: &mut block.codes,
+        values: &mut block.values,
+        records: &mut block.records,
+    }
+}
+
+fn is_zero(block: &Block) -> bool {
+    block
+        .codes
+        .iter()
+        .chain(&block.records)
+        .all(|&byte| byte == 0)
+        && block.values.iter().all(|&value| value == 0)
+}
+
+/// A random block's bytes, good more often than not.
+fn any_block(seed: &mut Seed, at: usize) -> Result<Vec<u8>, Refusal> {
+    let size = seed.under(30);
+    let codes: Vec<u8> = (0..size).map(|_| [91, 1, 0, 32][seed.under(4)]).collect();
+    let values: Vec<u64> = (codes.iter())
+        .map(|code| {
+            if [91, 32].contains(code) {
+                seed.next() >> 62
+            } else {
+                0
+            }
+        })
+        .collect();
+    let mut block = Block::default();
+    if size > 0 {
+        block = build(&VM_TABLE, &codes, &values)?;
+    }
+    if seed.under(4) == 0 {
+        let at = seed.under(block.batches().len() + 1) * RECORD;
+        block.records.splice(at..at, Batch::default().record());
+    }
+    let mut bytes = vec![7; at];
+    bytes.extend(encode(&VM_TABLE, &block)?);
+    if seed.under(3) == 0 {
+        let last = bytes.len() - 1 - seed.under(block.batches().len().max(1));
+        bytes[last] ^= 1 << seed.under(8);
+    }
+    Ok(bytes)
+}
+
+/// Both forms of compare say what the blocks themselves say; working room ends zeroed, and so does what
+/// is left over of the report.
+#[test]
+fn two_blocks() -> Result<(), Refusal> {
+    let mut seed = Seed(0x7c15_51ab_2545_f491);
+    let (mut same, mut different, mut refused, mut short) = (0, 0, 0, 0);
+    for turn in 0..6_000 {
+        let (one_at, other_at) = (seed.under(3), seed.under(3));
+        let one = any_block(&mut seed, one_at)?;
+        let other = match turn % 3 {
+            0 => [&vec![7; other_at][..], &one[one_at..]].concat(),
+            _ => any_block(&mut seed, other_at)?,
+        };
+        let source = |bytes, at| Source {
+            table: &VM_TABLE,
+            bytes,
+            at,
+        };
+        let (first, second) = (source(&one, one_at), source(&other, other_at));
+        let read = |side, source: Source<'_>| {
+            decode(source.table, source.bytes, source.at)
+                .map(|(block, _)| block)
+                .map_err(|refusal| CompareRefusal {
+                    side: Some(side),
+                    refusal,
+                })
+        };
+        let want = read(Side::First, first).and_then(|one| {
+            let other = read(Side::Second, second)?;
+            let all = apart(&one, &other);
+            assert_eq!(all.is_empty(), one == other);
+            Ok(all)
+        });
+        let got = compare(first, second);
+        let typed = |report: &oliastrofu::Report| report.differences().collect::<Vec<_>>();
+        assert_eq!(got.as_ref().map(typed).map_err(|r| *r), want);
+        if let Ok(report) = &got {
+            assert_eq!(report.numbers().len(), ENTRY * report.len());
+            assert!(report.into_iter().rev().eq(typed(report).into_iter().rev()));
+            assert_eq!(report.differences().len(), report.len());
+        }
+        match &want {
+            Ok(all) if all.is_empty() => same += 1,
+            Ok(_) => different += 1,
+            Err(_) => refused += 1,
+        }
+
+        // On lent room, with a report of any length.
+        let mut rooms = (filled(99, 20), filled(98, 21));
+        let mut report = vec![-9; seed.under(60)];
+        let rest = report.len() / ENTRY;
+        let lent = lent::compare(
+            first,
+            second,
+            outputs(&mut rooms.0),
+            outputs(&mut rooms.1),
+            &mut report,
+        );
+        let lent = lent.map(|differences| differences.collect::<Vec<_>>());
+        let entries = lent.as_ref().map_or(0, Vec::len);
+        match want {
+            Ok(all) if all.len() > rest => {
+                short += 1;
+                let cause = Cause::Room;
+                let refusal = Refusal { cause, place: 0 };
+                let side = None;
+                assert_eq!(lent, Err(CompareRefusal { side, refusal }));
+            }
+            want => assert_eq!(lent, want),
+        }
+        assert!(is_zero(&rooms.0) && is_zero(&rooms.1));
+        assert!(report[entries * ENTRY..].iter().all(|&number| number == 0));
+        assert!(
+            report[..entries * ENTRY]
+                .chunks(ENTRY)
+                .all(|entry| entry[0] > 0)
+        );
+    }
+    assert!(same > 1_000 && different > 1_000 && refused > 100 && short > 1_000);
+    Ok(())
+}
+
+/// Want of room in a block is the block's refusal, and each of its runs is looked at.
+#[test]
+fn whose_want_of_room() {
+    let bytes = [5, 91, 5, 0, 0, 0, 0, 0, 0, 0, 0, 1, 0, 0, 0, 2, 0, 0, 0, 1];
+    let source = Source {
+        table: &VM_TABLE,
+        bytes: &bytes,
+        at: 0,
+    };
+    for (which, side) in [(0, Side::First), (1, Side::Second)] {
+        for run in 0..4 {
+            let mut rooms = [filled(2, 1), filled(2, 1)];
+            match run {
+                0 => rooms[which].codes.truncate(1),
+                1 => rooms[which].values.truncate(1),
+                2 => rooms[which].records.truncate(RECORD - 1),
+                _ => {}
+            }
+            let [one, other] = &mut rooms;
+            let mut report = [9; 3];
+            let got = lent::compare(source, source, outputs(one), outputs(other), &mut report);
+            let got = got.map(|differences| differences.len());
+            let refusal = Refusal {
+                cause: Cause::Room,
+                place: 0,
+            };
+            let side = Some(side);
+            match run {
+                3 => assert_eq!(got, Ok(0)),
+                _ => assert_eq!(got, Err(CompareRefusal { side, refusal })),
+            }
+            assert!(rooms.iter().all(is_zero) && report == [0; 3]);
+        }
+    }
+}
+
+/// The longest report there is, and no want of room for it.
+#[test]
+fn the_longest_report() -> Result<(), CompareRefusal> {
+    let batches = 16_384u32;
+    let block = |operations: u32, front: &[u8], codes: &[u8], nibbles: u8, flags: u8| {
+        // A count of three bytes.
+        let mut bytes = ((2 * operations + 1) << 2).to_le_bytes()[..3].to_vec();
+        bytes.extend(front);
+        bytes.extend(codes.repeat(batches as usize));
+        bytes.extend(batches.to_le_bytes());
+        for batch in 0..batches {
+            let more = if batch == 0 { front.len() as u8 } else { 0 };
+            bytes.extend([nibbles + more, 0, 0, 0]);
+        }
+        bytes.extend(vec![flags; batches as usize]);
+        bytes
+    };
+    let one = block(batches, &[], &[1], 1, 0);
+    let other = block(2 * batches + 1, &[3], &[2, 0], 0x11, 2);
+    let source = |bytes| Source {
+        table: &VM_TABLE,
+        bytes,
+        at: 0,
+    };
+    let report = compare(source(&one), source(&other))?;
+    assert_eq!(report.len(), LONGEST_REPORT);
+    assert!(report.differences().rev().take(3).eq([
+        Difference::Paddings(16_384),
+        Difference::Raw(1),
+        Difference::Padded(16_385),
+    ]));
+    assert!(compare(source(&other), source(&other))?.is_empty());
+    Ok(())
+}
+
 /// 13 is for lent outputs: the forms with room of their own never give it.
 #[test]
 fn no_want_of_room() {
@@ -447,6 +773,29 @@ fn no_want_of_room() {
     let bytes = [&[3, 1, 10, 0, 0, 0, 1][..], &[0; 49]].concat();
     let refusal = decode_strict(&VM_TABLE, &bytes, 0).unwrap_err();
     assert_eq!((refusal.number(), refusal.place), (18, 1));
+    // So are they where it is compared, on either side.
+    let source = |bytes| Source {
+        table: &VM_TABLE,
+        bytes,
+        at: 0,
+    };
+    let empty = source(&[1, 0, 0, 0, 0]);
+    assert_eq!(
+        compare(source(&bytes), empty).map(|report| report.len()),
+        Ok(13)
+    );
+    assert_eq!(
+        compare(empty, source(&bytes)).map(|report| report.len()),
+        Ok(13)
+    );
+    for bad in [&[201][..], &[201, 6]] {
+        let refused = |first, second| compare(first, second).unwrap_err();
+        let want = decode(&VM_TABLE, bad, 0).unwrap_err();
+        let first = refused(source(bad), source(&bytes));
+        assert_eq!((first.side, first.refusal), (Some(Side::First), want));
+        let second = refused(source(&bytes), source(bad));
+        assert_eq!((second.side, second.refusal), (Some(Side::Second), want));
+    }
     let refusal = build(&VM_TABLE, &[1; 16_385], &[0; 16_385]).unwrap_err();
     assert_eq!(refusal.cause, Cause::Limit);
 }
@@ -553,7 +902,23 @@ fn anything_is_answered() {
             let _ = lent::next_group(record, at);
         }
 
+        // Two blocks, of any bytes, under any table.
+        let (mut one, mut two) = (filled(seed.under(9), 1), filled(seed.under(9), 2));
+        let mut report: Vec<i32> = (0..seed.under(30)).map(|_| seed.next() as i32).collect();
+        let first = Source {
+            table: if turn % 3 == 0 { &codes } else { &VM_TABLE },
+            bytes: &bytes,
+            at,
+        };
+        let second = Source { at: 0, ..first };
+        let (one_out, two_out) = (outputs(&mut one), outputs(&mut two));
+        if lent::compare(first, second, one_out, two_out, &mut report).is_err() {
+            assert!(report.iter().all(|&number| number == 0));
+        }
+        assert!(is_zero(&one) && is_zero(&two));
+
         // The forms with room of their own.
+        let _ = compare(second, first);
         let _ = build(&VM_TABLE, &codes, &values);
         let _ = decode(&VM_TABLE, &bytes, at);
         let _ = decode_strict(&VM_TABLE, &bytes, at);

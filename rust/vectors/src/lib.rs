@@ -18,10 +18,12 @@
 //! | b | group | RUN record, index | number, place, found, group, position | |
 //! | c | next group | RUN record, group | number, place, found, group | |
 //! | d | decode strict | as decode | as decode | as decode |
+//! | e | compare | for the first block as decode; RUN table of the second, then as decode; length of the report | mark, number, place, entries | for each block as decode, then RUN report |
 //!
 //! A RUN is its length, then how many of its items are given, then those items. The items after
-//! them are all like the last one given, or 0 if none is. Build, encode, decode, decode strict and
-//! commitment work under the table of the last line with 0. Outputs are whole, in the lent lengths.
+//! them are all like the last one given, or 0 if none is. Build, encode, decode, decode strict,
+//! commitment and the first block of compare work under the table of the last line with 0. Outputs are
+//! whole, in the lent lengths. A number of a report is given as its 32 bits: -1 is ffffffff.
 //!
 //! In original.txt the numbers are the original's own, and a place of ffffffffffffffff says that
 //! the original names none. That the totals are 0 and the outputs zero where it refuses is
@@ -35,7 +37,7 @@ use compare::{
     inputs::{self, Block, Kinds, List},
     theirs,
 };
-use model::{Answer, Arena, Call, Function, RECORD, Room};
+use model::{Answer, Arena, Call, Function, RECORD, Room, Source};
 use original::Refused;
 
 /// The place where the original names none.
@@ -86,6 +88,18 @@ impl Line {
         self.run(arena.codes);
         self.run(arena.values);
         self.run(arena.records);
+    }
+
+    /// A block's bytes, its offset and its room.
+    fn source(&mut self, source: Source<'_>) {
+        self.run(source.bytes);
+        self.size(source.at);
+        self.room(source.room);
+    }
+
+    fn report(&mut self, report: &[i32]) {
+        let bits: Vec<u32> = report.iter().map(|n| n.cast_unsigned()).collect();
+        self.run(&bits);
     }
 
     fn room(&mut self, room: Room) {
@@ -180,6 +194,20 @@ impl File {
                 line.run(record);
                 line.size(group);
             }
+            Call::Compare {
+                first,
+                second,
+                report,
+            } => {
+                self.under(first.table);
+                line.source(first);
+                line.run(second.table);
+                line.source(second);
+                line.size(report);
+            }
+        }
+        if call.function() == Function::Compare {
+            line.number(answer.mark.into());
         }
         let refusal = !matches!(call, Call::PaddedIndex { .. } | Call::RawIndex { .. });
         if refusal {
@@ -199,6 +227,29 @@ impl File {
             Function::RawTable | Function::PaddedTable => line.run(&answer.entries),
             _ => {}
         }
+        if let Call::Compare { first, .. } = call {
+            let Room {
+                codes,
+                values,
+                records,
+            } = first.room;
+            let (codes, values, records) = (
+                answer.codes.split_at(codes),
+                answer.values.split_at(values),
+                answer.records.split_at(records),
+            );
+            line.arena(Arena {
+                codes: codes.0,
+                values: values.0,
+                records: records.0,
+            });
+            line.arena(Arena {
+                codes: codes.1,
+                values: values.1,
+                records: records.1,
+            });
+            line.report(&answer.report);
+        }
         self.line(line);
     }
 }
@@ -207,7 +258,7 @@ impl File {
 pub fn rest(function: Function) -> usize {
     match function {
         Function::Structure | Function::Padding | Function::Commitment => 0,
-        Function::Encode | Function::RawTable | Function::PaddedTable => 1,
+        Function::Encode | Function::RawTable | Function::PaddedTable | Function::Compare => 1,
         Function::Build | Function::PaddedIndex | Function::RawIndex | Function::NextGroup => 2,
         Function::Decode | Function::Group | Function::Strict => 3,
     }
@@ -232,6 +283,7 @@ fn longest(call: Call<'_>) -> usize {
             ..
         } => arena(lent).max(buffer.len()),
         Call::Decode { bytes, .. } | Call::Strict { bytes, .. } => bytes.len(),
+        Call::Compare { first, second, .. } => first.bytes.len().max(second.bytes.len()),
         Call::Structure { arena: lent }
         | Call::Padding { arena: lent }
         | Call::Commitment { arena: lent, .. }
@@ -355,8 +407,8 @@ fn ask(call: Call<'_>) -> Option<Answer> {
         }
         // They need a block: `lookups`.
         Call::PaddedIndex { .. } | Call::RawIndex { .. } => None,
-        // The original has no strict decoder.
-        Call::Strict { .. } => None,
+        // The original has no strict decoder, and nothing that compares.
+        Call::Strict { .. } | Call::Compare { .. } => None,
         Call::Group { record, index } => {
             let found = original::op_idx_in_batch_to_group(&one(record)?, index).ok()?;
             Some(match found {

@@ -4,7 +4,7 @@
 use std::{collections::BTreeMap, fs};
 
 use compare::run::strictly;
-use model::{Answer, Arena, Call, Function, RECORD, Room, answer};
+use model::{Answer, Arena, Call, Function, RECORD, Room, Source, answer};
 use vectors::{agree, rest};
 
 /// The numbers of a line.
@@ -53,9 +53,17 @@ impl Numbers {
         }
     }
 
+    fn report(&mut self) -> Vec<i32> {
+        let signed = |bits: u64| u32::try_from(bits).expect("32 bits").cast_signed();
+        self.run().into_iter().map(signed).collect()
+    }
+
     /// The reply and the outputs.
     fn answer(&mut self, function: Function) -> Answer {
         let mut answer = Answer::default();
+        if function == Function::Compare {
+            answer.mark = self.next() as u8;
+        }
         if !matches!(function, Function::PaddedIndex | Function::RawIndex) {
             answer.number = self.next() as u8;
             answer.place = self.size();
@@ -71,6 +79,14 @@ impl Numbers {
             }
             Function::Encode => answer.buffer = self.bytes(),
             Function::RawTable | Function::PaddedTable => answer.entries = self.run(),
+            Function::Compare => {
+                for _ in 0..2 {
+                    answer.codes.extend(self.bytes());
+                    answer.values.extend(self.run());
+                    answer.records.extend(self.bytes());
+                }
+                answer.report = self.report();
+            }
             _ => {}
         }
         assert_eq!(self.1, self.0.len(), "the line ends here");
@@ -130,6 +146,29 @@ fn replay(text: &str) -> (Seen, Seen) {
                     _ => strictly(decode),
                 };
                 (answer(call), numbers.answer(function))
+            }
+            Function::Compare => {
+                let (first, at) = (numbers.bytes(), numbers.size());
+                let first = Source {
+                    table: &table,
+                    bytes: &first,
+                    at,
+                    room: numbers.room(),
+                };
+                let (table, second, at) = (numbers.bytes(), numbers.bytes(), numbers.size());
+                let second = Source {
+                    table: &table,
+                    bytes: &second,
+                    at,
+                    room: numbers.room(),
+                };
+                let report = numbers.size();
+                let ours = answer(Call::Compare {
+                    first,
+                    second,
+                    report,
+                });
+                (ours, numbers.answer(function))
             }
             Function::PaddedIndex | Function::RawIndex => {
                 let entries = numbers.run();
@@ -272,9 +311,9 @@ fn each_file_can_be_replayed() {
 
     // Whether a value is in the field, the stand-in decides.
     assert!(seen.keys().all(|&(_, number)| number != 17));
-    // It has no strict decoder.
-    let strict = |&(function, _): &(Function, u8)| function == Function::Strict;
-    assert!(!seen.keys().any(strict));
+    // It has no strict decoder, and nothing that compares.
+    let ours = |&(function, _): &(Function, u8)| function >= Function::Strict;
+    assert!(!seen.keys().any(ours));
 
     let (mut seen, kept) = replay(&model);
     each_takes_kept(&kept, 5);
@@ -295,10 +334,16 @@ fn each_file_can_be_replayed() {
     for number in [0, 18] {
         assert!(limits.contains_key(&(Function::Strict, number)), "{number}");
     }
+    for number in [0, 13] {
+        assert!(
+            limits.contains_key(&(Function::Compare, number)),
+            "{number}"
+        );
+    }
     for (key, times) in limits {
         *seen.entry(key).or_default() += times;
     }
-    let want: [(Function, &[u8]); 13] = [
+    let want: [(Function, &[u8]); 14] = [
         (Function::Build, &[0, 3, 4, 12, 13, 14, 17]),
         (Function::Encode, &[0, 1, 3, 4, 13, 14, 15, 17]),
         (
@@ -317,6 +362,10 @@ fn each_file_can_be_replayed() {
         (
             Function::Strict,
             &[0, 1, 2, 3, 4, 5, 6, 7, 8, 9, 10, 11, 13, 14, 17, 18],
+        ),
+        (
+            Function::Compare,
+            &[0, 1, 2, 3, 4, 5, 6, 7, 8, 9, 10, 11, 13, 14, 17],
         ),
     ];
     for (function, numbers) in want {
