@@ -2,6 +2,8 @@
 // run as groups close and immediates are placed, and never read back. A Noop is opcode 0 and value 0, so that a padding is stored by not being
 // stored: the runs come in all zero. How many groups a batch may have, its width, matters only to whether an operation fits: a record has room for
 // eight whatever the width.
+#![tactic(auto)]
+
 ghost use Rattle.std.specs.Prelude.{◌≡◌, true, ◌+◌, ◌*◌, ◌≤◌, ◌<◌, ◌^◌};
 ghost use Rattle.rules.specs.Batching.{target};
 ghost use Rattle.accumulator.specs.Good.{record_groups, Good};
@@ -13,7 +15,7 @@ pub const GROUP_SIZE: usize = 9;
 // groups that a record has room for, whatever the width
 pub const RECORD_GROUPS: usize = 8;
 
-#[derive(Drop)]
+#[derive(Clone, Copy)]
 pub struct OpBatchAccumulator {
     // the current group, and the next free one
     pub cur: usize,

@@ -1,6 +1,8 @@
 // batch [LIST [FILE]]: batches a list of operations under the virtual machine's own table, and prints the block's batches and, in hex, its bytes, or
 // writes its bytes to a file; or says in one line what is wrong. A line of the list is an operation's name or opcode and its value, if it has one;
 // # starts a comment.
+#![tactic(auto)]
+
 ghost use Rattle.std.specs.Prelude.{◌≤◌, ◌<◌, length};
 
 use build::Built;
@@ -49,7 +51,7 @@ fn say_fault(page: &mut [u8], fault: u8) {
     }
 }
 
-#[derive(Drop)]
+#[derive(Clone, Copy)]
 enum Parsed {
     Empty,
     Op(u8, u64),
@@ -160,7 +162,7 @@ fn parse_line(line: &[u8]) -> Parsed {
 // ---- the list
 
 // How many operations there are so far; and what is wrong, 0 for nothing.
-#[derive(Drop)]
+#[derive(Clone, Copy)]
 struct Taken {
     count: usize,
     fault: u8,
@@ -337,7 +339,7 @@ fn answer(file: &[u8], codes: &[u8], values: &[u64], records: &[u8], bytes: &[u8
 }
 
 // A refusal, or number 0.
-#[derive(Drop)]
+#[derive(Clone, Copy)]
 struct Refusal {
     number: u8,
     place: usize,

@@ -1,5 +1,7 @@
 // The greedy driver (document 01, "Batching (000)"): it hands one operation after the other to the accumulator, and ends the batch where one does not
 // fit. The lent runs come in all zero.
+#![tactic(auto)]
+
 ghost use Rattle.std.specs.Prelude.{◌≡◌, true, ◌+◌, ◌*◌, ◌-◌, ◌≤◌, ◌<◌, ◌^◌, length, get_or, set};
 ghost use Rattle.rules.specs.Record.{record_size, no_block};
 ghost use Rattle.rules.specs.Functions.{arena, filled};
@@ -11,7 +13,7 @@ ghost use Rattle.batcher.specs.Model.{ended_work, ended_work_run, room_work, roo
 use accumulator::OpBatchAccumulator;
 
 // The batch in hand, and how many padded operations and batches stand before it.
-#[derive(Drop)]
+#[derive(Clone, Copy)]
 struct Work {
     acc: OpBatchAccumulator,
     base: usize,
@@ -93,7 +95,7 @@ fn step(
 // which is 0, in the next free slot, which is 0, so that no branch depends on whether an operation has an immediate: no processor foresees it.
 
 // Operations that have joined: the work with them, and the place of the first that has not.
-#[derive(Drop)]
+#[derive(Clone, Copy)]
 struct Taken {
     work: Work,
     upto: usize,
@@ -259,7 +261,7 @@ fn join_ops(
 }
 
 // How much a list comes to; or the number of refusal and the place of its first operation that is not admissible.
-#[derive(Drop)]
+#[derive(Clone, Copy)]
 pub enum Batches {
     Done { batches: usize, operations: usize },
     Fault { number: u8, place: usize },

@@ -1,11 +1,13 @@
 // The public entry of the batcher (document 01, "Numbers of refusal", build): refusals 3, 14, 12, 4 or 17 (M-101), and 13.
+#![tactic(auto)]
+
 ghost use Rattle.std.specs.Prelude.{◌≡◌, ◌&&◌, ◌/◌, leb};
 ghost use Rattle.rules.specs.Record.{record_size, no_block};
 ghost use Rattle.rules.specs.Functions.{arena, filled, built};
 ghost use Rattle.build.specs.Outcome.{Outcome};
 ghost use Rattle.build.specs.Checked.{Checked};
 
-#[derive(Drop)]
+#[derive(Clone, Copy)]
 pub enum Built {
     Made { batches: usize, operations: usize },
     Refused { number: u8, place: usize },

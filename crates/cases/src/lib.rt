@@ -1,4 +1,6 @@
 // The files of cases (rust/README.md, "The files of cases"): the numbers of a line, the runs that it lends, and what it has beside ours.
+#![tactic(auto)]
+
 ghost use Rattle.std.specs.Prelude.{◌≤◌, length};
 
 use console::{print as say, print_number as print};
@@ -6,7 +8,7 @@ use text::Number;
 
 // ---- the numbers of a line, which ends in its line feed
 
-#[derive(Drop)]
+#[derive(Clone, Copy)]
 pub struct Read {
     pub value: u64,
     pub at: usize,
@@ -46,7 +48,7 @@ pub fn number(s: &[u8], from: usize) -> Read {
 // ---- runs that are lent
 
 // How long a run is, how many of its items are given, and where they start.
-#[derive(Drop)]
+#[derive(Clone, Copy)]
 pub struct Head {
     pub length: usize,
     pub given: usize,
@@ -123,7 +125,7 @@ pub fn fill64(out: &mut [u64], from: usize, to: usize, v: u64) {
 }
 
 // How much of a run is lent, and where the line goes on.
-#[derive(Drop)]
+#[derive(Clone, Copy)]
 pub struct Run {
     pub lent: usize,
     pub at: usize,
@@ -169,7 +171,7 @@ pub fn room(s: &[u8], from: usize, most: usize) -> Run
 const MOST: usize = 1343652;
 
 // Room for a block.
-#[derive(Drop)]
+#[derive(Clone, Copy)]
 pub struct Rooms {
     pub codes: usize,
     pub values: usize,
@@ -232,7 +234,7 @@ pub fn soil(codes: &mut [u8], values: &mut [u64], records: &mut [u8]) {
 // ---- what the file has, beside ours
 
 // A case: its line and function, where its line is read, and whether all was alike so far.
-#[derive(Drop)]
+#[derive(Clone, Copy)]
 pub struct Case {
     pub line: usize,
     pub what: u64,

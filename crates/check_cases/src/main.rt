@@ -5,6 +5,8 @@
 //   argument: a table's room, an operation number, a group or an index
 //   table: its length, the kind of opcode 4 (opcodes 0 and 2 have kind 0, 1 has 1, 3 has 2, the rest 3)
 //   codes, values and records each: how many are lent (of records the bytes), how many are listed, those; the rest are 0
+#![tactic(auto)]
+
 ghost use Rattle.std.specs.Prelude.{◌≤◌, ◌<◌, length};
 
 use op_batch::{Lookup, NextGroup};
@@ -14,7 +16,7 @@ use text::Number;
 
 // ---- numbers in a text
 
-#[derive(Drop)]
+#[derive(Clone, Copy)]
 struct Read {
     value: u64,
     at: usize,
@@ -302,7 +304,7 @@ fn run(what: u64, argument: usize, table: &[u8], codes: &[u8], values: &[u64], r
 }
 
 // The front of each run that is lent.
-#[derive(Drop)]
+#[derive(Clone, Copy)]
 struct Lent {
     table: usize,
     codes: usize,
@@ -336,7 +338,7 @@ fn lend(
 }
 
 // How much of a run is lent, and where the text goes on.
-#[derive(Drop)]
+#[derive(Clone, Copy)]
 struct Front {
     lent: usize,
     at: usize,

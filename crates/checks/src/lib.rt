@@ -1,4 +1,6 @@
 // Two checks of a block in a lent arena: structure and padding (document 01, "Checks").
+#![tactic(auto)]
+
 ghost use Rattle.std.specs.Prelude.{◌≡◌, ◌≤◌, length};
 ghost use Rattle.rules.specs.Answer.{good, refuse_first};
 ghost use Rattle.rules.specs.Checks.{structure_faults, padding_fault, padding_faults};

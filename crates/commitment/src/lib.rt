@@ -1,5 +1,7 @@
 // The commitment check of a block in a lent arena (document 01, "Checks"): batch by batch the first fault; and before that one walk that only says
 // whether all is right.
+#![tactic(auto)]
+
 ghost use Rattle.std.specs.Prelude.{◌≡◌, true, ◌+◌, ◌*◌, ◌≤◌, ◌<◌, length, drop, eqb};
 ghost use Rattle.rules.specs.Answer.{good, refuse_first};
 ghost use Rattle.rules.specs.Operations.{operations, kind_of};
@@ -220,7 +222,7 @@ fn commitment_fault(table: &[u8], codes: &[u8], values: &[u64], records: &[u8]) 
 // ---- where all is right: one walk that says only whether it is
 
 // What the walk over a group's operations found: their number, and the group after those that hold their immediates, 9 where something is not right.
-#[derive(Drop)]
+#[derive(Clone, Copy)]
 struct Walked {
     number: u64,
     next: usize,

@@ -1,5 +1,7 @@
 // compare FILE FILE, compare FILE OFFSET FILE OFFSET...: how two blocks differ (M-105), a line for each difference. The first word tells which ending it
 // is: `same`, `different`, or `refused` where there is nothing to compare. The lines after `different` begin with two spaces.
+#![tactic(auto)]
+
 ghost use Rattle.io.specs.Counts.{IsPrefixLen};
 
 use comparison::Compared;
@@ -11,7 +13,7 @@ use text::Number;
 // ---- an entry of the report
 
 // Its kind (1 to 10, crates/rules/specs/Compare.antt), batch and place; and second minus first, where it is about totals.
-#[derive(Drop)]
+#[derive(Clone, Copy)]
 struct Entry {
     kind: usize,
     batch: usize,
@@ -109,7 +111,7 @@ fn operations_between(records: &[u8], from: usize, to: usize) -> usize {
 }
 
 // A block's totals.
-#[derive(Drop)]
+#[derive(Clone, Copy)]
 struct Totals {
     batches: usize,
     operations: usize,
@@ -244,7 +246,7 @@ fn print_totals(page: &mut [u8], e: Entry, first: Totals, second: Totals) {
 // ---- the lines of two blocks
 
 // A batch, and where its operations begin in the first block and in the second.
-#[derive(Drop)]
+#[derive(Clone, Copy)]
 struct Begin {
     batch: usize,
     from: usize,
@@ -659,7 +661,7 @@ fn compare_bytes(first: &[u8], s: &[u8], from: usize, second: &[u8], t: &[u8], a
 // ---- files
 
 // How many bytes were read; whether there are more, and the error of a call that failed.
-#[derive(Drop)]
+#[derive(Clone, Copy)]
 struct Read {
     count: usize,
     more: bool,

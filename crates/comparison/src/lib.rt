@@ -1,5 +1,7 @@
 // The compare tool (M-105): how two blocks differ. Both are decoded into lent rooms and held against each other batch by batch; what differs first, of
 // each kind, goes into a lent report, four signed 32-bit numbers for each entry. The rooms are empty again at the end.
+#![tactic(auto)]
+
 ghost use Rattle.std.specs.Prelude.{◌≡◌, cond, ◌+◌, ◌-◌, ◌*◌, ◌≤◌, ◌<◌, ◌^◌, min, length, ltb, eqb};
 ghost use Rattle.std.proofs.Math.IntN.{sub_ℕ};
 ghost use Rattle.std.proofs.lemmas.List.Edits.{sets};
@@ -18,7 +20,7 @@ use decoder::Decoded;
 use op_batch::RECORD;
 
 // How many entries the report has; or a refusal's number and place, with a mark: 1 for the first block, 2 for the second, 0 for the report.
-#[derive(Drop)]
+#[derive(Clone, Copy)]
 pub enum Compared {
     Reported { entries: usize },
     Refused { mark: u8, number: u8, place: usize },
@@ -26,7 +28,7 @@ pub enum Compared {
 
 // What is found of a batch that both blocks have: of how many groups, from the first on, the numbers, the flags and the lengths are the same, which is 8
 // where all are; and of how many operations.
-#[derive(Drop)]
+#[derive(Clone, Copy)]
 struct Apart {
     numbers: usize,
     flags: usize,
@@ -37,7 +39,7 @@ struct Apart {
 }
 
 // A block's totals.
-#[derive(Drop)]
+#[derive(Clone, Copy)]
 struct Totals {
     batches: usize,
     padded: usize,

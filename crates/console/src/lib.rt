@@ -1,11 +1,13 @@
 // What the programs read, print and say. What is printed goes to a page, which is written when it is full and when it is flushed.
+#![tactic(auto)]
+
 ghost use Rattle.std.specs.Prelude.{◌≡◌, ◌≤◌, ◌<◌, length};
 ghost use Rattle.io.specs.Counts.{IsPrefixLen};
 
 // ---- reading
 
 // How many bytes were read; and whether a read failed, which is not the end of the file.
-#[derive(Drop)]
+#[derive(Clone, Copy)]
 pub struct Got {
     pub count: usize,
     pub failed: bool,

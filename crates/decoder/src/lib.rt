@@ -1,4 +1,6 @@
 // The block decoder (document 01, "Block bytes").
+#![tactic(auto)]
+
 ghost use Rattle.std.specs.Prelude.{◌≡◌, List, ℕ, ◌+◌, ◌*◌, ◌≤◌, ◌<◌, length};
 ghost use Rattle.rules.specs.Digits.{le_at};
 ghost use Rattle.rules.specs.Operations.{Op, operations};
@@ -15,7 +17,7 @@ ghost use Rattle.decoder.specs.Stages.{OpsIn, RecordsIn, items_at, records_at, s
 use wire::{CountRead, OpRead};
 
 // A block: how many batches and padded operations, and how many bytes it took; or a refusal's number and place.
-#[derive(Drop)]
+#[derive(Clone, Copy)]
 pub enum Decoded {
     Made {
         batches: usize,

@@ -1,4 +1,6 @@
 // The block encoder (document 01, "Block bytes").
+#![tactic(auto)]
+
 ghost use Rattle.std.specs.Prelude.{◌≡◌, ◌+◌, ◌*◌, ◌/◌, ◌≤◌, length};
 ghost use Rattle.std.proofs.lemmas.List.Edits.{sets};
 ghost use Rattle.rules.specs.Operations.{operations};
@@ -15,7 +17,7 @@ use op_batch::{RECORD, WIDTH};
 use operation::Verdict;
 
 // How many bytes were written; or a refusal's number and place.
-#[derive(Drop)]
+#[derive(Clone, Copy)]
 pub enum Encoded {
     Written { length: usize },
     Refused { number: u8, place: usize },

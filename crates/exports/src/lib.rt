@@ -1,5 +1,7 @@
 // What a Rust or C program calls: the public functions over numbers and slices, with replies as plain structs. In each reply number 0 means that
 // nothing was refused; a refusal has every length and total 0.
+#![tactic(auto)]
+
 ghost use Rattle.std.specs.Prelude.{◌≡◌, true, ◌/◌, min, length};
 ghost use Rattle.rules.specs.Record.{record_at, no_block};
 ghost use Rattle.rules.specs.Block.{Room};
@@ -21,7 +23,7 @@ use operation::Verdict;
 use prefix::{PaddedFound, PaddedIndex, RawFound, RawIndex, Tabled};
 
 #[repr(C)]
-#[derive(Drop)]
+#[derive(Clone, Copy)]
 pub struct BuildReply {
     pub number: u8,
     pub place: usize,
@@ -30,7 +32,7 @@ pub struct BuildReply {
 }
 
 #[repr(C)]
-#[derive(Drop)]
+#[derive(Clone, Copy)]
 pub struct EncodeReply {
     pub number: u8,
     pub place: usize,
@@ -38,7 +40,7 @@ pub struct EncodeReply {
 }
 
 #[repr(C)]
-#[derive(Drop)]
+#[derive(Clone, Copy)]
 pub struct DecodeReply {
     pub number: u8,
     pub place: usize,
@@ -48,7 +50,7 @@ pub struct DecodeReply {
 }
 
 #[repr(C)]
-#[derive(Drop)]
+#[derive(Clone, Copy)]
 pub struct HeadReply {
     pub number: u8,
     pub place: usize,
@@ -57,7 +59,7 @@ pub struct HeadReply {
 }
 
 #[repr(C)]
-#[derive(Drop)]
+#[derive(Clone, Copy)]
 pub struct CompareReply {
     pub mark: u8,
     pub number: u8,
@@ -66,14 +68,14 @@ pub struct CompareReply {
 }
 
 #[repr(C)]
-#[derive(Drop)]
+#[derive(Clone, Copy)]
 pub struct CheckReply {
     pub number: u8,
     pub place: usize,
 }
 
 #[repr(C)]
-#[derive(Drop)]
+#[derive(Clone, Copy)]
 pub struct TableReply {
     pub number: u8,
     pub place: usize,
@@ -81,14 +83,14 @@ pub struct TableReply {
 }
 
 #[repr(C)]
-#[derive(Drop)]
+#[derive(Clone, Copy)]
 pub struct IndexReply {
     pub found: u8,
     pub index: usize,
 }
 
 #[repr(C)]
-#[derive(Drop)]
+#[derive(Clone, Copy)]
 pub struct GroupReply {
     pub number: u8,
     pub place: usize,
@@ -98,7 +100,7 @@ pub struct GroupReply {
 }
 
 #[repr(C)]
-#[derive(Drop)]
+#[derive(Clone, Copy)]
 pub struct NextReply {
     pub number: u8,
     pub place: usize,

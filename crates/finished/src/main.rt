@@ -1,5 +1,7 @@
 // finished FILE...: for each file one line that says whether the block that it starts with is finished (M-107), one that batching its own operations
 // makes; where it is not, what is wrong with it, or what is different first. The line starts with `finished` or with `not finished`.
+#![tactic(auto)]
+
 ghost use Rattle.std.specs.Prelude.{◌≤◌, ◌<◌};
 
 use build::Built;
@@ -11,7 +13,7 @@ use op_batch::OpBatch;
 // ---- a group of a batch
 
 // Whether it is under the group count, how many operations of the list it has, how many paddings (0 or 1), and its flag.
-#[derive(Drop)]
+#[derive(Clone, Copy)]
 struct Group {
     there: bool,
     own: usize,

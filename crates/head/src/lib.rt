@@ -1,4 +1,6 @@
 // How much a block needs: its head (document 01, "Block bytes", items 1 to 3) read alone, and nothing kept of its operations.
+#![tactic(auto)]
+
 ghost use Rattle.std.specs.Prelude.{◌≡◌, length};
 ghost use Rattle.rules.specs.Bytes.{ops_at};
 ghost use Rattle.rules.specs.Block.{head_at};
@@ -9,7 +11,7 @@ ghost use Rattle.head.specs.Replies.{head_of, hand_head};
 use wire::{CountRead, OpRead};
 
 // How many padded operations and batches the block has, and the place after its head; or a refusal's number and place.
-#[derive(Drop)]
+#[derive(Clone, Copy)]
 pub enum Headed {
     Found {
         operations: usize,

@@ -1,4 +1,6 @@
 // A block's batches and a refusal, printed for a person. What would be read past a run's end is 0, so that no run can trip the printing up.
+#![tactic(auto)]
+
 ghost use Rattle.std.specs.Prelude.{◌+◌, ◌<◌, ◌≤◌};
 ghost use Rattle.io.specs.Counts.{IsPrefixLen};
 
@@ -115,7 +117,7 @@ fn size(codes: &[u8], at: usize, n: usize) -> usize {
 // ---- batches
 
 // Where a batch starts: its first operation, and that one's byte.
-#[derive(Drop)]
+#[derive(Clone, Copy)]
 struct Place {
     operation: usize,
     byte: usize,
@@ -284,7 +286,7 @@ pub fn paddings(records: &[u8], batches: usize) -> usize {
 // ---- a block
 
 // What stands after a block: nobody asks, so many bytes, or at least so many.
-#[derive(Drop)]
+#[derive(Clone, Copy)]
 pub enum After {
     Unasked,
     Bytes(usize),
@@ -305,7 +307,7 @@ fn print_after(page: &mut [u8], after: After) {
 }
 
 // A block that stands at a byte, and its totals.
-#[derive(Drop)]
+#[derive(Clone, Copy)]
 pub struct Block {
     pub at: usize,
     pub batches: usize,

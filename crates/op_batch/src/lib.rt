@@ -1,4 +1,6 @@
 // OpBatch: a batch's record by value, as it lies in the lent run of records, its structure test and the lookups in one batch.
+#![tactic(auto)]
+
 ghost use Rattle.std.specs.Prelude.{◌≡◌, ℕ, ◌+◌, ◌-◌, ◌*◌, ◌%◌, ◌^◌, ◌<◌, ◌≤◌, true, ◌&&◌, leb, length, take, drop, nat_le, slice_index};
 ghost use Rattle.std.proofs.lemmas.List.Edits.{sets};
 ghost use Rattle.rules.specs.Lists.{every};
@@ -23,7 +25,7 @@ const COUNT: usize = 81;
 pub const WIDTH: usize = 8;
 
 // A batch's record: nine starts, eight padding flags, eight group numbers, the group count.
-#[derive(Drop)]
+#[derive(Clone, Copy)]
 pub struct OpBatch {
     pub starts: [u8; 9],
     pub flags: [u8; 8],
@@ -32,7 +34,7 @@ pub struct OpBatch {
 }
 
 // Where an operation stands in its batch.
-#[derive(Drop)]
+#[derive(Clone, Copy)]
 pub enum Lookup {
     Found { group: usize, place: usize },
     Nothing,
@@ -40,7 +42,7 @@ pub enum Lookup {
 }
 
 // A group of a batch.
-#[derive(Drop)]
+#[derive(Clone, Copy)]
 pub enum NextGroup {
     At(usize),
     Nothing,

@@ -1,4 +1,6 @@
 // Operations and their table (document 01, "Operations and their table").
+#![tactic(auto)]
+
 ghost use Rattle.std.specs.Prelude.{◌≡◌, cond, not, ◌&&◌, map, ℕ, length, leb, ltb, eqb};
 ghost use Rattle.rules.specs.Lists.{every};
 ghost use Rattle.rules.specs.Answer.{good, refuse_first};
@@ -9,7 +11,7 @@ ghost use Rattle.operation.specs.Verdict.{verdict_of, op};
 pub const FIELD: u64 = 18446744069414584321;
 
 // What a check says: passed, or a refusal's number and place.
-#[derive(Drop)]
+#[derive(Clone, Copy)]
 pub enum Verdict {
     Passed,
     Refused { number: u8, place: usize },

@@ -1,4 +1,6 @@
 // The two index tables of a block, RawToPaddedPrefix and PaddedToRawPrefix, and lookups in them (document 01, "Lookups and tables").
+#![tactic(auto)]
+
 ghost use Rattle.std.specs.Prelude.{◌≡◌, ◌+◌, ◌*◌, ◌/◌, ◌≤◌, ◌<◌, ◌^◌, length, replicate};
 ghost use Rattle.std.proofs.lemmas.List.Edits.{sets};
 ghost use Rattle.rules.specs.Record.{record_size, record_at, records_in};
@@ -11,25 +13,25 @@ use op_batch::RECORD;
 use operation::Verdict;
 
 // An index of an operation among those without flagged paddings, and among all.
-#[derive(Drop)]
+#[derive(Clone, Copy)]
 pub struct RawIndex(pub usize);
 
-#[derive(Drop)]
+#[derive(Clone, Copy)]
 pub struct PaddedIndex(pub usize);
 
-#[derive(Drop)]
+#[derive(Clone, Copy)]
 pub enum PaddedFound {
     At(PaddedIndex),
     Nothing,
 }
 
-#[derive(Drop)]
+#[derive(Clone, Copy)]
 pub enum RawFound {
     At(RawIndex),
     Nothing,
 }
 
-#[derive(Drop)]
+#[derive(Clone, Copy)]
 pub enum Tabled {
     Made { entries: usize },
     Refused { number: u8, place: usize },
@@ -86,7 +88,7 @@ pub fn padded_to_raw_index(table: &[u64], i: PaddedIndex) -> RawFound
 // ---- tables: `padded` says which of the two, and is all they differ in
 
 // How far a table is: entries written, entries after them that wait until the next padding since their value is the same, paddings counted.
-#[derive(Drop)]
+#[derive(Clone, Copy)]
 struct Filled {
     entries: usize,
     waiting: usize,

@@ -1,4 +1,6 @@
 // A reader that keeps the lent bytes and its place in them, over the proved functions on a slice and a number.
+#![tactic(auto)]
+
 ghost use Rattle.std.specs.Prelude.{◌≡◌};
 ghost use Rattle.wire.specs.Replies.{count_read_of, op_read_of};
 ghost use Rattle.rules.specs.Functions.{count_here, op_here};
@@ -7,7 +9,7 @@ use wire::{CountRead, OpRead};
 
 const MOST_BYTES: usize = 1048576;
 
-#[derive(Drop)]
+#[derive(Clone, Copy)]
 pub struct Reader<'a> {
     pub src: &'a [u8],
     pub at: usize,

@@ -1,5 +1,7 @@
 // replay FILE..: replays files of cases (rust/README.md, "The files of cases") on the functions that Rust calls, and compares each reply and each
 // output whole with the file's.
+#![tactic(auto)]
+
 ghost use Rattle.std.specs.Prelude.{◌≡◌, ◌≤◌, ◌<◌, length};
 ghost use Rattle.io.specs.Counts.{IsPrefixLen};
 
@@ -470,7 +472,7 @@ fn tally(counts: &mut [u64], c: Case) {
 }
 
 // The length of the table for the lines after one, and whether the line is a case or a table.
-#[derive(Drop)]
+#[derive(Clone, Copy)]
 struct Left {
     table: usize,
     well: bool,

@@ -1,5 +1,7 @@
 // show FILE [OFFSET]: prints the batches of the block that starts at a byte of a file, under the virtual machine's own table; or says in one line
 // what is wrong.
+#![tactic(auto)]
+
 ghost use Rattle.std.specs.Prelude.{◌≤◌};
 
 use decoder::Decoded;

@@ -1,5 +1,7 @@
 // Room for the largest block, and a little more so that a test can go over each limit. The `ensures` gives the length, which lending an array
 // asks for.
+#![tactic(auto)]
+
 ghost use Rattle.std.specs.Prelude.{◌≡◌, length};
 
 // 65,535 operations, and one.

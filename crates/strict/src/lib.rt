@@ -2,6 +2,8 @@
 // again as they lie, flagged padding left out, and each batch that ends is held against the block's next record. Nothing is written, so that no room
 // is asked for: of a batch in hand only its numbers are kept, the sizes of its groups and its flags. A record's group numbers and count need no look:
 // they follow from these and the operations (`shapes`, crates/claims).
+#![tactic(auto)]
+
 ghost use Rattle.std.specs.Prelude.{◌≡◌, true, cond, ◌&&◌, ◌+◌, ◌*◌, ◌-◌, ◌≤◌, ◌<◌, ◌^◌, length, take, leb, ltb, eqb};
 ghost use Rattle.rules.specs.Record.{record_size, record_at, records_from};
 ghost use Rattle.rules.specs.Checks.{ninth};
@@ -21,7 +23,7 @@ use decoder::Decoded;
 use operation::Verdict;
 
 // The batch in hand: its numbers, and the sizes and flags of its closed groups, each as the bytes of one number, the first lowest.
-#[derive(Drop)]
+#[derive(Clone, Copy)]
 struct Draft {
     acc: OpBatchAccumulator,
     sizes: u64,
@@ -29,7 +31,7 @@ struct Draft {
 }
 
 // The batch in hand, how many batches before it are the block's, whether one is not, and how many operations were added.
-#[derive(Drop)]
+#[derive(Clone, Copy)]
 struct Work {
     draft: Draft,
     batches: usize,

@@ -1,9 +1,11 @@
 // The lines, words and numbers of a text, for the programs that read one.
+#![tactic(auto)]
+
 ghost use Rattle.std.specs.Prelude.{◌≤◌, ◌<◌, length};
 
 // ---- numbers
 
-#[derive(Drop)]
+#[derive(Clone, Copy)]
 pub enum Number {
     Is(u64),
     Not,

@@ -1,4 +1,6 @@
 // One batch of a block (document 01, "Decoding a batch"). `deltas` has its eight sizes, four bits each, the first lowest.
+#![tactic(auto)]
+
 ghost use Rattle.std.specs.Prelude.{◌≡◌, true, List, [], ℕ, ◌+◌, ◌*◌, ◌≤◌, ◌<◌, length, take};
 ghost use Rattle.rules.specs.Lists.{fitted, total};
 ghost use Rattle.rules.specs.Digits.{digits};

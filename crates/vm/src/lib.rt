@@ -1,4 +1,6 @@
 // The virtual machine's own table of kinds, and its operations' names, as its crate has them (operations/mod.rs).
+#![tactic(auto)]
+
 ghost use Rattle.std.specs.Prelude.{◌≡◌};
 ghost use Rattle.vm.specs.Kinds.{kinds};
 
@@ -77,7 +79,7 @@ pub fn name_byte(code: u8, i: usize) -> u8 {
 }
 
 // The opcode of a name.
-#[derive(Drop)]
+#[derive(Clone, Copy)]
 pub enum Named {
     Code(u8),
     Nothing,

@@ -1,4 +1,6 @@
 // The items of a block's bytes (document 01, "Block bytes"): count, operation and batch count, each read and written, and the test of nibbles.
+#![tactic(auto)]
+
 ghost use Rattle.std.specs.Prelude.{◌≡◌, true, ◌+◌, ◌/◌, ◌^◌, ◌≤◌, ◌<◌, length};
 ghost use Rattle.std.proofs.lemmas.List.Edits.{sets};
 ghost use Rattle.rules.specs.Digits.{digits, number, le_at};
@@ -8,14 +10,14 @@ ghost use Rattle.wire.specs.Replies.{count_read_of, op_read_of};
 ghost use Rattle.wire.specs.Stages.{hand_op};
 
 // A count or a batch count, and the place after it; or a refusal's number and place.
-#[derive(Drop)]
+#[derive(Clone, Copy)]
 pub enum CountRead {
     Found { value: u64, next: usize },
     Refused { number: u8, place: usize },
 }
 
 // An operation, and the place after it; or a refusal's number and place.
-#[derive(Drop)]
+#[derive(Clone, Copy)]
 pub enum OpRead {
     Found { code: u8, value: u64, next: usize },
     Refused { number: u8, place: usize },

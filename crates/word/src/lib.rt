@@ -1,4 +1,6 @@
 // Bytes and words in lent runs: little-endian numbers, stores that fall away past the end, zeroed tails.
+#![tactic(auto)]
+
 ghost use Rattle.std.specs.Prelude.{◌≡◌, ◌+◌, ◌≤◌, ◌<◌, ◌^◌, length, take, set, replicate};
 ghost use Rattle.std.proofs.lemmas.List.Edits.{sets};
 ghost use Rattle.rules.specs.Digits.{le_at, le_bytes};
