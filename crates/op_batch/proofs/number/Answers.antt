@@ -1,0 +1,6 @@
+use Rattle.std.proofs.Common.{sym, ◌∙◌, arith}
+use Rattle.op_batch.proofs.Right.{number_at}
+use Rattle.op_batch.proofs.number.Goals as goal
+
+pub returns : goal.returns
+returns c = let a = c.args in c.le8.ensures ∙ sym (number_at a.records.now a.b a.g (omega arith))

@@ -1,0 +1,47 @@
+use Rattle.std.proofs.Common.{◌≡◌, ◌-◌, ◌*◌, sym, refl, ap, ◌∙◌, add-zero, arith}
+use Rattle.rules.specs.Digits.{number}
+use Rattle.rules.specs.Record.{record_at, record_size}
+use Rattle.op_batch.proofs.Packing.{power_turn, power_most, steps, steps_back, differences_steps, starts_at}
+use Rattle.op_batch.proofs.pack_indptr_deltas.Goals as goal
+
+pub loop-i-init : goal.loop-i-init
+unfolding number steps
+loop-i-init c = (omega arith, omega arith, refl)
+
+pub overflow_mul-v : goal.overflow_mul-v
+overflow_mul-v c =
+    let l = c.loop-i in
+    omega (arith, power_turn 16 8 l.i (omega arith) (omega arith), power_most 16 8 8 (l.i - 1) (omega arith) (omega arith))
+
+pub overflow_sub-records : goal.overflow_sub-records
+unfolding record_at
+overflow_sub-records c =
+    let a = c.args in
+    (starts_at 8 a.records.now (record_size * a.b) c.requires.1 (c.loop-i.i - 1) (omega arith)).0
+
+pub overflow_add-v : goal.overflow_add-v
+unfolding record_at
+overflow_add-v c =
+    let l = c.loop-i in
+    let a = c.args in
+    let f = starts_at 8 a.records.now (record_size * a.b) c.requires.1 (l.i - 1) (omega arith) in
+    omega (arith, power_turn 16 8 l.i (omega arith) (omega arith), power_most 16 8 8 (l.i - 1) (omega arith) (omega arith))
+
+pub loop-i-preserved : goal.loop-i-preserved
+unfolding record_at
+loop-i-preserved c =
+    let l = c.loop-i in
+    let a = c.args in
+    let f = starts_at 8 a.records.now (record_size * a.b) c.requires.1 (l.i - 1) (omega arith) in (
+      omega arith,
+      omega (arith, power_turn 16 8 l.i (omega arith) (omega arith)),
+      omega (arith, steps_back 16 8 a.records.now (record_size * a.b) l.i (omega arith) (omega arith)),
+    )
+
+pub returns : goal.returns
+unfolding record_at
+returns c =
+    let l = c.loop-i in
+    let a = c.args in
+    let e : l.i ≡ 0 = omega arith in
+    (rw (e, add-zero) at l.invariant.2) ∙ ap (number 16) (sym (differences_steps 8 a.records.now (record_size * a.b)))

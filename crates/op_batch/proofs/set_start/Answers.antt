@@ -1,0 +1,6 @@
+use Rattle.op_batch.specs.Stores.{start_set}
+use Rattle.op_batch.proofs.set_start.Goals as goal
+
+pub returns : goal.returns
+unfolding start_set
+returns c = c.store8.ensures

@@ -1,0 +1,12 @@
+use Rattle.std.proofs.Common.{arith}
+use Rattle.rules.specs.Record.{record_at}
+use Rattle.op_batch.proofs.Packing.{sizes_at_lem}
+use Rattle.op_batch.proofs.sizes.Goals as goal
+
+pub overflow_sub-result : goal.overflow_sub-result
+unfolding record_at
+overflow_sub-result c = omega (arith, c.le8-2.ensures, c.le8.ensures, sizes_at_lem 8 _ _ c.requires.1)
+
+pub returns : goal.returns
+unfolding record_at
+returns c = omega (arith, c.le8-2.ensures, c.le8.ensures, sizes_at_lem 8 _ _ c.requires.1)

@@ -1,0 +1,35 @@
+use mathlib.Core.Path.{refl, ap, ◌∙◌}
+use native.Mathlib.Numerals.{add-one}
+use native.Mathlib.Omega.{arith}
+use lib.ListN.{length, length-set}
+use Rattle.rules.specs.Digits.{digits}
+use Rattle.rules.specs.Bytes.{op_bytes}
+use Rattle.rules.proofs.Digits.{length_le_bytes}
+use Rattle.wire.proofs.Laws.{op_plain, op_valued}
+use Rattle.wire.proofs.write_op.Goals as goal
+
+pub bounds-out-at : goal.bounds-out-at
+unfolding op_bytes
+bounds-out-at c = omega arith
+
+pub returns-then-kind-eq0 : goal.returns-then-kind-eq0
+returns-then-kind-eq0 c =
+    let a = c.args in
+    rw (op_plain a.table.now a.code a.v (omega arith) c.if-kind-eq0.true) (refl, refl)
+
+pub put8-requires : goal.put8-requires
+unfolding digits
+put8-requires c =
+    let a = c.args in
+    simp length-set (omega (arith, ap length (op_valued a.table.now a.code a.v (omega arith) c.if-kind-eq0.false)))
+
+pub shape_of-out : goal.shape_of-out
+shape_of-out c =
+    let a = c.args in
+    c.put8.auto.out ∙ length-set a.out.now a.at a.code
+
+pub returns : goal.returns
+returns c =
+    let a = c.args in
+    rw (op_valued a.table.now a.code a.v (omega arith) (omega arith))
+    (rw length_le_bytes (omega arith), c.put8.ensures ∙ rw add-one)
