@@ -1,6 +1,3 @@
--- `Reader::op` meets its contract: a walk of its MIR, by hand. The struct is taken apart, and `op_at` is called on the slice and the number, the table and the index. All that the proof knows of `op_at` is that it meets its contract.
--- The struct is Copy: what it owns is had twice, one copy is kept whole for the exit, and of the other what src owns goes to the callee, beside the lifetime's token, which comes back.
--- Assumes nothing.
 use mathlib.Core.Path.{◌≡◌, refl}
 use Prim.Native.Nat.{ℕ, ◌<◌, ◌^◌}
 use mathlib.Core.List.{List, [], ◌∷◌}
@@ -35,7 +32,6 @@ use denote.Struct.Declared.{Declared}
 use denote.Struct.Laws as LL
 use denote.Struct.Rest.{all_own, field_own, rest, own_open, own_out}
 use denote.Struct.Values.{Values}
-use denote.Triple.Statement.{Contract, Triple}
 use denote.Triple.Call.{calls_at}
 use denote.Triple.Entry.{Vals, on_entry}
 use denote.Triple.Spec.{Meets, triple_of}
@@ -59,7 +55,11 @@ use Rattle.reader.specs.contracts.Reader.op.Key.{name as #reader·op}
 use Rattle.reader.specs.contracts.Reader.op as this
 use Rattle.reader.proofs.Reader.op.Statement as stated
 use Rattle.reader.proofs.Reader.op.Code as code
+use Rattle.reader.proofs.Reader.op.Goals as goal
 
+-- `Reader::op` meets its contract: a walk of its MIR, by hand. The struct is taken apart, and `op_at` is called on the slice and the number, the table and the index. All that the proof knows of `op_at` is that it meets its contract.
+-- The struct is Copy: what it owns is had twice, one copy is kept whole for the exit, and of the other what src owns goes to the callee, beside the lifetime's token, which comes back.
+-- Assumes nothing.
 -- the struct's type, over the signature's lifetimes
 abbrev B : Lfts 1 → RattleType
 B κs = T.the_row (named_lft 1 0 tt κs)

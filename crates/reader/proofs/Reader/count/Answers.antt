@@ -1,6 +1,3 @@
--- `Reader::count` meets its contract: a walk of its MIR, by hand. The struct is taken apart, and `count_at` is called on the slice and the number. All that the proof knows of `count_at` is that it meets its contract.
--- The struct is Copy: what it owns is had twice, one copy is kept whole for the exit, and of the other what src owns goes to the callee, beside the lifetime's token, which comes back.
--- Assumes nothing.
 use mathlib.Core.Path.{◌≡◌, refl}
 use Prim.Native.Nat.{◌<◌, ◌^◌}
 use mathlib.Core.List.{[], ◌∷◌}
@@ -34,7 +31,6 @@ use denote.Struct.Declared.{Declared}
 use denote.Struct.Laws as LL
 use denote.Struct.Rest.{all_own, field_own, rest, own_open, own_out}
 use denote.Struct.Values.{Values}
-use denote.Triple.Statement.{Contract, Triple}
 use denote.Triple.Call.{calls_at}
 use denote.Triple.Entry.{Vals, on_entry}
 use denote.Triple.Spec.{Meets, triple_of}
@@ -58,7 +54,11 @@ use Rattle.reader.specs.contracts.Reader.count.Key.{name as #reader·count}
 use Rattle.reader.specs.contracts.Reader.count as this
 use Rattle.reader.proofs.Reader.count.Statement as stated
 use Rattle.reader.proofs.Reader.count.Code as code
+use Rattle.reader.proofs.Reader.count.Goals as goal
 
+-- `Reader::count` meets its contract: a walk of its MIR, by hand. The struct is taken apart, and `count_at` is called on the slice and the number. All that the proof knows of `count_at` is that it meets its contract.
+-- The struct is Copy: what it owns is had twice, one copy is kept whole for the exit, and of the other what src owns goes to the callee, beside the lifetime's token, which comes back.
+-- Assumes nothing.
 -- the struct's type, over the signature's lifetimes
 abbrev B : Lfts 1 → RattleType
 B κs = T.the_row (named_lft 1 0 tt κs)
