@@ -2,7 +2,6 @@ use mathlib.Core.Path.{◌≡◌}
 use Prim.Native.Nat.{◌-◌}
 use lib.ListN.{length}
 use Rattle.rules.specs.Checks.{commitment_fault}
-use Rattle.operation.proofs.Scan as scan
 use Rattle.checks.proofs.Batches.{Came}
 use Rattle.commitment.specs.Walk.{admissible_from}
 use Rattle.commitment.proofs.all_right.Given as goal

@@ -1,5 +1,5 @@
 use mathlib.Core.Path.{◌≡◌, sym, ◌∙◌}
-use Prim.Native.Nat.{ℕ, ◌+◌, ◌-◌, ◌≤◌}
+use Prim.Native.Nat.{ℕ, ◌+◌, ◌≤◌}
 use native.Mathlib.Omega.{arith}
 use Rattle.checks.proofs.Groups.{lying, within_codes, bounds}
 use Rattle.commitment.proofs.Owed.{gone_first, gone_held, gone_free, gone_full, gone_all}

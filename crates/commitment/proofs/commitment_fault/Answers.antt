@@ -1,5 +1,4 @@
 use mathlib.Core.Path.{sym, ap, ◌∙◌}
-use Prim.Native.Nat.{◌-◌}
 use native.Mathlib.Omega.{arith}
 use Rattle.rules.specs.Checks.{commitment_faults}
 use Rattle.operation.specs.Verdict.{verdict_of}

@@ -1,5 +1,5 @@
 use mathlib.Core.Path.{refl, sym, ◌∙◌}
-use Prim.Native.Nat.{◌+◌, ◌-◌}
+use Prim.Native.Nat.{◌+◌}
 use native.Mathlib.Omega.{arith}
 use Rattle.checks.proofs.Groups.{lying, within_codes, bounds}
 use Rattle.commitment.proofs.Numbers.{lent_right, groups_begin, groups_done, group_skip, group_wrong, group_unplaced, group_unequal, group_right}

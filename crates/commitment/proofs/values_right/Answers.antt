@@ -1,5 +1,4 @@
 use mathlib.Core.Path.{refl, sym, ◌∙◌}
-use Prim.Native.Nat.{◌-◌}
 use native.Mathlib.Omega.{arith}
 use Rattle.op_batch.proofs.Right.{numbers_length}
 use Rattle.commitment.proofs.Numbers.{agree_done, agree_plain, agree_past, agree_not, agree_next}
@@ -8,7 +7,7 @@ use Rattle.commitment.proofs.values_right.Goals as goal
 pub loop-i-init : goal.loop-i-init
 loop-i-init c =
     let p = c.requires.codes_len in
-    (record { equal = p.0; inside = p.1; apt = p.2; eight = numbers_length _ _; low = omega arith; same = refl }, omega (arith, c.well-formed))
+    (record { equal = p.0; inside = p.1; apt = p.2; eight = numbers_length _ _; low = omega arith; same = refl }, omega (arith, c.well_formed))
 
 pub placed-requires : goal.placed-requires
 placed-requires c = let l = c.loop-i in (l.invariant.0.apt.table, l.invariant.0.apt.codes l.i (omega arith))

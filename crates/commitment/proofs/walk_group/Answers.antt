@@ -1,5 +1,4 @@
 use mathlib.Core.Path.{refl}
-use Prim.Native.Nat.{◌-◌}
 use native.Mathlib.Omega.{arith}
 use Rattle.commitment.proofs.Slots.{unit_first, walk_done, walk_room, walk_over, walk_stop, walk_next}
 use Rattle.commitment.proofs.walk_group.Goals as goal
@@ -19,7 +18,7 @@ loop-i-init c =
         number = omega arith;
         slots = refl;
       },
-      omega (arith, c.well-formed),
+      omega (arith, c.well_formed),
     )
 
 pub returns-then-code-ge128 : goal.returns-then-code-ge128

@@ -25,7 +25,7 @@ pub overflow_add-batches : goal.overflow_add-batches
 overflow_add-batches c =
     let a = c.args in
     let l = long a.table.now a.codes.now a.values.now a.records.now c.requires.apt.1 in
-    omega (arith, l.all, l.ops, c.write_count-ops.ensures.0, c.write_ops-batches.ensures.place, c.requires.records_in_bounds, c.well-formed.1.1.1.1.0)
+    omega (arith, l.all, l.ops, c.write_count-ops.ensures.0, c.write_ops-batches.ensures.place, c.requires.records_in_bounds, c.well_formed.1.1.1.1.0)
 
 pub write_deltas-flags-requires : goal.write_deltas-flags-requires
 write_deltas-flags-requires c =
