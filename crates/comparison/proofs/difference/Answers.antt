@@ -13,4 +13,4 @@ overflow_sub-result c =
 pub returns : goal.returns
 returns c =
     let a = c.args in
-    to_z-of_z w32 _ (sub-result c) ∙ rw (to_z_pos w32 a.second (omega arith), to_z_pos w32 a.first (omega arith)) (minus_is a.first a.second)
+    to_z-of_z w32 _ (overflow_sub-result c) ∙ rw (to_z_pos w32 a.second (omega arith), to_z_pos w32 a.first (omega arith)) (minus_is a.first a.second)
