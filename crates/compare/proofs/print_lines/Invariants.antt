@@ -1,6 +1,4 @@
-use mathlib.Core.Path.{◌≡◌}
 use Prim.Native.Nat.{◌-◌, ◌≤◌}
-use lib.ListN.{length}
 use Rattle.compare.proofs.print_lines.Given as goal
 
 abbrev pub invariant-loop-i : goal.invariant-loop-i
