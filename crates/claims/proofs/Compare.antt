@@ -1,7 +1,7 @@
 -- The compare tool: nothing is reported exactly when two decoded blocks are one, swapping mirrors the report, and reports are short and fit. Assumes nothing.
 use mathlib.Core.Path.{◌≡◌, refl, sym, ap, ap₂, ◌∙◌, subst}
 use mathlib.Core.Bool.{Bool, true, false, cond}
-use mathlib.Core.List.{List, [], ◌∷◌, ◌++◌, map, map_append, append-nil}
+use mathlib.Core.List.{List, [], ◌∷◌, ◌++◌, map, map-append, append-nil}
 use mathlib.Core.Logic.{◌⊎◌, inl, inr}
 use Prim.Native.Nat.{ℕ, zero, suc, ◌+◌, ◌-◌, ◌*◌, ◌≤◌, ◌<◌, min}
 use native.Mathlib.Omega.{arith}
@@ -180,7 +180,7 @@ record Mirrors (n : ℕ) (es fs : List Entry) : Type 0 where
 
 join : {m n : ℕ} {es fs gs hs : List Entry} → Mirrors m es fs → Mirrors n gs hs → Mirrors (m + n) (es ++ gs) (fs ++ hs)
 join {m} {n} {es} {fs} {gs} {hs} a b =
-    record { few = omega (arith, length-append es gs, a.few, b.few); is = ap₂ (λ (u v : List Entry). u ++ v) a.is b.is ∙ sym (map_append mirrored es gs) }
+    record { few = omega (arith, length-append es gs, a.few, b.few); is = ap₂ (λ (u v : List Entry). u ++ v) a.is b.is ∙ sym (map-append mirrored es gs) }
 
 no_entry : Mirrors 1 [] []
 no_entry = record { few = omega arith; is = refl }

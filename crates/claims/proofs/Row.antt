@@ -1,16 +1,21 @@
 -- Items in a row: what is written is read back, what is read was written, and what is so of each item read. Assumes nothing.
-use mathlib.Core.Path.{◌≡◌, refl, sym, ap}
+use mathlib.Core.Path.{◌≡◌, refl, sym, ap, ◌∙◌, subst}
 use mathlib.Core.List.{List, [], ◌∷◌, ◌++◌, append_assoc, map}
 use Prim.Native.Nat.{ℕ, zero, suc, ◌+◌, ◌≤◌}
-use native.Mathlib.Nat.{add-zero, add_assoc}
+use native.Mathlib.Nat.{add-zero}
 use native.Mathlib.Omega.{arith}
 use lib.ListN.{length, length-append}
 use Rattle.rules.specs.Lists.{in_row, All}
-use Rattle.rules.specs.Answer.{Read, found, row}
+use Rattle.rules.specs.Answer.{Read, found, row, ◌then◌}
 use Rattle.rules.proofs.Answer.{item, settle}
 use Rattle.rules.proofs.Answer as L
 use Rattle.claims.proofs.Found.{came}
 use Rattle.claims.proofs.Stands.{Taken, none, and_then}
+
+-- one item is found, and then the rest
+pub found_row : {A : Type 0} (one : Read A) (more : ℕ → Read (List A)) (x : A) (xs : List A) (next end : ℕ) → one ≡ found x next → more next ≡ found xs end
+    → (one then λ x next. more next then λ xs end. found (x ∷ xs) end) ≡ found (x ∷ xs) end
+found_row one more x xs next end f g = rw (f, g)
 
 -- ---- written, then read: `view` is what of an item is read
 
@@ -25,7 +30,9 @@ module _ {A B C : Type 0} (read : List B → ℕ → ℕ → Read C) (write : A 
       let r = in_row write xs in
       let ih = row_back one xs (p ++ b) q (i + 1) h.1 in
       let rest : row (read (p ++ (b ++ (r ++ q)))) (length xs) (length p + length b) (i + 1) ≡ found (map view xs) (length p + length b + length r) = rw (append_assoc p b (r ++ q), length-append p b) at ih in
-      rw (append_assoc b r q, one x p (r ++ q) i h.0, rest, length-append b r, add_assoc)
+      let s = p ++ (b ++ (r ++ q)) in
+      let turn = found_row (read s (length p) i) (λ next. row (read s) (length xs) next (i + 1)) (view x) (map view xs) (length p + length b) (length p + length b + length r) (one x p (r ++ q) i h.0) rest in
+      subst (λ u. row (read (p ++ u)) (suc (length xs)) (length p) i ≡ found (view x ∷ map view xs) (length p + length (b ++ r))) (sym (append_assoc b r q)) (turn ∙ ap (found (view x ∷ map view xs)) (omega (arith, length-append b r)))
 
 module _ {A : Type 0} (read : ℕ → ℕ → Read A) where
   -- ---- read: what is so of each item

@@ -1,9 +1,9 @@
 -- Decoding the bytes written for batches gives their records and operations. Assumes nothing.
-use mathlib.Core.Path.{◌≡◌, refl, sym, ap, ◌∙◌}
+use mathlib.Core.Path.{◌≡◌, refl, sym, ap, ◌∙◌, subst}
 use mathlib.Core.List.{List, [], ◌∷◌, ◌++◌, append_assoc, append-nil, map}
 use mathlib.Core.Bool.{true, false}
 use Prim.Native.Nat.{ℕ, zero, suc, ◌+◌, ◌-◌, ◌*◌, ◌^◌, ◌≤◌, ◌<◌}
-use native.Mathlib.Nat.{add-zero, add_assoc, zero-add, pow-zero, pow-succ', mul-suc, mul-le-mul_left}
+use native.Mathlib.Nat.{add-zero, zero-add, pow-zero, pow-succ', mul-suc, mul-le-mul_left}
 use native.Mathlib.Omega.{arith}
 use borrow.Author.Tests.{eq-eqb, le-leb, le-ltb}
 use lib.ListN.{length, get_or, take, drop, replicate, length-append, length-map}
@@ -23,7 +23,7 @@ use Rattle.claims.specs.Shape.{EndsInNoop}
 use Rattle.claims.proofs.Shape.{RightGroup, Follow}
 use Rattle.rules.proofs.Runs.{fitted_length, zeros_fitted}
 use Rattle.claims.proofs.Stands.{Stands, here, first_of, rest_of, stands_fits}
-use Rattle.claims.proofs.Row.{row_back}
+use Rattle.claims.proofs.Row.{row_back, found_row}
 use Rattle.claims.proofs.ItemsWrittenThenRead.{digits_number, count_back, ops_back, batch_count_stands}
 use Rattle.rules.proofs.Digits.{length_digits, le_at_back}
 use Rattle.rules.proofs.Operations.{Admissible}
@@ -250,7 +250,13 @@ module _ (w : ℕ) (w8 : w ≤ 8) where
         let ih = batches_back bs (b + 1) (pre ++ g) post h.1 in
         let rest : batch_by_batch w t (pre ++ (g ++ (r ++ post))) (length pre + length g) (b + 1) (map sizes_of (map record_of bs)) (map (λ r. r.flags) (map record_of bs)) ≡ found (map record_of bs) (length pre + length g + length r) =
         rw (append_assoc pre g (r ++ post), length-append pre g) at ih in
-        rw (append_assoc g r post, one, rest, length-append g r, add_assoc)
+        let xs = pre ++ (g ++ (r ++ post)) in
+        let zs = map sizes_of (map record_of bs) in
+        let fs = map (λ r. r.flags) (map record_of bs) in
+        let at = length pre in
+        let turn = found_row (batch_at w t xs at b (sizes_of (record_of gs)) (record_of gs).flags) (λ next. batch_by_batch w t xs next (b + 1) zs fs) (record_of gs) (map record_of bs) (at + length g) (at + length g + length r) one rest in
+        subst (λ u. batch_by_batch w t (pre ++ u) at b (sizes_of (record_of gs) ∷ zs) ((record_of gs).flags ∷ fs) ≡ found (record_of gs ∷ map record_of bs) (at + length (g ++ r))) (sym (append_assoc g r post))
+        (turn ∙ ap (found (record_of gs ∷ map record_of bs)) (omega (arith, length-append g r)))
 
     -- ---- a record of such a batch is one that the bytes can say
 

@@ -9,7 +9,7 @@ use lib.ListN.{length}
 use lib.Dec.{ltb}
 use Rattle.rules.specs.Answer.{Answer, good, refused, refuse, refuse_first}
 use Rattle.rules.specs.Refusals.{past_end₁, over_limit₃, no_room₁₃, bad_table₁₄}
-use Rattle.rules.specs.Operations.{operations, good_table, op_fault}
+use Rattle.rules.specs.Operations.{good_table, op_fault}
 use Rattle.rules.specs.Record.{record_size}
 use Rattle.rules.specs.Block.{block_bytes}
 use Rattle.rules.specs.Checks.{structure_faults}

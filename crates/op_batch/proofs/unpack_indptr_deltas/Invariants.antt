@@ -6,7 +6,7 @@ use Rattle.op_batch.proofs.unpack_indptr_deltas.Given as goal
 
 abbrev pub invariant-loop-i : goal.invariant-loop-i
 invariant-loop-i l =
-    (l.i ≤ 8) × (l.sum ≤ 15 * l.i) × (length l.out ≡ length l.initial.out) × (sets l.out (l.b + l.i) (starts_from l.sum (digits 16 (8 - l.i) l.left)) ≡ sets l.initial.out l.b (starts_from 0 (digits 16 8 l.v)))
+    (l.i ≤ 8) × (l.sum ≤ 15 * l.i) × (length l.out ≡ length l.initial.out) × (sets l.out (l.at + l.i) (starts_from l.sum (digits 16 (8 - l.i) l.left)) ≡ sets l.initial.out l.at (starts_from 0 (digits 16 8 l.v)))
 
 abbrev pub decreases-loop-i : goal.decreases-loop-i
 decreases-loop-i l = 8 - l.i

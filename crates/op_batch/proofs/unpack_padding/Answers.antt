@@ -1,4 +1,4 @@
-use Rattle.std.proofs.Common.{◌≡◌, suc, ◌+◌, ◌-◌, refl, add-zero, arith, length-set}
+use Rattle.std.proofs.Common.{◌≡◌, suc, ◌+◌, refl, add-zero, arith, length-set}
 use Rattle.rules.proofs.Digits.{digits_turn, digits_end}
 use Rattle.op_batch.proofs.unpack_padding.Goals as goal
 

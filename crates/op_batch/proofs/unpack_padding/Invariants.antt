@@ -4,7 +4,7 @@ use Rattle.rules.specs.Digits.{digits}
 use Rattle.op_batch.proofs.unpack_padding.Given as goal
 
 abbrev pub invariant-loop-i : goal.invariant-loop-i
-invariant-loop-i l = (l.i ≤ 8) × (length l.out ≡ length l.initial.out) × (sets l.out (l.b + l.i) (digits 2 (8 - l.i) l.left) ≡ sets l.initial.out l.b (digits 2 8 l.v))
+invariant-loop-i l = (l.i ≤ 8) × (length l.out ≡ length l.initial.out) × (sets l.out (l.at + l.i) (digits 2 (8 - l.i) l.left) ≡ sets l.initial.out l.at (digits 2 8 l.v))
 
 abbrev pub decreases-loop-i : goal.decreases-loop-i
 decreases-loop-i l = 8 - l.i

@@ -1,5 +1,4 @@
 use Rattle.std.proofs.Common.{◌≡◌, length, sym, ◌∙◌, rules}
-use borrow.Author.Tests.{not-true, not-false}
 use Rattle.rules.specs.Lookups.{group_of}
 use Rattle.rules.specs.Functions.{group_lookup}
 use Rattle.op_batch.specs.OpBatch.{record_in}
@@ -8,14 +7,14 @@ use Rattle.op_batch.proofs.OpBatch.op_idx_in_batch_to_group.Goals as goal
 
 pub returns-then-not-right : goal.returns-then-not-right
 unfolding group_lookup
-returns-then-not-right c = rw (sym c.right.ensures ∙ not-true _ c.if-not-right.true)
+returns-then-not-right c = rw (sym c.right.ensures ∙ c.if-not-right.true)
 
 pub group_of-requires : goal.group_of-requires
 group_of-requires c =
     let b = c.args.self in
     let s : length b.starts ≡ 9 = search rules in
-    (s, (sound 8 (record_in b) (sym c.right.ensures ∙ not-false _ c.if-not-right.false)).first)
+    (s, (sound 8 (record_in b) (sym c.right.ensures ∙ c.if-not-right.false)).first)
 
 pub returns : goal.returns
 unfolding group_lookup group_of
-returns c = rw (sym c.right.ensures ∙ not-false _ c.if-not-right.false) c.Group-of.ensures
+returns c = rw (sym c.right.ensures ∙ c.if-not-right.false) c.group_of.ensures

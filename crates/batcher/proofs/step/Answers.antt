@@ -1,0 +1,33 @@
+use mathlib.Core.Path.{◌∙◌}
+use native.Mathlib.Omega.{arith}
+use Rattle.accumulator.specs.Good.{record_groups}
+use Rattle.batcher.specs.Model.{room_work, stepped_work, stepped_run}
+use Rattle.accumulator.proofs.Good.{good_wider, fits_wider}
+use Rattle.batcher.proofs.Keeps.{roomy, stepped_total}
+use Rattle.batcher.proofs.step.Goals as goal
+
+pub make_room-r-requires : goal.make_room-r-requires
+make_room-r-requires c = record { good = good_wider c.args.work.acc c.requires.le_width.1 c.requires.le_width.2; base_bound = (omega (arith, c.requires.base_bound), omega (arith, c.requires.base_bound)) }
+
+pub add_op-a-requires : goal.add_op-a-requires
+add_op-a-requires c =
+    let r = roomy c.args.width c.args.imm c.args.work c.requires.le_width.0 c.requires.le_width.1 c.requires.le_width.2 in
+    let q = room_work c.args.width c.args.imm c.args.work in
+    rw c.make_room-r.ensures.work (record { good = good_wider q.acc c.requires.le_width.1 r.good; self_value = fits_wider c.args.width record_groups c.args.imm q.acc c.requires.le_width.1 r.fits; code_bound = (c.requires.base_bound.2, omega (arith, r.batches, c.requires.base_bound)) })
+
+pub overflow_add-at : goal.overflow_add-at
+overflow_add-at c =
+    let r = roomy c.args.width c.args.imm c.args.work c.requires.le_width.0 c.requires.le_width.1 c.requires.le_width.2 in
+    let t = stepped_total c.args.width c.args.code c.args.imm c.args.work c.requires.le_width.0 c.requires.le_width.1 c.requires.base_bound.2 c.requires.le_width.2 in
+    rw (c.add_op-a.ensures.acc, c.make_room-r.ensures.work) (omega (arith, c.requires.base_bound))
+
+pub overflow_sub-at : goal.overflow_sub-at
+overflow_sub-at c =
+    let t = stepped_total c.args.width c.args.code c.args.imm c.args.work c.requires.le_width.0 c.requires.le_width.1 c.requires.base_bound.2 c.requires.le_width.2 in
+    rw (c.add_op-a.ensures.acc, c.make_room-r.ensures.work) (omega arith)
+
+pub returns : goal.returns
+unfolding stepped_work stepped_run
+returns c =
+    let m = c.make_room-r.ensures in
+    let e = c.add_op-a.ensures in record { work = rw (e.acc, m.work); codes = c.store8.ensures ∙ rw (e.acc, m.work); values = c.store64.ensures ∙ rw (e.acc, m.work); run = e.run ∙ rw (m.work, m.run) }

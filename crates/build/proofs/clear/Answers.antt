@@ -1,0 +1,9 @@
+use Rattle.rules.specs.Operations.{codes, values}
+use Rattle.rules.specs.Record.{no_block}
+use Rattle.rules.specs.Functions.{arena, filled}
+use Rattle.rules.specs.Lists.{in_row}
+use Rattle.build.proofs.clear.Goals as goal
+
+pub returns : goal.returns
+unfolding filled no_block codes values in_row
+returns c = λ j. arena (c.zero_bytes.ensures j) (c.zero_words.ensures j) (c.zero_bytes-2.ensures j)

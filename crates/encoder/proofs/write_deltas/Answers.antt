@@ -1,0 +1,28 @@
+use mathlib.Core.Path.{refl, sym, ◌∙◌}
+use Prim.Native.Nat.{◌+◌, ◌*◌}
+use native.Mathlib.Nat.{add-zero}
+use native.Mathlib.Omega.{arith}
+use Rattle.encoder.proofs.Items.{deltas_turn, deltas_end, all_records}
+use Rattle.checks.proofs.Groups.{right_starts}
+use Rattle.encoder.proofs.write_deltas.Goals as goal
+
+pub loop-b-init : goal.loop-b-init
+loop-b-init c = (omega arith, refl, rw (add-zero, all_records))
+
+pub pack_indptr_deltas-requires : goal.pack_indptr_deltas-requires
+pack_indptr_deltas-requires c = (omega arith, right_starts _ (c.requires.0 c.loop-b.b (omega arith)))
+
+pub loop-b-preserved : goal.loop-b-preserved
+loop-b-preserved c =
+    let l = c.loop-b in
+    let a = c.args in
+    let w = c.put4 in
+    (omega arith, w.auto.out ∙ l.invariant.1, rw (w.ensures, c.pack_indptr_deltas.ensures) (deltas_turn a.records.now _ l.b l.out a.at (omega arith)) ∙ l.invariant.2)
+
+pub shape_of-out : goal.shape_of-out
+shape_of-out c = c.loop-b.invariant.1
+
+pub returns : goal.returns
+returns c =
+    let l = c.loop-b in
+    let a = c.args in record { place = refl; bytes = sym (deltas_end a.records.now _ l.b l.out (a.at + 4 * l.b) (omega arith)) ∙ l.invariant.2 }

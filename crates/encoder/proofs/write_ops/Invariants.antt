@@ -1,0 +1,16 @@
+use mathlib.Core.Path.{◌≡◌}
+use Prim.Native.Nat.{◌+◌, ◌-◌, ◌≤◌}
+use lib.ListN.{length}
+use lib.Seq.{sets}
+use Rattle.rules.specs.Operations.{operations}
+use Rattle.rules.specs.Bytes.{ops_bytes}
+use Rattle.encoder.proofs.Items.{left}
+use Rattle.encoder.proofs.write_ops.Given as goal
+
+abbrev pub invariant-loop-i : goal.invariant-loop-i
+invariant-loop-i l =
+    (l.i ≤ length l.codes) × (length l.out ≡ length l.initial.out) × (l.from + length (left l.table l.codes l.values l.i) ≡ l.at + length (ops_bytes l.table (operations l.codes l.values)))
+    × (sets l.out l.from (left l.table l.codes l.values l.i) ≡ sets l.initial.out l.at (ops_bytes l.table (operations l.codes l.values)))
+
+abbrev pub decreases-loop-i : goal.decreases-loop-i
+decreases-loop-i l = length l.codes - l.i
