@@ -319,12 +319,12 @@ fn system_words(error: Error) -> Words {
     words
 }
 
-// Where the words end and the error's number comes.
-fn words_end(text: &[u8]) -> usize
+// Where the words end, of which so many bytes are filled: the error's number is none of them.
+fn words_end(text: &[u8], filled: usize) -> usize
     ensures { IsPrefixLen result text.now }
 {
     for i in 0..text.len() {
-        if text[i..].starts_with(b" (os error ") {
+        if i == filled || text[i..].starts_with(b" (os error ") {
             return i;
         }
     }
@@ -335,7 +335,7 @@ fn words_end(text: &[u8]) -> usize
 fn tell_failed(rt: HostRuntime, what: &[u8], error: Error) {
     let said = system_words(error);
     let text = &said.text[..];
-    let n = words_end(text);
+    let n = words_end(text, said.filled);
     let to = rt.stderr();
     let _ = to.write_all(what);
     let _ = to.write_all(b": ");
