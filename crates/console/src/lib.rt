@@ -177,12 +177,16 @@ fn filled(page: &Page) -> usize
     n
 }
 
+fn target(page: &Page) -> Stream {
+    page.to
+}
+
 fn write(page: &Page, n: usize) -> Result<()> {
     let text = &page.text[..];
     if text.len() < n {
         return Err(Error::from(ErrorKind::InvalidInput));
     }
-    match page.to {
+    match target(page) {
         Stream::Output => page.rt.stdout().write_all(&text[..n]),
         Stream::Errors => page.rt.stderr().write_all(&text[..n]),
     }
