@@ -6,10 +6,12 @@
 ghost use Rattle.std.specs.Prelude.{◌≤◌, ◌<◌, length};
 
 use build::Built;
-use console::say;
+use console::{Page, say};
 use encoder::Encoded;
-use libc::STDIN_FILENO;
 use listing::{After, Block};
+use std::fs;
+use std::fs::{File, OpenOptions};
+use std::io::{Read, Result, Write};
 use text::Number;
 use vm::Named;
 
@@ -36,7 +38,7 @@ const MANY: u8 = 9;
 
 const UNASSIGNED: u8 = 10;
 
-fn say_fault(page: &mut [u8], fault: u8) {
+fn say_fault(page: &mut Page, fault: u8) {
     match fault {
         NO_NAME => say(page, b": no operation has this name\n"),
         NO_OPCODE => say(page, b": an opcode is a number up to 127\n"),
@@ -195,7 +197,7 @@ fn take(p: Parsed, count: usize, codes: &mut [u8], values: &mut [u64]) -> Taken
 }
 
 // The start of a line of text about a line of the list.
-fn say_line(page: &mut [u8], name: &[u8], n: usize) {
+fn say_line(page: &mut Page, name: &[u8], n: usize) {
     console::about(page, b"batch", name);
     say(page, b": line ");
     console::number(page, n as u64);
@@ -203,24 +205,24 @@ fn say_line(page: &mut [u8], name: &[u8], n: usize) {
 }
 
 // One line of text for a fault, with the words of the line that has it.
-fn complain(name: &[u8], words: &[u8], n: usize, fault: u8) {
-    let mut page = console::errors();
+fn complain(rt: HostRuntime, name: &[u8], words: &[u8], n: usize, fault: u8) {
+    let mut page = console::errors(rt);
     say_line(&mut page, name, n);
     console::quote(&mut page, words, 40);
     say_fault(&mut page, fault);
     console::flush(&mut page);
 }
 
-fn complain_line(name: &[u8], line: &[u8], n: usize, fault: u8) {
+fn complain_line(rt: HostRuntime, name: &[u8], line: &[u8], n: usize, fault: u8) {
     let end = text::words_end(line);
     let start = text::word_start(line, 0);
     if start <= end {
-        complain(name, &line[start..end], n, fault);
+        complain(rt, name, &line[start..end], n, fault);
     }
 }
 
 // The operations of a list; a line that is wrong is told, and ends it.
-fn read(name: &[u8], s: &[u8], codes: &mut [u8], values: &mut [u64]) -> Taken
+fn read(rt: HostRuntime, name: &[u8], s: &[u8], codes: &mut [u8], values: &mut [u64]) -> Taken
     ensures { result.count ≤ length codes.new }
 {
     let mut count: usize = 0;
@@ -231,7 +233,7 @@ fn read(name: &[u8], s: &[u8], codes: &mut [u8], values: &mut [u64]) -> Taken
         let end = text::line_end(s, from);
         let t = take(parse_line(&s[from..end]), count, codes, values);
         if t.fault != 0 {
-            complain_line(name, &s[from..end], n, t.fault);
+            complain_line(rt, name, &s[from..end], n, t.fault);
             return t;
         }
         count = t.count;
@@ -243,67 +245,87 @@ fn read(name: &[u8], s: &[u8], codes: &mut [u8], values: &mut [u64]) -> Taken
 // ---- a file of the block's bytes
 
 // All of the bytes, as far as the disk.
-fn put(fd: i32, bytes: &[u8]) -> bool {
-    if !io::write_all(fd, bytes) {
-        return false;
-    }
-    libc::fsync(fd) == 0
+fn put(file: &mut File, bytes: &[u8]) -> Result<()> {
+    file.write_all(bytes)?;
+    file.sync_all()
+}
+
+// A new file; one that is there is left alone.
+fn create(rt: HostRuntime, new: &[u8]) -> Result<File> {
+    OpenOptions::new()
+        .write(true)
+        .create_new(true)
+        .open(&rt, console::name(new)?)
+}
+
+fn unlink(rt: HostRuntime, new: &[u8]) -> Result<()> {
+    fs::remove_file(&rt, console::name(new)?)
+}
+
+fn rename(rt: HostRuntime, new: &[u8], path: &[u8]) -> Result<()> {
+    fs::rename(&rt, console::name(new)?, console::name(path)?)
 }
 
 // The bytes in a new file, which then takes the name of the old one. Nothing is left behind where that fails.
-fn replace(path: &[u8], new: &[u8], bytes: &[u8]) -> bool {
-    let fd = os::create(new);
-    if fd < 0 {
-        console::fail(b"batch", new);
+fn replace(rt: HostRuntime, path: &[u8], new: &[u8], bytes: &[u8]) -> bool {
+    let mut file = match create(rt, new) {
+        Ok(file) => file,
+        Err(error) => {
+            console::fail(rt, b"batch", new, error);
+            return false;
+        }
+    };
+    if let Err(error) = put(&mut file, bytes) {
+        console::fail(rt, b"batch", new, error);
+        drop(file);
+        let _ = unlink(rt, new);
         return false;
     }
-    if !put(fd, bytes) {
-        console::fail(b"batch", new);
-        libc::close(fd);
-        os::unlink(new);
-        return false;
-    }
-    libc::close(fd);
-    if os::rename(new, path) != 0 {
-        console::fail(b"batch", path);
-        os::unlink(new);
+    drop(file);
+    if let Err(error) = rename(rt, new, path) {
+        console::fail(rt, b"batch", path, error);
+        let _ = unlink(rt, new);
         return false;
     }
     true
 }
 
-// A device or a pipe has nothing to put on a disk, and is not to lose its name.
-fn replaceable(path: &[u8]) -> bool {
-    let fd = os::open_update(path);
-    if fd < 0 {
-        return true;
-    }
-    let file = libc::fsync(fd) == 0;
-    libc::close(fd);
-    file
+fn update(rt: HostRuntime, path: &[u8]) -> Result<File> {
+    OpenOptions::new()
+        .read(true)
+        .write(true)
+        .open(&rt, console::name(path)?)
 }
 
-fn save(path: &[u8], bytes: &[u8]) -> bool {
-    if !replaceable(path) {
-        console::wrong(b"batch", path, b"not a file that can be replaced");
+// A device or a pipe has nothing to put on a disk, and is not to lose its name.
+fn replaceable(rt: HostRuntime, path: &[u8]) -> bool {
+    match update(rt, path) {
+        Ok(file) => file.sync_all().is_ok(),
+        Err(_) => true,
+    }
+}
+
+fn save(rt: HostRuntime, path: &[u8], bytes: &[u8]) -> bool {
+    if !replaceable(rt, path) {
+        console::wrong(rt, b"batch", path, b"not a file that can be replaced");
         return false;
     }
-    let mut room = io::large_buffer();
+    let mut room = [0u8; 65536];
     let k = console::copy(&mut room, 0, path);
     let n = console::copy(&mut room, k, b".new");
-    replace(path, &room[..n], bytes)
+    replace(rt, path, &room[..n], bytes)
 }
 
 // ---- the block
 
-fn print_end(page: &mut [u8], printed: usize, all: usize) {
+fn print_end(page: &mut Page, printed: usize, all: usize) {
     if printed % 32 == 0 || printed == all {
         say(page, b"\n");
     }
 }
 
 // A line has 32 bytes.
-fn print_hex(page: &mut [u8], bytes: &[u8]) {
+fn print_hex(page: &mut Page, bytes: &[u8]) {
     let mut i: usize = 0;
     while i < bytes.len() {
         console::hex(page, bytes[i]);
@@ -312,15 +334,23 @@ fn print_hex(page: &mut [u8], bytes: &[u8]) {
     }
 }
 
-fn print_bytes(bytes: &[u8]) {
-    let mut page = console::output();
+fn print_bytes(rt: HostRuntime, bytes: &[u8]) {
+    let mut page = console::output(rt);
     say(&mut page, b"bytes\n");
     print_hex(&mut page, bytes);
     console::flush(&mut page);
 }
 
 // What was asked: the block in a file, or printed where there is no file's name.
-fn answer(file: &[u8], codes: &[u8], values: &[u64], records: &[u8], bytes: &[u8], batches: usize) {
+fn answer(
+    rt: HostRuntime,
+    file: &[u8],
+    codes: &[u8],
+    values: &[u64],
+    records: &[u8],
+    bytes: &[u8],
+    batches: usize,
+) {
     let block = Block {
         at: 0,
         batches,
@@ -328,13 +358,13 @@ fn answer(file: &[u8], codes: &[u8], values: &[u64], records: &[u8], bytes: &[u8
         used: bytes.len(),
     };
     if 0 < file.len() {
-        if save(file, bytes) {
-            listing::print_line(records, block);
+        if save(rt, file, bytes) {
+            listing::print_line(rt, records, block);
         }
         return;
     }
-    if listing::print_block(codes, values, records, block, After::Unasked) {
-        print_bytes(bytes);
+    if listing::print_block(rt, codes, values, records, block, After::Unasked) {
+        print_bytes(rt, bytes);
     }
 }
 
@@ -358,6 +388,7 @@ fn not_written(r: Encoded) -> Refusal {
 
 // A block that was built, written into the room.
 fn write(
+    rt: HostRuntime,
     file: &[u8],
     codes: &[u8],
     values: &[u64],
@@ -373,12 +404,13 @@ fn write(
     if room.len() < length {
         return refuse(13, 0);
     }
-    answer(file, codes, values, records, &room[..length], batches);
+    answer(rt, file, codes, values, records, &room[..length], batches);
     refuse(0, 0)
 }
 
 // `build` makes no more than its room; told here again, since lending a front of a run asks for it.
 fn lend(
+    rt: HostRuntime,
     file: &[u8],
     codes: &[u8],
     values: &[u64],
@@ -401,6 +433,7 @@ fn lend(
         return refuse(13, 0);
     }
     write(
+        rt,
         file,
         &codes[..operations],
         &values[..operations],
@@ -410,7 +443,7 @@ fn lend(
     )
 }
 
-fn batch(file: &[u8], codes: &[u8], values: &[u64], room: &mut [u8]) -> Refusal {
+fn batch(rt: HostRuntime, file: &[u8], codes: &[u8], values: &[u64], room: &mut [u8]) -> Refusal {
     let table = vm::table();
     let mut out_codes = space::codes();
     let mut out_values = space::values();
@@ -428,6 +461,7 @@ fn batch(file: &[u8], codes: &[u8], values: &[u64], room: &mut [u8]) -> Refusal 
             batches,
             operations,
         } => lend(
+            rt,
             file,
             &out_codes,
             &out_values,
@@ -442,11 +476,11 @@ fn batch(file: &[u8], codes: &[u8], values: &[u64], room: &mut [u8]) -> Refusal 
 
 // ---- a list
 
-fn tell_refusal(name: &[u8], r: Refusal) {
+fn tell_refusal(rt: HostRuntime, name: &[u8], r: Refusal) {
     if r.number == 0 {
         return;
     }
-    let mut page = console::errors();
+    let mut page = console::errors(rt);
     console::about(&mut page, b"batch", name);
     say(&mut page, b": ");
     listing::print_refusal(&mut page, r.number, r.place);
@@ -455,90 +489,88 @@ fn tell_refusal(name: &[u8], r: Refusal) {
 }
 
 // The n bytes of a list, whose room takes the block's bytes in the end.
-fn batch_text(name: &[u8], file: &[u8], list: &mut [u8], n: usize)
+fn batch_text(rt: HostRuntime, name: &[u8], file: &[u8], list: &mut [u8], n: usize)
     requires { n ≤ length list.old }
 {
     let mut codes = space::list_codes();
     let mut values = space::list_values();
-    let t = read(name, &list[..n], &mut codes, &mut values);
+    let t = read(rt, name, &list[..n], &mut codes, &mut values);
     if t.fault != 0 {
         return;
     }
     let k = t.count;
-    tell_refusal(name, batch(file, &codes[..k], &values[..k], list));
+    tell_refusal(rt, name, batch(rt, file, &codes[..k], &values[..k], list));
 }
 
-fn batch_from(name: &[u8], file: &[u8], fd: i32) {
+fn batch_from<F: Read>(rt: HostRuntime, name: &[u8], file: &[u8], from: &mut F) {
     let mut list = space::bytes();
-    let got = console::fill(fd, &mut list);
-    if got.failed {
-        console::fail(b"batch", name);
+    let got = console::fill(from, &mut list);
+    if let Some(error) = got.failed {
+        console::fail(rt, b"batch", name, error);
         return;
     }
     let n = got.count;
     if n == list.len() {
-        console::wrong(b"batch", name, b"longer than 1048575 bytes");
+        console::wrong(rt, b"batch", name, b"longer than 1048575 bytes");
         return;
     }
-    batch_text(name, file, &mut list, n);
+    batch_text(rt, name, file, &mut list, n);
 }
 
-fn batch_file(name: &[u8], file: &[u8]) {
-    let fd = os::open_read(name);
-    if fd < 0 {
-        console::fail(b"batch", name);
-        return;
+fn batch_file(rt: HostRuntime, name: &[u8], file: &[u8]) {
+    match console::open(rt, name) {
+        Ok(mut from) => batch_from(rt, name, file, &mut from),
+        Err(error) => console::fail(rt, b"batch", name, error),
     }
-    batch_from(name, file, fd);
-    libc::close(fd);
 }
 
 // ---- arguments
 
-fn help() {
+fn help(rt: HostRuntime) {
     console::print(
+        rt,
         b"batch [LIST [FILE]]: batches the list of operations in LIST, or on standard input, under the virtual machine's own table, and prints the\nblock's batches and, after a line `bytes`, its bytes in hex; or, with FILE, writes its bytes there: to FILE.new, which then takes the name FILE.\nWhat is wrong is said in one line on standard error, and then no file is touched.\nA line of the list is an operation's name or opcode, with its value where it has one: add, push 5, push(5), 0x22, 91 0xff; # starts a comment.\nA list has at most 16384 operations and 1048575 bytes; a line may be as long as that.\n",
     );
 }
 
 // With both arguments.
-fn to_file(name: &[u8]) {
-    let mut file = io::buffer();
-    let n = os::arg(2, &mut file);
+fn to_file(rt: HostRuntime, name: &[u8]) {
+    let mut file = [0u8; 4096];
+    let n = console::argument(rt, 2, &mut file);
     if n == 0 {
-        console::tell(b"batch: the name FILE is empty or too long\n");
+        console::tell(rt, b"batch: the name FILE is empty or too long\n");
         return;
     }
-    batch_file(name, &file[..n]);
+    batch_file(rt, name, &file[..n]);
 }
 
-fn run(name: &[u8], count: usize) {
+fn run(rt: HostRuntime, name: &[u8], count: usize) {
     if check::same(name, b"--help") {
-        help();
+        help(rt);
         return;
     }
     if count == 2 {
-        batch_file(name, b"");
+        batch_file(rt, name, b"");
         return;
     }
-    to_file(name);
+    to_file(rt, name);
 }
 
-fn main() {
-    let count = os::arg_count();
+fn main(rt: HostRuntime) {
+    let count = console::arguments(rt);
     if count < 2 {
-        batch_from(b"standard input", b"", STDIN_FILENO);
+        batch_from(rt, b"standard input", b"", &mut rt.stdin());
         return;
     }
     if 3 < count {
-        console::tell(b"usage: batch [LIST [FILE]] (batch --help says more)\n");
+        console::tell(rt, b"usage: batch [LIST [FILE]] (batch --help says more)\n");
         return;
     }
-    let mut name = io::buffer();
-    let n = os::arg(1, &mut name);
+    let mut name = [0u8; 4096];
+    let n = console::argument(rt, 1, &mut name);
     if n == 0 {
-        console::tell(b"batch: the name LIST is empty or too long\n");
+        console::tell(rt, b"batch: the name LIST is empty or too long\n");
         return;
     }
-    run(&name[..n], count);
+    run(rt, &name[..n], count);
 }

@@ -233,41 +233,42 @@ pub fn soil(codes: &mut [u8], values: &mut [u64], records: &mut [u8]) {
 
 // ---- what the file has, beside ours
 
-// A case: its line and function, where its line is read, and whether all was alike so far.
+// A case: what prints, its line and function, where its line is read, and whether all was alike so far.
 #[derive(Clone, Copy)]
 pub struct Case {
+    pub rt: HostRuntime,
     pub line: usize,
     pub what: u64,
     pub at: usize,
     pub same: bool,
 }
 
-pub fn say_function(what: u64) {
+pub fn say_function(rt: HostRuntime, what: u64) {
     match what {
-        1 => say(b"build"),
-        2 => say(b"encode"),
-        3 => say(b"decode"),
-        4 => say(b"structure"),
-        5 => say(b"padding"),
-        6 => say(b"commitment"),
-        7 => say(b"raw table"),
-        8 => say(b"padded table"),
-        9 => say(b"padded index"),
-        10 => say(b"raw index"),
-        11 => say(b"group"),
-        12 => say(b"next group"),
-        13 => say(b"decode strict"),
-        _ => say(b"compare"),
+        1 => say(rt, b"build"),
+        2 => say(rt, b"encode"),
+        3 => say(rt, b"decode"),
+        4 => say(rt, b"structure"),
+        5 => say(rt, b"padding"),
+        6 => say(rt, b"commitment"),
+        7 => say(rt, b"raw table"),
+        8 => say(rt, b"padded table"),
+        9 => say(rt, b"padded index"),
+        10 => say(rt, b"raw index"),
+        11 => say(rt, b"group"),
+        12 => say(rt, b"next group"),
+        13 => say(rt, b"decode strict"),
+        _ => say(rt, b"compare"),
     }
 }
 
 fn say_case(c: Case, what: &[u8]) {
-    say(b"  line ");
-    print(c.line);
-    say(b", ");
-    say_function(c.what);
-    say(b": ");
-    say(what);
+    say(c.rt, b"  line ");
+    print(c.rt, c.line);
+    say(c.rt, b", ");
+    say_function(c.rt, c.what);
+    say(c.rt, b": ");
+    say(c.rt, what);
 }
 
 // One number of the reply.
@@ -278,11 +279,11 @@ pub fn is(mut c: Case, s: &[u8], what: &[u8], ours: usize) -> Case {
         return c;
     }
     say_case(c, what);
-    say(b" is ");
-    print(ours);
-    say(b", in the file ");
-    print(theirs.value as usize);
-    say(b"\n");
+    say(c.rt, b" is ");
+    print(c.rt, ours);
+    say(c.rt, b", in the file ");
+    print(c.rt, theirs.value as usize);
+    say(c.rt, b"\n");
     c.same = false;
     c
 }
@@ -382,11 +383,11 @@ fn compared(mut c: Case, s: &[u8], h: Head, what: &[u8], ours: usize, at: usize)
     }
     say_case(c, what);
     if h.length != ours {
-        say(b" are not so many as in the file\n");
+        say(c.rt, b" are not so many as in the file\n");
     } else {
-        say(b" differ first at ");
-        print(at);
-        say(b"\n");
+        say(c.rt, b" differ first at ");
+        print(c.rt, at);
+        say(c.rt, b"\n");
     }
     c.same = false;
     c

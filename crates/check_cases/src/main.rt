@@ -158,149 +158,167 @@ fn records(s: &[u8], from: usize, k: usize, out: &mut [u8]) -> usize
 
 // ---- replies
 
-fn show(n: u64) {
-    io::print_decimal(1, n);
-    io::write_all(1, b" ");
+fn show(rt: HostRuntime, n: u64) {
+    let _ = rt.print(n);
+    let _ = rt.write_all(b" ");
 }
 
-fn line(text: &[u8]) {
-    io::write_all(1, text);
-    io::write_all(1, b"\n");
+fn line(rt: HostRuntime, text: &[u8]) {
+    let _ = rt.write_all(text);
+    let _ = rt.write_all(b"\n");
 }
 
-fn refused(number: u8, place: usize) {
-    io::write_all(1, b"refused ");
-    show(word::wide(number));
-    show(place as u64);
-    line(b"");
+fn refused(rt: HostRuntime, number: u8, place: usize) {
+    let _ = rt.write_all(b"refused ");
+    show(rt, word::wide(number));
+    show(rt, place as u64);
+    line(rt, b"");
 }
 
-fn show_verdict(v: Verdict) {
+fn show_verdict(rt: HostRuntime, v: Verdict) {
     match v {
-        Verdict::Passed => line(b"passed"),
-        Verdict::Refused { number, place } => refused(number, place),
+        Verdict::Passed => line(rt, b"passed"),
+        Verdict::Refused { number, place } => refused(rt, number, place),
     }
 }
 
-fn show_lookup(v: Lookup) {
+fn show_lookup(rt: HostRuntime, v: Lookup) {
     match v {
         Lookup::Found { group, place } => {
-            show(group as u64);
-            show(place as u64);
-            line(b"");
+            show(rt, group as u64);
+            show(rt, place as u64);
+            line(rt, b"");
         }
-        Lookup::Nothing => line(b"nothing"),
-        Lookup::Refused { number, place } => refused(number, place),
+        Lookup::Nothing => line(rt, b"nothing"),
+        Lookup::Refused { number, place } => refused(rt, number, place),
     }
 }
 
-fn show_next(v: NextGroup) {
+fn show_next(rt: HostRuntime, v: NextGroup) {
     match v {
         NextGroup::At(group) => {
-            show(group as u64);
-            line(b"");
+            show(rt, group as u64);
+            line(rt, b"");
         }
-        NextGroup::Nothing => line(b"nothing"),
-        NextGroup::Refused { number, place } => refused(number, place),
+        NextGroup::Nothing => line(rt, b"nothing"),
+        NextGroup::Refused { number, place } => refused(rt, number, place),
     }
 }
 
-fn show_entries(out: &[u64]) {
+fn show_entries(rt: HostRuntime, out: &[u64]) {
     let mut i: usize = 0;
     while i < out.len() {
-        show(out[i]);
+        show(rt, out[i]);
         i += 1;
     }
 }
 
-fn show_table(v: Tabled, out: &[u64]) {
-    show_entries(out);
+fn show_table(rt: HostRuntime, v: Tabled, out: &[u64]) {
+    show_entries(rt, out);
     match v {
         Tabled::Made { entries } => {
-            io::write_all(1, b"made ");
-            show(entries as u64);
-            line(b"");
+            let _ = rt.write_all(b"made ");
+            show(rt, entries as u64);
+            line(rt, b"");
         }
-        Tabled::Refused { number, place } => refused(number, place),
+        Tabled::Refused { number, place } => refused(rt, number, place),
     }
 }
 
 // ---- cases
 
-fn tables(padded: bool, codes: &[u8], values: &[u64], records: &[u8], out: &mut [u64]) {
+fn tables(
+    rt: HostRuntime,
+    padded: bool,
+    codes: &[u8],
+    values: &[u64],
+    records: &[u8],
+    out: &mut [u64],
+) {
     if padded {
         let v = prefix::padded_to_raw(codes, values, records, out);
-        show_table(v, out);
+        show_table(rt, v, out);
         return;
     }
     let v = prefix::raw_to_padded(codes, values, records, out);
-    show_table(v, out);
+    show_table(rt, v, out);
 }
 
-fn lookups(next: bool, argument: usize, records: &[u8]) {
+fn lookups(rt: HostRuntime, next: bool, argument: usize, records: &[u8]) {
     if records.len() < op_batch::RECORD {
         return;
     }
     let batch = op_batch::load(records, 0);
     if next {
-        show_next(batch.next_op_group_index(argument));
+        show_next(rt, batch.next_op_group_index(argument));
         return;
     }
-    show_lookup(batch.op_idx_in_batch_to_group(argument));
+    show_lookup(rt, batch.op_idx_in_batch_to_group(argument));
 }
 
-fn show_padded(v: PaddedFound) {
+fn show_padded(rt: HostRuntime, v: PaddedFound) {
     match v {
         PaddedFound::At(i) => {
-            show(i.0 as u64);
-            line(b"");
+            show(rt, i.0 as u64);
+            line(rt, b"");
         }
-        PaddedFound::Nothing => line(b"nothing"),
+        PaddedFound::Nothing => line(rt, b"nothing"),
     }
 }
 
-fn show_raw(v: RawFound) {
+fn show_raw(rt: HostRuntime, v: RawFound) {
     match v {
         RawFound::At(i) => {
-            show(i.0 as u64);
-            line(b"");
+            show(rt, i.0 as u64);
+            line(rt, b"");
         }
-        RawFound::Nothing => line(b"nothing"),
+        RawFound::Nothing => line(rt, b"nothing"),
     }
 }
 
-fn indexes(padded: bool, argument: usize, entries: &[u64]) {
+fn indexes(rt: HostRuntime, padded: bool, argument: usize, entries: &[u64]) {
     if padded {
-        show_raw(prefix::padded_to_raw_index(entries, PaddedIndex(argument)));
+        show_raw(
+            rt,
+            prefix::padded_to_raw_index(entries, PaddedIndex(argument)),
+        );
         return;
     }
-    show_padded(prefix::raw_to_padded_index(entries, RawIndex(argument)));
+    show_padded(rt, prefix::raw_to_padded_index(entries, RawIndex(argument)));
 }
 
-fn run(what: u64, argument: usize, table: &[u8], codes: &[u8], values: &[u64], records: &[u8]) {
+fn run(
+    rt: HostRuntime,
+    what: u64,
+    argument: usize,
+    table: &[u8],
+    codes: &[u8],
+    values: &[u64],
+    records: &[u8],
+) {
     if what == 0 {
-        show_verdict(checks::structure(codes, values, records));
+        show_verdict(rt, checks::structure(codes, values, records));
         return;
     }
     if what == 1 {
-        show_verdict(checks::padding(codes, values, records));
+        show_verdict(rt, checks::padding(codes, values, records));
         return;
     }
     if what == 2 {
-        show_verdict(commitment::commitment(table, codes, values, records));
+        show_verdict(rt, commitment::commitment(table, codes, values, records));
         return;
     }
     if what <= 4 {
         let mut out = [7u64; 16];
         let room = most(argument as u64, 16);
-        tables(what == 4, codes, values, records, &mut out[..room]);
+        tables(rt, what == 4, codes, values, records, &mut out[..room]);
         return;
     }
     if what <= 6 {
-        lookups(what == 6, argument, records);
+        lookups(rt, what == 6, argument, records);
         return;
     }
-    indexes(what == 8, argument, values);
+    indexes(rt, what == 8, argument, values);
 }
 
 // The front of each run that is lent.
@@ -313,6 +331,7 @@ struct Lent {
 }
 
 fn lend(
+    rt: HostRuntime,
     what: u64,
     argument: usize,
     lent: Lent,
@@ -328,6 +347,7 @@ fn lend(
     let v = lent.values;
     let r = lent.records;
     run(
+        rt,
         what,
         argument,
         &table[..t],
@@ -406,6 +426,7 @@ fn read_records(s: &[u8], from: usize, out: &mut [u8]) -> Front
 }
 
 fn case(
+    rt: HostRuntime,
     s: &[u8],
     from: usize,
     table: &mut [u8],
@@ -429,6 +450,7 @@ fn case(
         records: r.lent,
     };
     lend(
+        rt,
         what.value,
         argument.value as usize,
         lent,
@@ -441,37 +463,46 @@ fn case(
 }
 
 // The first number says how many cases there are.
-fn cases(s: &[u8], table: &mut [u8], codes: &mut [u8], values: &mut [u64], runs: &mut [u8]) {
+fn cases(
+    rt: HostRuntime,
+    s: &[u8],
+    table: &mut [u8],
+    codes: &mut [u8],
+    values: &mut [u64],
+    runs: &mut [u8],
+) {
     let n = number(s, 0);
     let mut at = n.at;
     let mut i: u64 = 0;
     while i < n.value {
-        at = case(s, at, table, codes, values, runs);
+        at = case(rt, s, at, table, codes, values, runs);
         i += 1;
     }
 }
 
-fn help() {
-    console::print(b"usage: check_cases < CASES\n");
+fn help(rt: HostRuntime) {
+    console::print(rt, b"usage: check_cases < CASES\n");
     console::print(
+        rt,
         b"Runs each line's check, table or lookup and prints the reply; it takes no arguments.\n",
     );
 }
 
-fn main() {
-    if 1 < os::arg_count() {
-        help();
+fn main(rt: HostRuntime) {
+    if 1 < console::arguments(rt) {
+        help(rt);
         return;
     }
-    let mut space = io::large_buffer();
-    let got = console::fill(0, &mut space);
-    if got.failed {
-        console::fail(b"check_cases", b"standard input");
+    let mut space = [0u8; 65536];
+    let got = console::fill(&mut rt.stdin(), &mut space);
+    if let Some(error) = got.failed {
+        console::fail(rt, b"check_cases", b"standard input", error);
         return;
     }
     let n = got.count;
     if n == space.len() {
         console::wrong(
+            rt,
             b"check_cases",
             b"standard input",
             b"longer than 65535 bytes",
@@ -482,5 +513,12 @@ fn main() {
     let mut codes = space::codes();
     let mut values = space::values();
     let mut runs = space::records();
-    cases(&space[..n], &mut table, &mut codes, &mut values, &mut runs);
+    cases(
+        rt,
+        &space[..n],
+        &mut table,
+        &mut codes,
+        &mut values,
+        &mut runs,
+    );
 }

@@ -5,9 +5,12 @@
 ghost use Rattle.io.specs.Counts.{IsPrefixLen};
 
 use comparison::Compared;
-use console::{counted, number, say};
+use console::{Page, counted, number, say};
 use decoder::Decoded;
 use listing::{minus, plus};
+use std::env::Env;
+use std::fs::File;
+use std::io::Error;
 use text::Number;
 
 // ---- an entry of the report
@@ -120,18 +123,18 @@ struct Totals {
 
 // ---- the line of an entry
 
-fn print_both(page: &mut [u8], first: u64, second: u64) {
+fn print_both(page: &mut Page, first: u64, second: u64) {
     number(page, first);
     say(page, b" / ");
     number(page, second);
 }
 
-fn print_batch(page: &mut [u8], b: usize) {
+fn print_batch(page: &mut Page, b: usize) {
     listing::print_at(page, b"  batch ", b);
 }
 
 // The place of an entry that is about a group, or about a whole batch.
-fn print_place(page: &mut [u8], e: Entry) {
+fn print_place(page: &mut Page, e: Entry) {
     print_batch(page, e.batch);
     if e.kind == 5 {
         say(page, b": ");
@@ -141,7 +144,7 @@ fn print_place(page: &mut [u8], e: Entry) {
     say(page, b": ");
 }
 
-fn print_before(page: &mut [u8], kind: usize) {
+fn print_before(page: &mut Page, kind: usize) {
     match kind {
         1 => say(page, b"number "),
         2 => say(page, b"padding flag "),
@@ -149,7 +152,7 @@ fn print_before(page: &mut [u8], kind: usize) {
     }
 }
 
-fn print_behind(page: &mut [u8], kind: usize) {
+fn print_behind(page: &mut Page, kind: usize) {
     match kind {
         3 => say(page, b" operations"),
         5 => say(page, b" groups"),
@@ -158,7 +161,7 @@ fn print_behind(page: &mut [u8], kind: usize) {
 }
 
 // A group's number, flag or length, or how many groups a batch has.
-fn print_values(page: &mut [u8], e: Entry, first_records: &[u8], second_records: &[u8]) {
+fn print_values(page: &mut Page, e: Entry, first_records: &[u8], second_records: &[u8]) {
     print_place(page, e);
     print_before(page, e.kind);
     print_both(
@@ -171,7 +174,7 @@ fn print_values(page: &mut [u8], e: Entry, first_records: &[u8], second_records:
 
 // The batches' first operations are at two places of the blocks.
 fn print_operation(
-    page: &mut [u8],
+    page: &mut Page,
     e: Entry,
     first_codes: &[u8],
     first_values: &[u64],
@@ -188,13 +191,13 @@ fn print_operation(
     listing::print_op_at(page, second_codes, second_values, plus(at, e.place));
 }
 
-fn print_missing(page: &mut [u8], e: Entry) {
+fn print_missing(page: &mut Page, e: Entry) {
     print_batch(page, e.batch);
     say(page, b": missing in the ");
     print_side(page, e.place);
 }
 
-fn print_side(page: &mut [u8], side: usize) {
+fn print_side(page: &mut Page, side: usize) {
     if side == 1 {
         say(page, b"first");
         return;
@@ -202,7 +205,7 @@ fn print_side(page: &mut [u8], side: usize) {
     say(page, b"second");
 }
 
-fn print_signed(page: &mut [u8], n: i32) {
+fn print_signed(page: &mut Page, n: i32) {
     if n < 0 {
         say(page, b"-");
         number(page, plus(natural(down_to(n)), 1) as u64);
@@ -212,7 +215,7 @@ fn print_signed(page: &mut [u8], n: i32) {
     number(page, natural(n) as u64);
 }
 
-fn print_total(page: &mut [u8], what: &[u8], difference: i32, first: usize, second: usize) {
+fn print_total(page: &mut Page, what: &[u8], difference: i32, first: usize, second: usize) {
     say(page, what);
     print_signed(page, difference);
     say(page, b" (");
@@ -220,7 +223,7 @@ fn print_total(page: &mut [u8], what: &[u8], difference: i32, first: usize, seco
     say(page, b")");
 }
 
-fn print_totals(page: &mut [u8], e: Entry, first: Totals, second: Totals) {
+fn print_totals(page: &mut Page, e: Entry, first: Totals, second: Totals) {
     let d = e.difference;
     let kind = e.kind;
     match kind {
@@ -263,7 +266,7 @@ fn move_on(p: Begin, batch: usize, first_records: &[u8], second_records: &[u8]) 
 }
 
 fn print_entry(
-    page: &mut [u8],
+    page: &mut Page,
     e: Entry,
     p: Begin,
     first_codes: &[u8],
@@ -294,7 +297,7 @@ fn print_entry(
 }
 
 fn print_line(
-    page: &mut [u8],
+    page: &mut Page,
     e: Entry,
     p: Begin,
     first_codes: &[u8],
@@ -324,7 +327,7 @@ fn print_line(
 
 // Entries are in the order of their batches, those of totals last.
 fn print_lines(
-    page: &mut [u8],
+    page: &mut Page,
     report: &[i32],
     entries: usize,
     first_codes: &[u8],
@@ -394,7 +397,7 @@ fn read_again(
 }
 
 fn print_different(
-    page: &mut [u8],
+    page: &mut Page,
     report: &[i32],
     entries: usize,
     s: &[u8],
@@ -430,14 +433,14 @@ fn print_different(
 
 // ---- the first line
 
-fn print_block(page: &mut [u8], path: &[u8], at: usize) {
+fn print_block(page: &mut Page, path: &[u8], at: usize) {
     console::quote(page, path, 4096);
     if at != 0 {
         listing::print_at(page, b" at byte ", at);
     }
 }
 
-fn print_blocks(page: &mut [u8], first: &[u8], from: usize, second: &[u8], at: usize) {
+fn print_blocks(page: &mut Page, first: &[u8], from: usize, second: &[u8], at: usize) {
     print_block(page, first, from);
     say(page, b" / ");
     print_block(page, second, at);
@@ -445,7 +448,7 @@ fn print_blocks(page: &mut [u8], first: &[u8], from: usize, second: &[u8], at: u
 }
 
 fn print_answer(
-    page: &mut [u8],
+    page: &mut Page,
     first: &[u8],
     from: usize,
     second: &[u8],
@@ -463,7 +466,7 @@ fn print_answer(
     counted(page, entries, b" difference\n", b" differences\n");
 }
 
-fn start_refused(page: &mut [u8], side: usize, path: &[u8], at: usize) {
+fn start_refused(page: &mut Page, side: usize, path: &[u8], at: usize) {
     say(page, b"refused: the ");
     print_side(page, side);
     say(page, b" block, ");
@@ -471,8 +474,16 @@ fn start_refused(page: &mut [u8], side: usize, path: &[u8], at: usize) {
     say(page, b": ");
 }
 
-fn refused(side: usize, path: &[u8], s: &[u8], at: usize, refusal: u8, place: usize) {
-    let mut page = console::output();
+fn refused(
+    rt: HostRuntime,
+    side: usize,
+    path: &[u8],
+    s: &[u8],
+    at: usize,
+    refusal: u8,
+    place: usize,
+) {
+    let mut page = console::output(rt);
     start_refused(&mut page, side, path, at);
     listing::print_numbered(&mut page, s, at, refusal, place);
     say(&mut page, b": ");
@@ -482,8 +493,8 @@ fn refused(side: usize, path: &[u8], s: &[u8], at: usize, refusal: u8, place: us
 }
 
 // A block that cannot be had, without a number of refusal.
-fn not_had(side: usize, path: &[u8], at: usize, why: &[u8]) {
-    let mut page = console::output();
+fn not_had(rt: HostRuntime, side: usize, path: &[u8], at: usize, why: &[u8]) {
+    let mut page = console::output(rt);
     start_refused(&mut page, side, path, at);
     say(&mut page, why);
     console::flush(&mut page);
@@ -492,6 +503,7 @@ fn not_had(side: usize, path: &[u8], at: usize, why: &[u8]) {
 // ---- the bytes of two files
 
 fn answer_refused(
+    rt: HostRuntime,
     first: &[u8],
     s: &[u8],
     from: usize,
@@ -506,9 +518,9 @@ fn answer_refused(
             number,
             place,
         } => match mark {
-            1 => refused(1, first, s, from, number, place),
-            2 => refused(2, second, t, at, number, place),
-            _ => console::print(b"refused: there is no room for so many differences\n"),
+            1 => refused(rt, 1, first, s, from, number, place),
+            2 => refused(rt, 2, second, t, at, number, place),
+            _ => console::print(rt, b"refused: there is no room for so many differences\n"),
         },
         Compared::Reported { entries: _ } => {}
     }
@@ -546,6 +558,7 @@ fn compare_blocks(
 }
 
 fn answer(
+    rt: HostRuntime,
     report: &[i32],
     entries: usize,
     first: &[u8],
@@ -561,7 +574,7 @@ fn answer(
     second_values: &mut [u64],
     second_records: &mut [u8],
 ) {
-    let mut page = console::output();
+    let mut page = console::output(rt);
     print_answer(&mut page, first, from, second, at, entries);
     print_different(
         &mut page,
@@ -582,6 +595,7 @@ fn answer(
 }
 
 fn compare_in(
+    rt: HostRuntime,
     first: &[u8],
     s: &[u8],
     from: usize,
@@ -610,10 +624,11 @@ fn compare_in(
         report,
     );
     let Compared::Reported { entries } = r else {
-        answer_refused(first, s, from, second, t, at, r);
+        answer_refused(rt, first, s, from, second, t, at, r);
         return;
     };
     answer(
+        rt,
         report,
         entries,
         first,
@@ -633,7 +648,15 @@ fn compare_in(
 
 // Room for the two largest blocks and the longest report. It is made where it lies: a function's reply would be copied, and twice the room is more than
 // the stack has where nothing is optimized.
-fn compare_bytes(first: &[u8], s: &[u8], from: usize, second: &[u8], t: &[u8], at: usize) {
+fn compare_bytes(
+    rt: HostRuntime,
+    first: &[u8],
+    s: &[u8],
+    from: usize,
+    second: &[u8],
+    t: &[u8],
+    at: usize,
+) {
     let mut first_codes = [0u8; 65535];
     let mut first_values = [0u64; 65535];
     let mut first_records = [0u8; 1343488];
@@ -642,6 +665,7 @@ fn compare_bytes(first: &[u8], s: &[u8], from: usize, second: &[u8], t: &[u8], a
     let mut second_records = [0u8; 1343488];
     let mut report = [0i32; 327692];
     compare_in(
+        rt,
         first,
         s,
         from,
@@ -665,63 +689,63 @@ fn compare_bytes(first: &[u8], s: &[u8], from: usize, second: &[u8], t: &[u8], a
 struct Read {
     count: usize,
     more: bool,
-    failed: bool,
-    error: i32,
+    failed: Option<Error>,
 }
 
-fn not_read() -> Read {
+fn not_read(error: Error) -> Read {
     Read {
         count: 0,
         more: false,
-        failed: true,
-        error: os::errno(),
+        failed: Some(error),
     }
 }
 
-fn has_more(fd: i32) -> bool {
+fn has_more(file: &mut File) -> bool {
     let mut next = [0u8; 1];
-    let got = console::fill(fd, &mut next);
+    let got = console::fill(file, &mut next);
     got.count != 0
 }
 
-fn read_open(fd: i32, room: &mut [u8]) -> Read {
-    let got = console::fill(fd, room);
-    if got.failed {
-        return not_read();
+fn read_open(file: &mut File, room: &mut [u8]) -> Read {
+    let got = console::fill(file, room);
+    if let Some(error) = got.failed {
+        return not_read(error);
     }
     Read {
         count: got.count,
-        more: has_more(fd),
-        failed: false,
-        error: 0,
+        more: has_more(file),
+        failed: None,
     }
 }
 
-fn read_file(path: &[u8], room: &mut [u8]) -> Read {
-    let fd = os::open_read(path);
-    if fd < 0 {
-        return not_read();
+fn read_file(rt: HostRuntime, path: &[u8], room: &mut [u8]) -> Read {
+    match console::open(rt, path) {
+        Ok(mut file) => read_open(&mut file, room),
+        Err(error) => not_read(error),
     }
-    let r = read_open(fd, room);
-    libc::close(fd);
-    r
 }
 
-fn unread(side: usize, path: &[u8], at: usize, error: i32) {
-    let mut page = console::output();
+fn unread(rt: HostRuntime, side: usize, path: &[u8], at: usize, error: Error) {
+    let mut page = console::output(rt);
     start_refused(&mut page, side, path, at);
     console::unread(&mut page, error);
     console::flush(&mut page);
 }
 
 // Whether the whole file was read; a line says why not.
-fn is_whole(side: usize, path: &[u8], at: usize, r: Read) -> bool {
-    if r.failed {
-        unread(side, path, at, r.error);
+fn is_whole(rt: HostRuntime, side: usize, path: &[u8], at: usize, r: Read) -> bool {
+    if let Some(error) = r.failed {
+        unread(rt, side, path, at, error);
         return false;
     }
     if r.more {
-        not_had(side, path, at, b"the file has more than 1048576 bytes\n");
+        not_had(
+            rt,
+            side,
+            path,
+            at,
+            b"the file has more than 1048576 bytes\n",
+        );
         return false;
     }
     true
@@ -737,132 +761,147 @@ fn most(n: usize, room: &[u8]) -> usize
     n
 }
 
-fn compare_with(first: &[u8], s: &[u8], from: usize, second: &[u8], at: usize, room: &mut [u8]) {
-    let r = read_file(second, room);
-    if !is_whole(2, second, at, r) {
+fn compare_with(
+    rt: HostRuntime,
+    first: &[u8],
+    s: &[u8],
+    from: usize,
+    second: &[u8],
+    at: usize,
+    room: &mut [u8],
+) {
+    let r = read_file(rt, second, room);
+    if !is_whole(rt, 2, second, at, r) {
         return;
     }
     let n = most(r.count, room);
-    compare_bytes(first, s, from, second, &room[..n], at);
+    compare_bytes(rt, first, s, from, second, &room[..n], at);
 }
 
-fn compare_second(first: &[u8], s: &[u8], from: usize, second: &[u8], at: usize) {
+fn compare_second(rt: HostRuntime, first: &[u8], s: &[u8], from: usize, second: &[u8], at: usize) {
     let mut room = [0u8; 1048576];
-    compare_with(first, s, from, second, at, &mut room);
+    compare_with(rt, first, s, from, second, at, &mut room);
 }
 
-fn compare_first(first: &[u8], from: usize, second: &[u8], at: usize, room: &mut [u8]) {
-    let r = read_file(first, room);
-    if !is_whole(1, first, from, r) {
+fn compare_first(
+    rt: HostRuntime,
+    first: &[u8],
+    from: usize,
+    second: &[u8],
+    at: usize,
+    room: &mut [u8],
+) {
+    let r = read_file(rt, first, room);
+    if !is_whole(rt, 1, first, from, r) {
         return;
     }
     let n = most(r.count, room);
-    compare_second(first, &room[..n], from, second, at);
+    compare_second(rt, first, &room[..n], from, second, at);
 }
 
-fn compare_files(first: &[u8], from: usize, second: &[u8], at: usize) {
+fn compare_files(rt: HostRuntime, first: &[u8], from: usize, second: &[u8], at: usize) {
     let mut room = [0u8; 1048576];
-    compare_first(first, from, second, at, &mut room);
+    compare_first(rt, first, from, second, at, &mut room);
 }
 
 // ---- arguments
 
-fn help() {
+fn help(rt: HostRuntime) {
     console::print(
+        rt,
         b"compare FILE FILE: says how the blocks that two files start with differ, under the virtual machine's own table.\ncompare FILE OFFSET FILE OFFSET...: the same for the blocks that start at byte OFFSET of each FILE; as many pairs as there are.\nThe first word tells which of three endings it is. `same`: the decoded blocks are the same. `different`: lines follow that begin with two\nspaces, one for each difference, what the first block has before `/` and what the second has after it. `refused`: a block cannot be read,\nor a file, and the line says which and why.\nOf each batch that both have there is a line for the first group whose number, whose padding flag and whose length differs, for the first\noperation that differs, counted in the batch, and for the group counts; then for each batch that one block lacks; then for the totals, second\nminus first. Batches, groups and operations count from 0. A file has at most 1048576 bytes; what stands after a block is not compared.\n",
     );
 }
 
-fn not_offset(side: usize, path: &[u8]) {
-    not_had(side, path, 0, b"its OFFSET is not a number of bytes\n");
+fn not_offset(rt: HostRuntime, side: usize, path: &[u8]) {
+    not_had(rt, side, path, 0, b"its OFFSET is not a number of bytes\n");
 }
 
-fn compare_named(first: &[u8], from: Number, second: &[u8], at: Number) {
+fn compare_named(rt: HostRuntime, first: &[u8], from: Number, second: &[u8], at: Number) {
     let Number::Is(x) = from else {
-        not_offset(1, first);
+        not_offset(rt, 1, first);
         return;
     };
     let Number::Is(y) = at else {
-        not_offset(2, second);
+        not_offset(rt, 2, second);
         return;
     };
-    compare_files(first, x as usize, second, y as usize);
+    compare_files(rt, first, x as usize, second, y as usize);
 }
 
-fn compare_to(first: &[u8], from: Number, i: usize, at: Number) {
-    let mut path = io::buffer();
-    let n = os::arg(i, &mut path);
-    if os::errno() != 0 {
-        console::print(b"refused: the name of the second file is too long\n");
+fn compare_to(rt: HostRuntime, first: &[u8], from: Number, i: usize, at: Number) {
+    let mut path = [0u8; 4096];
+    let Ok(n) = rt.arg(i, &mut path) else {
+        console::print(rt, b"refused: the name of the second file is too long\n");
         return;
-    }
-    compare_named(first, from, &path[..n], at);
+    };
+    compare_named(rt, first, from, &path[..n], at);
 }
 
 // The files that arguments i and k name.
-fn compare_arguments(i: usize, from: Number, k: usize, at: Number) {
-    let mut path = io::buffer();
-    let n = os::arg(i, &mut path);
-    if os::errno() != 0 {
-        console::print(b"refused: the name of the first file is too long\n");
+fn compare_arguments(rt: HostRuntime, i: usize, from: Number, k: usize, at: Number) {
+    let mut path = [0u8; 4096];
+    let Ok(n) = rt.arg(i, &mut path) else {
+        console::print(rt, b"refused: the name of the first file is too long\n");
         return;
-    }
-    compare_to(&path[..n], from, k, at);
+    };
+    compare_to(rt, &path[..n], from, k, at);
 }
 
 // The offset that the i-th argument is.
-fn offset(i: usize) -> Number {
-    let mut argument = io::buffer();
-    let n = os::arg(i, &mut argument);
+fn offset(rt: HostRuntime, i: usize) -> Number {
+    let mut argument = [0u8; 4096];
+    let n = console::argument(rt, i, &mut argument);
     text::either(&argument[..n])
 }
 
 // Four arguments from the i-th on.
-fn compare_four(i: usize) {
-    let from = offset(plus(i, 1));
-    let at = offset(plus(i, 3));
-    compare_arguments(i, from, plus(i, 2), at);
+fn compare_four(rt: HostRuntime, i: usize) {
+    let from = offset(rt, plus(i, 1));
+    let at = offset(rt, plus(i, 3));
+    compare_arguments(rt, i, from, plus(i, 2), at);
 }
 
-fn compare_pairs(pairs: usize) {
+fn compare_pairs(rt: HostRuntime, pairs: usize) {
     let mut k: usize = 0;
     while k < pairs {
-        compare_four(plus(listing::times4(k), 1));
+        compare_four(rt, plus(listing::times4(k), 1));
         k += 1;
     }
 }
 
-fn is_help() -> bool {
-    let mut word = io::buffer();
-    let n = os::arg(1, &mut word);
+fn is_help(rt: HostRuntime) -> bool {
+    let mut word = [0u8; 4096];
+    let n = console::argument(rt, 1, &mut word);
     check::same(&word[..n], b"--help")
 }
 
-fn usage() {
+fn usage(rt: HostRuntime) {
     console::tell(
+        rt,
         b"usage: compare FILE FILE, or compare FILE OFFSET FILE OFFSET... (compare --help says more)\n",
     );
 }
 
 // So many arguments, the program's own name not counted.
-fn run(count: usize) {
+fn run(rt: HostRuntime, count: usize) {
     if count == 1 {
-        if is_help() {
-            help();
+        if is_help(rt) {
+            help(rt);
             return;
         }
     }
     if count == 2 {
-        compare_arguments(1, Number::Is(0), 2, Number::Is(0));
+        compare_arguments(rt, 1, Number::Is(0), 2, Number::Is(0));
         return;
     }
     if count == 0 || count % 4 != 0 {
-        usage();
+        usage(rt);
         return;
     }
-    compare_pairs(count / 4);
+    compare_pairs(rt, count / 4);
 }
 
-fn main() {
-    run(minus(os::arg_count(), 1));
+fn main(rt: HostRuntime) {
+    run(rt, minus(console::arguments(rt), 1));
 }

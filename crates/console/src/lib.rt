@@ -4,33 +4,44 @@
 ghost use Rattle.std.specs.Prelude.{◌≡◌, ◌≤◌, ◌<◌, length};
 ghost use Rattle.io.specs.Counts.{IsPrefixLen};
 
+use std::env::{Env, FillError};
+use std::fmt;
+use std::fmt::Write;
+use std::fs::File;
+use std::io::{Error, ErrorKind, Read, Result};
+
 // ---- reading
 
-// How many bytes were read; and whether a read failed, which is not the end of the file.
+// How many bytes were read; and the error of a read that failed, which is not the end of the file.
 #[derive(Clone, Copy)]
 pub struct Got {
     pub count: usize,
-    pub failed: bool,
+    pub failed: Option<Error>,
 }
 
 // One read; it counts 0 at the end of the file.
-fn once(fd: i32, room: &mut [u8]) -> Got
+fn once<F: Read>(file: &mut F, room: &mut [u8]) -> Got
     ensures { result.count ≤ length room.new }
 {
-    let n = libc::read(fd, room);
-    Got {
-        count: io::count(n, room),
-        failed: n < 0,
+    match file.read(room) {
+        Ok(count) => Got {
+            count,
+            failed: None,
+        },
+        Err(error) => Got {
+            count: 0,
+            failed: Some(error),
+        },
     }
 }
 
 // Reads until the room is full, the file ends or a read fails.
-pub fn fill(fd: i32, room: &mut [u8]) -> Got
+pub fn fill<F: Read>(file: &mut F, room: &mut [u8]) -> Got
     ensures { IsPrefixLen result.count room.new }
 {
     let mut n: usize = 0;
     while n < room.len() {
-        let f = once(fd, &mut room[n..]);
+        let f = once(file, &mut room[n..]);
         if f.count == 0 {
             return Got {
                 count: n,
@@ -41,44 +52,100 @@ pub fn fill(fd: i32, room: &mut [u8]) -> Got
     }
     Got {
         count: n,
+        failed: None,
+    }
+}
+
+// The name of a file, which is text.
+pub fn name(path: &[u8]) -> Result<&str> {
+    match str::from_utf8(path) {
+        Ok(name) => Ok(name),
+        Err(_) => Err(Error::new(ErrorKind::InvalidInput, "the name is not text")),
+    }
+}
+
+// A file to be read.
+pub fn open(rt: HostRuntime, path: &[u8]) -> Result<File> {
+    File::open(&rt, name(path)?)
+}
+
+// How many arguments there are, the program's own name among them.
+pub fn arguments(rt: HostRuntime) -> usize {
+    let mut none = [0u8; 1];
+    for i in 0..usize::MAX {
+        if is_missing(rt.arg(i, &mut none)) {
+            return i;
+        }
+    }
+    usize::MAX
+}
+
+fn is_missing(argument: std::result::Result<usize, FillError>) -> bool {
+    match argument {
+        Err(FillError::NotPresent) => true,
+        Err(FillError::TooLong) | Ok(_) => false,
+    }
+}
+
+// The i-th argument, at the start of the room; and how many bytes it has, 0 where it is missing or too long.
+pub fn argument(rt: HostRuntime, i: usize, room: &mut [u8]) -> usize
+    ensures { IsPrefixLen result room.new }
+{
+    match rt.arg(i, room) {
+        Ok(n) => n,
+        Err(_) => 0,
+    }
+}
+
+// ---- a page: so much text, how much of it is filled, where it goes, and whether a write failed
+
+const TEXT: usize = 65536;
+
+#[derive(Clone, Copy)]
+enum Stream {
+    Output,
+    Errors,
+}
+
+#[derive(Drop)]
+pub struct Page {
+    rt: HostRuntime,
+    text: [u8; 65536],
+    filled: usize,
+    to: Stream,
+    failed: bool,
+}
+
+fn blank() -> [u8; 65536]
+    ensures { 65536 ≡ length result }
+{
+    [0; 65536]
+}
+
+fn page_to(rt: HostRuntime, to: Stream) -> Page
+    ensures { 65536 ≡ length result.text }
+{
+    Page {
+        rt,
+        text: blank(),
+        filled: 0,
+        to,
         failed: false,
     }
 }
 
-// ---- a page: so much text, then eight bytes for how much of it is filled, a byte for where it goes and one for a write that failed
-
-const TEXT: usize = 65536;
-
-const TO: usize = 65544;
-
-const FAILED: usize = 65545;
-
-fn blank() -> [u8; 65546]
-    ensures { 65546 ≡ length result }
-{
-    [0; 65546]
-}
-
-fn page(to: u8) -> [u8; 65546]
-    ensures { 65546 ≡ length result }
-{
-    let mut page = blank();
-    word::store8(&mut page, TO, to);
-    page
-}
-
 // A page for what was asked.
-pub fn output() -> [u8; 65546]
-    ensures { 65546 ≡ length result }
+pub fn output(rt: HostRuntime) -> Page
+    ensures { 65536 ≡ length result.text }
 {
-    page(1)
+    page_to(rt, Stream::Output)
 }
 
 // A page for what is wrong.
-pub fn errors() -> [u8; 65546]
-    ensures { 65546 ≡ length result }
+pub fn errors(rt: HostRuntime) -> Page
+    ensures { 65536 ≡ length result.text }
 {
-    page(2)
+    page_to(rt, Stream::Errors)
 }
 
 // A byte, or eight as a number; 0 past a run's end.
@@ -100,42 +167,39 @@ pub fn long(s: &[u8], at: usize) -> u64 {
     0
 }
 
-fn filled(page: &[u8]) -> usize
+fn filled(page: &Page) -> usize
     ensures { result ≤ 65536 }
 {
-    let n = long(page, TEXT) as usize;
+    let n = page.filled;
     if TEXT < n {
         return TEXT;
     }
     n
 }
 
-fn target(page: &[u8]) -> i32 {
-    if byte(page, TO) == 1 {
-        return libc::STDOUT_FILENO;
+fn write(page: &Page, n: usize) -> Result<()> {
+    let text = &page.text[..];
+    if text.len() < n {
+        return Err(Error::from(ErrorKind::InvalidInput));
     }
-    libc::STDERR_FILENO
-}
-
-fn write(page: &[u8], n: usize) -> bool {
-    if n <= page.len() {
-        return io::write_all(target(page), &page[..n]);
+    match page.to {
+        Stream::Output => page.rt.stdout().write_all(&text[..n]),
+        Stream::Errors => page.rt.stderr().write_all(&text[..n]),
     }
-    false
 }
 
 // Writes what the page has. A write that fails is told once, and what comes after it is dropped.
-pub fn flush(page: &mut [u8]) -> bool {
+pub fn flush(page: &mut Page) -> bool {
     let n = filled(page);
-    word::store_le8(page, TEXT, 0);
-    if byte(page, FAILED) != 0 {
+    page.filled = 0;
+    if page.failed {
         return false;
     }
-    if write(page, n) {
+    let Err(error) = write(page, n) else {
         return true;
-    }
-    os::fail(b"standard output");
-    word::store8(page, FAILED, 1);
+    };
+    tell_failed(page.rt, b"standard output", error);
+    page.failed = true;
     false
 }
 
@@ -157,28 +221,27 @@ pub fn copy(page: &mut [u8], at: usize, text: &[u8]) -> usize
     to
 }
 
-fn make_room(page: &mut [u8], more: usize) {
+fn make_room(page: &mut Page, more: usize) {
     if TEXT - filled(page) < more {
         flush(page);
     }
 }
 
 // A text that is no longer than a page.
-pub fn say(page: &mut [u8], text: &[u8]) {
+pub fn say(page: &mut Page, text: &[u8]) {
     make_room(page, text.len());
     let n = filled(page);
-    let end = copy(page, n, text);
-    word::store_le8(page, TEXT, end as u64);
+    page.filled = copy(&mut page.text, n, text);
 }
 
-pub fn number(page: &mut [u8], n: u64) {
+pub fn number(page: &mut Page, n: u64) {
     let mut digits = [0u8; 20];
     let k = io::decimal(n, &mut digits);
     say(page, &digits[..k]);
 }
 
 // A number with its thing, one or several.
-pub fn counted(page: &mut [u8], n: usize, one: &[u8], several: &[u8]) {
+pub fn counted(page: &mut Page, n: usize, one: &[u8], several: &[u8]) {
     number(page, n as u64);
     if n == 1 {
         say(page, one);
@@ -188,14 +251,14 @@ pub fn counted(page: &mut [u8], n: usize, one: &[u8], several: &[u8]) {
 }
 
 // A byte in hex.
-pub fn hex(page: &mut [u8], b: u8) {
+pub fn hex(page: &mut Page, b: u8) {
     let mut digits = [0u8; 16];
     let k = io::hex(word::wide(b), 2, &mut digits);
     say(page, &digits[..k]);
 }
 
 // A byte of somebody else's text, as \xNN where it is no printable one.
-fn printable(page: &mut [u8], b: u8) {
+fn printable(page: &mut Page, b: u8) {
     if b < 32 || 126 < b {
         say(page, b"\\x");
         hex(page, b);
@@ -206,7 +269,7 @@ fn printable(page: &mut [u8], b: u8) {
 }
 
 // Somebody else's text, cut after so many bytes.
-pub fn quote(page: &mut [u8], text: &[u8], most: usize) {
+pub fn quote(page: &mut Page, text: &[u8], most: usize) {
     let mut i: usize = 0;
     while i < text.len() {
         if most <= i {
@@ -221,33 +284,86 @@ pub fn quote(page: &mut [u8], text: &[u8], most: usize) {
 // ---- what is wrong with a file, in one line
 
 // How such a line starts.
-pub fn about(page: &mut [u8], program: &[u8], path: &[u8]) {
+pub fn about(page: &mut Page, program: &[u8], path: &[u8]) {
     say(page, program);
     say(page, b": ");
     quote(page, path, 4096);
 }
 
+// What the system says of an error.
+#[derive(Clone, Copy)]
+struct Words {
+    text: [u8; 256],
+    filled: usize,
+}
+
+impl fmt::Write for Words {
+    fn write_str(&mut self, text: &str) -> fmt::Result {
+        for b in text.as_bytes() {
+            let at = self.filled;
+            if at < 256 {
+                self.text[at] = *b;
+                self.filled = at + 1;
+            }
+        }
+        Ok(())
+    }
+}
+
+fn system_words(error: Error) -> Words {
+    let mut words = Words {
+        text: [0; 256],
+        filled: 0,
+    };
+    let _ = write!(words, "{error}");
+    words
+}
+
+// Where the words end and the error's number comes.
+fn words_end(text: &[u8]) -> usize
+    ensures { IsPrefixLen result text.now }
+{
+    for i in 0..text.len() {
+        if text[i..].starts_with(b" (os error ") {
+            return i;
+        }
+    }
+    text.len()
+}
+
+// A line by itself, past any page: what failed, a colon and the system's words.
+fn tell_failed(rt: HostRuntime, what: &[u8], error: Error) {
+    let said = system_words(error);
+    let text = &said.text[..];
+    let n = words_end(text);
+    let to = rt.stderr();
+    let _ = to.write_all(what);
+    let _ = to.write_all(b": ");
+    let _ = to.write_all(&text[..n]);
+    let _ = to.write_all(b"\n");
+}
+
 // A call that failed, in the system's words.
-pub fn fail(program: &[u8], path: &[u8]) {
-    let mut line = errors();
+pub fn fail(rt: HostRuntime, program: &[u8], path: &[u8], error: Error) {
+    let mut line = errors(rt);
     about(&mut line, program, path);
     flush(&mut line);
-    os::fail(b"");
+    tell_failed(rt, b"", error);
 }
 
 // What kept a file from being read, by the failed call's error.
-pub fn unread(page: &mut [u8], error: i32) {
-    match error {
-        libc::ENOENT | libc::ENOTDIR => say(page, b"there is no such file\n"),
-        libc::EACCES | libc::EPERM => say(page, b"it may not be read\n"),
-        libc::EISDIR => say(page, b"it is a directory\n"),
-        libc::ENAMETOOLONG => say(page, b"its name is too long\n"),
+pub fn unread(page: &mut Page, error: Error) {
+    match error.kind() {
+        ErrorKind::NotFound | ErrorKind::NotADirectory => say(page, b"there is no such file\n"),
+        ErrorKind::PermissionDenied => say(page, b"it may not be read\n"),
+        ErrorKind::IsADirectory => say(page, b"it is a directory\n"),
+        ErrorKind::InvalidFilename => say(page, b"its name is too long\n"),
         _ => say(page, b"it cannot be read\n"),
     }
 }
 
-pub fn wrong(program: &[u8], path: &[u8], what: &[u8]) {
-    let mut line = errors();
+pub fn wrong(rt: HostRuntime, program: &[u8], path: &[u8], what: &[u8]) {
+    let mut line = errors(rt);
     about(&mut line, program, path);
     say(&mut line, b": ");
     say(&mut line, what);
@@ -256,20 +372,20 @@ pub fn wrong(program: &[u8], path: &[u8], what: &[u8]) {
 }
 
 // One text by itself.
-pub fn print(text: &[u8]) {
-    let mut page = output();
+pub fn print(rt: HostRuntime, text: &[u8]) {
+    let mut page = output(rt);
     say(&mut page, text);
     flush(&mut page);
 }
 
-pub fn print_number(n: usize) {
-    let mut page = output();
+pub fn print_number(rt: HostRuntime, n: usize) {
+    let mut page = output(rt);
     number(&mut page, n as u64);
     flush(&mut page);
 }
 
-pub fn tell(text: &[u8]) {
-    let mut page = errors();
+pub fn tell(rt: HostRuntime, text: &[u8]) {
+    let mut page = errors(rt);
     say(&mut page, text);
     flush(&mut page);
 }

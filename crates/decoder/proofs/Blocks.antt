@@ -7,7 +7,7 @@ use borrow.Author.Tests.{lt-ltb, le-ltb, lt-leb, le-leb}
 use lib.ListN.{length}
 use Rattle.rules.specs.Answer.{good, refused, Read, found, ◌then◌}
 use Rattle.rules.specs.Refusals.{past_end₁, over_limit₃, left_over₁₁, no_room₁₃, bad_table₁₄}
-use Rattle.rules.specs.Operations.{Op, codes, values, good_table}
+use Rattle.rules.specs.Operations.{Op, good_table}
 use Rattle.rules.specs.Record.{Record, Block}
 use Rattle.rules.specs.Bytes.{count_at, nibbles_at, flags_at}
 use Rattle.rules.specs.Block.{Head, Layout, Room, head_at, layout_at, batches_at, batches_by, block_at}

@@ -11,7 +11,7 @@ use Rattle.rules.specs.Lists.{fitted, in_row}
 use Rattle.rules.specs.Digits.{digits, le_bytes}
 use Rattle.rules.specs.Answer.{Answer, good, refused, refuse_first, Read, found, ◌then◌, item_of}
 use Rattle.rules.specs.Refusals.{unfinished₁₈}
-use Rattle.rules.specs.Operations.{codes, values, good_table}
+use Rattle.rules.specs.Operations.{values, good_table}
 use Rattle.rules.specs.Batching.{batches_of}
 use Rattle.rules.specs.Record.{Block, record_of, no_block, word_bytes, record_size}
 use Rattle.rules.specs.Bytes.{count_at, ops_at, batch_count_at}

@@ -1,5 +1,5 @@
-// What a Rust or C program calls: the public functions over numbers and slices, with replies as plain structs. In each reply number 0 means that
-// nothing was refused; a refusal has every length and total 0.
+// What a Rust or C program calls, the latter through exports_c: the public functions over numbers and slices, with replies as plain structs. In each
+// reply number 0 means that nothing was refused; a refusal has every length and total 0.
 #![tactic(auto)]
 
 ghost use Rattle.std.specs.Prelude.{◌≡◌, true, ◌/◌, min, length};
@@ -132,8 +132,7 @@ fn flat_built(r: Built) -> BuildReply
     }
 }
 
-#[unsafe(no_mangle)]
-pub extern "C" fn oli_build(
+pub fn oli_build(
     table: &[u8],
     codes: &[u8],
     values: &[u64],
@@ -166,8 +165,7 @@ fn flat_encoded(r: Encoded) -> EncodeReply
     }
 }
 
-#[unsafe(no_mangle)]
-pub extern "C" fn oli_encode(
+pub fn oli_encode(
     table: &[u8],
     codes: &[u8],
     values: &[u64],
@@ -206,8 +204,7 @@ fn flat_decoded(r: Decoded) -> DecodeReply
     }
 }
 
-#[unsafe(no_mangle)]
-pub extern "C" fn oli_decode(
+pub fn oli_decode(
     table: &[u8],
     bytes: &[u8],
     at: usize,
@@ -222,8 +219,7 @@ pub extern "C" fn oli_decode(
 }
 
 // Finished blocks only (M-107).
-#[unsafe(no_mangle)]
-pub extern "C" fn oli_decode_strict(
+pub fn oli_decode_strict(
     table: &[u8],
     bytes: &[u8],
     at: usize,
@@ -261,8 +257,7 @@ fn flat_headed(r: Headed) -> HeadReply
 }
 
 // How much room decode needs for the block from `at` on.
-#[unsafe(no_mangle)]
-pub extern "C" fn oli_head(table: &[u8], bytes: &[u8], at: usize) -> HeadReply
+pub fn oli_head(table: &[u8], bytes: &[u8], at: usize) -> HeadReply
     ensures { result ≡ head_reply (headed table.now bytes.now at) }
 {
     let r = head::head(table, bytes, at);
@@ -295,8 +290,7 @@ fn flat_compared(r: Compared) -> CompareReply
 }
 
 // How they differ (M-105). The mark says whose refusal it is: 1 the first block's, 2 the second's, 0 that of a report too short.
-#[unsafe(no_mangle)]
-pub extern "C" fn oli_compare(
+pub fn oli_compare(
     first_table: &[u8],
     first: &[u8],
     first_at: usize,
@@ -345,29 +339,21 @@ fn flat_verdict(r: Verdict) -> CheckReply
     }
 }
 
-#[unsafe(no_mangle)]
-pub extern "C" fn oli_structure(codes: &[u8], values: &[u64], records: &[u8]) -> CheckReply
+pub fn oli_structure(codes: &[u8], values: &[u64], records: &[u8]) -> CheckReply
     ensures { result ≡ check_reply (structure_checked 8 (arena codes.now values.now records.now)) }
 {
     let r = checks::structure(codes, values, records);
     flat_verdict(r)
 }
 
-#[unsafe(no_mangle)]
-pub extern "C" fn oli_padding(codes: &[u8], values: &[u64], records: &[u8]) -> CheckReply
+pub fn oli_padding(codes: &[u8], values: &[u64], records: &[u8]) -> CheckReply
     ensures { result ≡ check_reply (padding_checked 8 (arena codes.now values.now records.now)) }
 {
     let r = checks::padding(codes, values, records);
     flat_verdict(r)
 }
 
-#[unsafe(no_mangle)]
-pub extern "C" fn oli_commitment(
-    table: &[u8],
-    codes: &[u8],
-    values: &[u64],
-    records: &[u8],
-) -> CheckReply
+pub fn oli_commitment(table: &[u8], codes: &[u8], values: &[u64], records: &[u8]) -> CheckReply
     ensures { result ≡ check_reply (commitment_checked 8 table.now (arena codes.now values.now records.now)) }
 {
     let r = commitment::commitment(table, codes, values, records);
@@ -393,26 +379,14 @@ fn flat_tabled(r: Tabled) -> TableReply
     }
 }
 
-#[unsafe(no_mangle)]
-pub extern "C" fn oli_raw_table(
-    codes: &[u8],
-    values: &[u64],
-    records: &[u8],
-    out: &mut [u64],
-) -> TableReply
+pub fn oli_raw_table(codes: &[u8], values: &[u64], records: &[u8], out: &mut [u64]) -> TableReply
     ensures { Tables (raw_tabled 8 (arena codes.now values.now records.now) (length out.old)) result out.old out.new }
 {
     let r = prefix::raw_to_padded(codes, values, records, out);
     flat_tabled(r)
 }
 
-#[unsafe(no_mangle)]
-pub extern "C" fn oli_padded_table(
-    codes: &[u8],
-    values: &[u64],
-    records: &[u8],
-    out: &mut [u64],
-) -> TableReply
+pub fn oli_padded_table(codes: &[u8], values: &[u64], records: &[u8], out: &mut [u64]) -> TableReply
     ensures { Tables (padded_tabled 8 (arena codes.now values.now records.now) (length out.old)) result out.old out.new }
 {
     let r = prefix::padded_to_raw(codes, values, records, out);
@@ -431,8 +405,7 @@ fn flat_padded(r: PaddedFound) -> IndexReply
     }
 }
 
-#[unsafe(no_mangle)]
-pub extern "C" fn oli_padded_index(table: &[u64], raw: usize) -> IndexReply
+pub fn oli_padded_index(table: &[u64], raw: usize) -> IndexReply
     ensures { result ≡ padded_reply (padded_index table.now (raw_at raw)) }
 {
     let r = prefix::raw_to_padded_index(table, RawIndex(raw));
@@ -451,8 +424,7 @@ fn flat_raw(r: RawFound) -> IndexReply
     }
 }
 
-#[unsafe(no_mangle)]
-pub extern "C" fn oli_raw_index(table: &[u64], padded: usize) -> IndexReply
+pub fn oli_raw_index(table: &[u64], padded: usize) -> IndexReply
     ensures { result ≡ raw_reply (raw_index table.now (padded_at padded)) }
 {
     let r = prefix::padded_to_raw_index(table, PaddedIndex(padded));
@@ -489,8 +461,7 @@ fn flat_group(r: Lookup) -> GroupReply
     }
 }
 
-#[unsafe(no_mangle)]
-pub extern "C" fn oli_group(run: &[u8], index: usize) -> GroupReply
+pub fn oli_group(run: &[u8], index: usize) -> GroupReply
     ensures { result ≡ group_reply (one_record run.now (group_lookup 8 (record_at run.now 0) index)) }
 {
     if run.len() != op_batch::RECORD {
@@ -532,8 +503,7 @@ fn flat_next(r: NextGroup) -> NextReply
     }
 }
 
-#[unsafe(no_mangle)]
-pub extern "C" fn oli_next_group(run: &[u8], group: usize) -> NextReply
+pub fn oli_next_group(run: &[u8], group: usize) -> NextReply
     ensures { result ≡ next_reply (one_record run.now (next_lookup 8 (record_at run.now 0) group)) }
 {
     if run.len() != op_batch::RECORD {
@@ -656,8 +626,7 @@ fn build_in(
     build_large(table, codes, values, out_codes, out_values, records)
 }
 
-#[unsafe(no_mangle)]
-pub extern "C" fn oli_build_le(
+pub fn oli_build_le(
     table: &[u8],
     codes: &[u8],
     values: &[u8],
@@ -746,8 +715,7 @@ fn encode_in(
     encode_large(table, codes, values, records, out, at)
 }
 
-#[unsafe(no_mangle)]
-pub extern "C" fn oli_encode_le(
+pub fn oli_encode_le(
     table: &[u8],
     codes: &[u8],
     values: &[u8],
@@ -864,8 +832,7 @@ fn decode_in(
     decode_large(strict, table, bytes, at, out_codes, out_values, records)
 }
 
-#[unsafe(no_mangle)]
-pub extern "C" fn oli_decode_le(
+pub fn oli_decode_le(
     table: &[u8],
     bytes: &[u8],
     at: usize,
@@ -881,8 +848,7 @@ pub extern "C" fn oli_decode_le(
     )
 }
 
-#[unsafe(no_mangle)]
-pub extern "C" fn oli_decode_strict_le(
+pub fn oli_decode_strict_le(
     table: &[u8],
     bytes: &[u8],
     at: usize,
@@ -898,8 +864,7 @@ pub extern "C" fn oli_decode_strict_le(
     )
 }
 
-#[unsafe(no_mangle)]
-pub extern "C" fn oli_structure_le(codes: &[u8], values: &[u8], records: &[u8]) -> CheckReply
+pub fn oli_structure_le(codes: &[u8], values: &[u8], records: &[u8]) -> CheckReply
     ensures { result ≡ check_reply (whole_words values.now (structure_checked 8 (arena codes.now (words_in values.now) records.now))) }
 {
     if !crossing::few_words(values) {
@@ -914,8 +879,7 @@ pub extern "C" fn oli_structure_le(codes: &[u8], values: &[u8], records: &[u8]) 
     oli_structure(codes, &work[..n], records)
 }
 
-#[unsafe(no_mangle)]
-pub extern "C" fn oli_padding_le(codes: &[u8], values: &[u8], records: &[u8]) -> CheckReply
+pub fn oli_padding_le(codes: &[u8], values: &[u8], records: &[u8]) -> CheckReply
     ensures { result ≡ check_reply (whole_words values.now (padding_checked 8 (arena codes.now (words_in values.now) records.now))) }
 {
     if !crossing::few_words(values) {
@@ -975,13 +939,7 @@ fn commitment_in(
     commitment_large(table, codes, values, records)
 }
 
-#[unsafe(no_mangle)]
-pub extern "C" fn oli_commitment_le(
-    table: &[u8],
-    codes: &[u8],
-    values: &[u8],
-    records: &[u8],
-) -> CheckReply
+pub fn oli_commitment_le(table: &[u8], codes: &[u8], values: &[u8], records: &[u8]) -> CheckReply
     ensures { result ≡ check_reply (whole_words values.now (commitment_checked 8 table.now (arena codes.now (words_in values.now) records.now))) }
 {
     if !crossing::few_words(values) {
@@ -1096,20 +1054,13 @@ fn table_le(codes: &[u8], values: &[u8], records: &[u8], padded: bool, out: &mut
     table_in(codes, values, &mut numbers, records, padded, &mut work, out)
 }
 
-#[unsafe(no_mangle)]
-pub extern "C" fn oli_raw_table_le(
-    codes: &[u8],
-    values: &[u8],
-    records: &[u8],
-    out: &mut [u8],
-) -> TableReply
+pub fn oli_raw_table_le(codes: &[u8], values: &[u8], records: &[u8], out: &mut [u8]) -> TableReply
     ensures { TablesBytes (whole_words values.now (raw_tabled 8 (arena codes.now (words_in values.now) records.now) (length out.old / 8))) result out.old out.new }
 {
     table_le(codes, values, records, false, out)
 }
 
-#[unsafe(no_mangle)]
-pub extern "C" fn oli_padded_table_le(
+pub fn oli_padded_table_le(
     codes: &[u8],
     values: &[u8],
     records: &[u8],
@@ -1120,8 +1071,7 @@ pub extern "C" fn oli_padded_table_le(
     table_le(codes, values, records, true, out)
 }
 
-#[unsafe(no_mangle)]
-pub extern "C" fn oli_padded_index_le(table: &[u8], raw: usize) -> IndexReply
+pub fn oli_padded_index_le(table: &[u8], raw: usize) -> IndexReply
     ensures { result ≡ padded_reply (in_whole table.now (padded_index (words_in table.now) (raw_at raw))) }
 {
     if !crossing::has_word(table, raw) {
@@ -1132,8 +1082,7 @@ pub extern "C" fn oli_padded_index_le(table: &[u8], raw: usize) -> IndexReply
     flat_padded(r)
 }
 
-#[unsafe(no_mangle)]
-pub extern "C" fn oli_raw_index_le(table: &[u8], padded: usize) -> IndexReply
+pub fn oli_raw_index_le(table: &[u8], padded: usize) -> IndexReply
     ensures { result ≡ raw_reply (in_whole table.now (raw_index (words_in table.now) (padded_at padded))) }
 {
     if !crossing::has_word(table, padded) {

@@ -5,10 +5,13 @@
 ghost use Rattle.std.specs.Prelude.{◌≤◌, ◌<◌};
 
 use build::Built;
-use console::{counted, number, say};
+use console::{Page, counted, number, say};
 use decoder::Decoded;
 use listing::{After, Block, minus, plus};
 use op_batch::OpBatch;
+use std::env::Env;
+use std::fs::File;
+use std::io::Error;
 
 // ---- a group of a batch
 
@@ -152,7 +155,7 @@ fn first_difference(batch: OpBatch, made: OpBatch) -> usize
 }
 
 // A group that is there. That it holds a value alone can't be asked: the groups before it are the same on both sides, and so are their slots.
-fn print_held(page: &mut [u8], x: Group) {
+fn print_held(page: &mut Page, x: Group) {
     if x.own == 0 {
         if x.pads == 0 {
             say(page, b"only a value");
@@ -167,13 +170,13 @@ fn print_held(page: &mut [u8], x: Group) {
     }
 }
 
-fn print_name(page: &mut [u8], g: usize) {
+fn print_name(page: &mut Page, g: usize) {
     say(page, b"group ");
     number(page, g as u64);
 }
 
 // What the block has at group g. An empty group that differs is no value's slot: those follow from the operations before it, which do not differ.
-fn print_group(page: &mut [u8], g: usize, x: Group) {
+fn print_group(page: &mut Page, g: usize, x: Group) {
     if !x.there {
         say(page, b"the batch ends before ");
         print_name(page, g);
@@ -189,7 +192,7 @@ fn print_group(page: &mut [u8], g: usize, x: Group) {
 }
 
 // What the batcher has there.
-fn print_made(page: &mut [u8], y: Group) {
+fn print_made(page: &mut Page, y: Group) {
     if !y.there {
         say(page, b", the batcher ends the batch before it");
         return;
@@ -200,21 +203,21 @@ fn print_made(page: &mut [u8], y: Group) {
 }
 
 // A flag alone differs, and no group is there.
-fn print_flagged(page: &mut [u8], g: usize, count: usize) {
+fn print_flagged(page: &mut Page, g: usize, count: usize) {
     print_name(page, g);
     say(page, b" is flagged, and the batch has only ");
     counted(page, count, b" group", b" groups");
 }
 
 // The batcher goes on with padding alone.
-fn print_unfilled(page: &mut [u8], count: usize, made: usize) {
+fn print_unfilled(page: &mut Page, count: usize, made: usize) {
     say(page, b"the batch has ");
     counted(page, count, b" group", b" groups");
     say(page, b", the batcher fills it up to ");
     number(page, made as u64);
 }
 
-fn print_at(page: &mut [u8], batch: OpBatch, made: OpBatch, g: usize)
+fn print_at(page: &mut Page, batch: OpBatch, made: OpBatch, g: usize)
     requires { g < 8 }
 {
     let x = group_at(batch, g);
@@ -234,14 +237,14 @@ fn print_at(page: &mut [u8], batch: OpBatch, made: OpBatch, g: usize)
 }
 
 // True of every block that is refused so.
-fn print_unlike(page: &mut [u8]) {
+fn print_unlike(page: &mut Page) {
     say(
         page,
         b"batching the block's own operations gives another batch",
     );
 }
 
-fn print_difference(page: &mut [u8], batch: OpBatch, made: OpBatch) {
+fn print_difference(page: &mut Page, batch: OpBatch, made: OpBatch) {
     let g = first_difference(batch, made);
     if g < 8 {
         print_at(page, batch, made, g);
@@ -254,7 +257,7 @@ fn print_difference(page: &mut [u8], batch: OpBatch, made: OpBatch) {
 
 // Its batch at the place is held against the one that batching its own list gives there. The block's lent runs take what is batched.
 fn print_against(
-    page: &mut [u8],
+    page: &mut Page,
     list_codes: &[u8],
     list_values: &[u64],
     batch: OpBatch,
@@ -285,7 +288,7 @@ fn print_against(
 }
 
 fn print_batch(
-    page: &mut [u8],
+    page: &mut Page,
     list_codes: &[u8],
     list_values: &[u64],
     batch: OpBatch,
@@ -312,7 +315,7 @@ fn print_batch(
     );
 }
 
-fn print_many(page: &mut [u8], n: usize) {
+fn print_many(page: &mut Page, n: usize) {
     say(page, b": the block's own list has ");
     number(page, n as u64);
     say(page, b" operations, more than 16384");
@@ -320,7 +323,7 @@ fn print_many(page: &mut [u8], n: usize) {
 
 // A block of so many batches.
 fn print_block(
-    page: &mut [u8],
+    page: &mut Page,
     batches: usize,
     place: usize,
     codes: &mut [u8],
@@ -360,7 +363,7 @@ fn print_block(
 
 // The block is read once more, since a strict read that is refused leaves nothing of it.
 fn print_why(
-    page: &mut [u8],
+    page: &mut Page,
     s: &[u8],
     place: usize,
     codes: &mut [u8],
@@ -384,13 +387,13 @@ fn print_why(
 
 // ---- a file's line
 
-fn start(page: &mut [u8], answer: &[u8], path: &[u8]) {
+fn start(page: &mut Page, answer: &[u8], path: &[u8]) {
     say(page, answer);
     console::quote(page, path, 4096);
     say(page, b": ");
 }
 
-fn start_refused(page: &mut [u8], path: &[u8], s: &[u8], refusal: u8, place: usize) {
+fn start_refused(page: &mut Page, path: &[u8], s: &[u8], refusal: u8, place: usize) {
     start(page, b"not finished ", path);
     listing::print_numbered(page, s, 0, refusal, place);
 }
@@ -406,14 +409,14 @@ fn after(read: usize, used: usize, whole: bool) -> After {
     After::AtLeast(read - used)
 }
 
-fn print_finished(page: &mut [u8], path: &[u8], records: &[u8], block: Block, rest: After) {
+fn print_finished(page: &mut Page, path: &[u8], records: &[u8], block: Block, rest: After) {
     start(page, b"finished ", path);
     listing::print_totals(page, records, block, rest);
 }
 
 // A refused block; the lent runs are there to find out why.
 fn refused(
-    page: &mut [u8],
+    page: &mut Page,
     path: &[u8],
     s: &[u8],
     refusal: u8,
@@ -434,7 +437,7 @@ fn refused(
 }
 
 // The first bytes of a file, as many as a block may have.
-fn check_bytes(page: &mut [u8], path: &[u8], s: &[u8], whole: bool) {
+fn check_bytes(page: &mut Page, path: &[u8], s: &[u8], whole: bool) {
     let table = vm::table();
     let mut codes = space::codes();
     let mut values = space::values();
@@ -469,16 +472,15 @@ fn check_bytes(page: &mut [u8], path: &[u8], s: &[u8], whole: bool) {
 
 // ---- files
 
-fn unread(page: &mut [u8], path: &[u8]) {
-    let error = os::errno();
+fn unread(page: &mut Page, path: &[u8], error: Error) {
     start(page, b"not finished ", path);
     console::unread(page, error);
 }
 
-fn check_read(page: &mut [u8], path: &[u8], fd: i32, room: &mut [u8]) {
-    let got = console::fill(fd, room);
-    if got.failed {
-        unread(page, path);
+fn check_read(page: &mut Page, path: &[u8], file: &mut File, room: &mut [u8]) {
+    let got = console::fill(file, room);
+    if let Some(error) = got.failed {
+        unread(page, path, error);
         return;
     }
     let n = got.count;
@@ -486,66 +488,62 @@ fn check_read(page: &mut [u8], path: &[u8], fd: i32, room: &mut [u8]) {
     check_bytes(page, path, &room[..n], whole);
 }
 
-fn check_open(page: &mut [u8], path: &[u8], fd: i32) {
+fn check_open(page: &mut Page, path: &[u8], file: &mut File) {
     let mut room = space::bytes();
-    check_read(page, path, fd, &mut room);
+    check_read(page, path, file, &mut room);
 }
 
-fn check_file(page: &mut [u8], path: &[u8]) {
-    let fd = os::open_read(path);
-    if fd < 0 {
-        unread(page, path);
-        return;
+fn check_file(rt: HostRuntime, page: &mut Page, path: &[u8]) {
+    match console::open(rt, path) {
+        Ok(mut file) => check_open(page, path, &mut file),
+        Err(error) => unread(page, path, error),
     }
-    check_open(page, path, fd);
-    libc::close(fd);
 }
 
 // ---- arguments
 
-fn help(page: &mut [u8]) {
+fn help(page: &mut Page) {
     say(
         page,
         b"finished FILE...: says for each file, in one line, whether the block that it starts with is finished: whether batching the block's own\noperations (flagged padding dropped), under the virtual machine's own table, writes those very bytes.\nThe line starts with `finished`, and has the block's totals and how many bytes follow it, if any do; or it starts with `not finished`, and has\nthe number of the refusal, where it is and what is wrong: 18 where the block can be read and is not finished, with the first batch that is\ndifferent and what is different there. A file that cannot be read has a line too, without a number. A list has at most 16384 operations.\n",
     );
 }
 
-fn check_name(page: &mut [u8], path: &[u8]) {
+fn check_name(rt: HostRuntime, page: &mut Page, path: &[u8]) {
     if check::same(path, b"--help") {
         help(page);
         return;
     }
-    check_file(page, path);
+    check_file(rt, page, path);
 }
 
 // The i-th argument.
-fn check_argument(page: &mut [u8], i: usize) {
-    let mut path = io::buffer();
-    let n = os::arg(i, &mut path);
-    if os::errno() != 0 {
+fn check_argument(rt: HostRuntime, page: &mut Page, i: usize) {
+    let mut path = [0u8; 4096];
+    let Ok(n) = rt.arg(i, &mut path) else {
         say(page, b"not finished: the name of file ");
         number(page, i as u64);
         say(page, b" is too long\n");
         return;
-    }
-    check_name(page, &path[..n]);
+    };
+    check_name(rt, page, &path[..n]);
 }
 
-fn check_arguments(page: &mut [u8], count: usize) {
+fn check_arguments(rt: HostRuntime, page: &mut Page, count: usize) {
     let mut i: usize = 1;
     while i < count {
-        check_argument(page, i);
+        check_argument(rt, page, i);
         console::flush(page);
         i += 1;
     }
 }
 
-fn main() {
-    let count = os::arg_count();
+fn main(rt: HostRuntime) {
+    let count = console::arguments(rt);
     if count < 2 {
-        console::tell(b"usage: finished FILE... (finished --help says more)\n");
+        console::tell(rt, b"usage: finished FILE... (finished --help says more)\n");
         return;
     }
-    let mut page = console::output();
-    check_arguments(&mut page, count);
+    let mut page = console::output(rt);
+    check_arguments(rt, &mut page, count);
 }

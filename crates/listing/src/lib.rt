@@ -4,7 +4,7 @@
 ghost use Rattle.std.specs.Prelude.{◌+◌, ◌<◌, ◌≤◌};
 ghost use Rattle.io.specs.Counts.{IsPrefixLen};
 
-use console::{byte, counted, number, say};
+use console::{Page, byte, counted, number, say};
 use op_batch::OpBatch;
 use wire::CountRead;
 
@@ -47,7 +47,7 @@ fn name(code: u8, out: &mut [u8]) -> usize
 }
 
 // An operation's name, or its number where it has none.
-fn print_name(page: &mut [u8], code: u8) {
+fn print_name(page: &mut Page, code: u8) {
     let mut text = [0u8; 16];
     let n = name(code, &mut text);
     if n == 0 {
@@ -59,7 +59,7 @@ fn print_name(page: &mut [u8], code: u8) {
 }
 
 // An operation, with its value where its kind has one.
-fn print_op(page: &mut [u8], code: u8, v: u64) {
+fn print_op(page: &mut Page, code: u8, v: u64) {
     say(page, b" ");
     print_name(page, code);
     if vm::kind(code) == 0 {
@@ -71,7 +71,7 @@ fn print_op(page: &mut [u8], code: u8, v: u64) {
 }
 
 // The one at a place, after a space.
-pub fn print_op_at(page: &mut [u8], codes: &[u8], values: &[u64], at: usize) {
+pub fn print_op_at(page: &mut Page, codes: &[u8], values: &[u64], at: usize) {
     if at < codes.len() {
         if at < values.len() {
             print_op(page, codes[at], values[at]);
@@ -80,7 +80,7 @@ pub fn print_op_at(page: &mut [u8], codes: &[u8], values: &[u64], at: usize) {
 }
 
 // The n operations from `at` on.
-fn print_ops(page: &mut [u8], codes: &[u8], values: &[u64], at: usize, n: usize) {
+fn print_ops(page: &mut Page, codes: &[u8], values: &[u64], at: usize, n: usize) {
     let mut i: usize = 0;
     while i < n {
         print_op_at(page, codes, values, plus(at, i));
@@ -123,7 +123,7 @@ struct Place {
     byte: usize,
 }
 
-fn print_head(page: &mut [u8], codes: &[u8], group: u64, at: Place, from: usize) {
+fn print_head(page: &mut Page, codes: &[u8], group: u64, at: Place, from: usize) {
     say(page, b", number ");
     number(page, group);
     say(page, b", operation ");
@@ -146,7 +146,7 @@ pub fn record(records: &[u8], b: usize) -> OpBatch {
     }
 }
 
-fn print_end(page: &mut [u8], flag: u8) {
+fn print_end(page: &mut Page, flag: u8) {
     if flag != 0 {
         say(page, b" [padding]\n");
         return;
@@ -155,7 +155,7 @@ fn print_end(page: &mut [u8], flag: u8) {
 }
 
 // Group g of a batch.
-fn print_group(page: &mut [u8], codes: &[u8], values: &[u64], batch: OpBatch, at: Place, g: usize)
+fn print_group(page: &mut Page, codes: &[u8], values: &[u64], batch: OpBatch, at: Place, g: usize)
     requires { g < 8 }
 {
     let from = batch.starts[g] as usize;
@@ -174,7 +174,7 @@ fn print_group(page: &mut [u8], codes: &[u8], values: &[u64], batch: OpBatch, at
 }
 
 // The groups of a batch.
-fn print_groups(page: &mut [u8], codes: &[u8], values: &[u64], batch: OpBatch, at: Place) {
+fn print_groups(page: &mut Page, codes: &[u8], values: &[u64], batch: OpBatch, at: Place) {
     let count = batch.count as usize;
     let mut g: usize = 0;
     while g < 8 {
@@ -187,7 +187,7 @@ fn print_groups(page: &mut [u8], codes: &[u8], values: &[u64], batch: OpBatch, a
 }
 
 // Group g is at or above the group count: its flag, where it is set, marks no padding.
-fn print_flag(page: &mut [u8], g: usize, flag: u8) {
+fn print_flag(page: &mut Page, g: usize, flag: u8) {
     if flag == 0 {
         return;
     }
@@ -200,7 +200,7 @@ fn print_flag(page: &mut [u8], g: usize, flag: u8) {
 }
 
 // The flags of a batch at or above its group count.
-fn print_flags(page: &mut [u8], batch: OpBatch) {
+fn print_flags(page: &mut Page, batch: OpBatch) {
     let mut g = batch.count as usize;
     while g < 8 {
         print_flag(page, g, batch.flags[g]);
@@ -208,7 +208,7 @@ fn print_flags(page: &mut [u8], batch: OpBatch) {
     }
 }
 
-fn print_batch(page: &mut [u8], b: usize, groups: usize, operations: usize) {
+fn print_batch(page: &mut Page, b: usize, groups: usize, operations: usize) {
     say(page, b"batch ");
     number(page, b as u64);
     say(page, b": ");
@@ -218,7 +218,7 @@ fn print_batch(page: &mut [u8], b: usize, groups: usize, operations: usize) {
 
 // The batches of a block whose first operation is at a byte.
 fn print_batches(
-    page: &mut [u8],
+    page: &mut Page,
     codes: &[u8],
     values: &[u64],
     records: &[u8],
@@ -293,12 +293,12 @@ pub enum After {
     AtLeast(usize),
 }
 
-fn print_rest(page: &mut [u8], then: &[u8], n: usize) {
+fn print_rest(page: &mut Page, then: &[u8], n: usize) {
     say(page, then);
     counted(page, n, b" more byte\n", b" more bytes\n");
 }
 
-fn print_after(page: &mut [u8], after: After) {
+fn print_after(page: &mut Page, after: After) {
     match after {
         After::Unasked => say(page, b"\n"),
         After::Bytes(n) => print_rest(page, b", then ", n),
@@ -315,14 +315,14 @@ pub struct Block {
     pub used: usize,
 }
 
-fn print_start(page: &mut [u8], at: usize) {
+fn print_start(page: &mut Page, at: usize) {
     say(page, b"block at byte ");
     number(page, at as u64);
     say(page, b": ");
 }
 
 // In a line: the totals of a block, and what stands after it.
-pub fn print_totals(page: &mut [u8], records: &[u8], block: Block, after: After) {
+pub fn print_totals(page: &mut Page, records: &[u8], block: Block, after: After) {
     let batches = block.batches;
     if MOST_BATCHES < batches {
         return;
@@ -340,8 +340,8 @@ pub fn print_totals(page: &mut [u8], records: &[u8], block: Block, after: After)
 }
 
 // The totals alone.
-pub fn print_line(records: &[u8], block: Block) {
-    let mut page = console::output();
+pub fn print_line(rt: HostRuntime, records: &[u8], block: Block) {
+    let mut page = console::output(rt);
     print_start(&mut page, block.at);
     print_totals(&mut page, records, block, After::Unasked);
     console::flush(&mut page);
@@ -349,6 +349,7 @@ pub fn print_line(records: &[u8], block: Block) {
 
 // The totals, and the batches; and whether they could be written.
 pub fn print_block(
+    rt: HostRuntime,
     codes: &[u8],
     values: &[u64],
     records: &[u8],
@@ -359,7 +360,7 @@ pub fn print_block(
     if MOST_BATCHES < batches {
         return false;
     }
-    let mut page = console::output();
+    let mut page = console::output(rt);
     print_start(&mut page, block.at);
     print_totals(&mut page, records, block, after);
     let first = plus(block.at, wire::count_size(block.operations as u64));
@@ -417,7 +418,7 @@ pub fn place_byte(s: &[u8], from: usize, refusal: u8, place: usize) -> usize {
 // ---- refusals
 
 // What a number of refusal means (document 01, "Numbers of refusal", M-101 for 4 and 17, M-107 for 18), in the words of rust/oliastrofu.
-fn print_meaning(page: &mut [u8], refusal: u8) {
+fn print_meaning(page: &mut Page, refusal: u8) {
     match refusal {
         1 => say(page, b"the place to begin at is past the end of the bytes"),
         2 => say(
@@ -459,13 +460,13 @@ fn print_meaning(page: &mut [u8], refusal: u8) {
     }
 }
 
-pub fn print_at(page: &mut [u8], what: &[u8], place: usize) {
+pub fn print_at(page: &mut Page, what: &[u8], place: usize) {
     say(page, what);
     number(page, place as u64);
 }
 
 // What the place of a refusal counts; nothing where it is a byte or always 0.
-fn print_place(page: &mut [u8], refusal: u8, place: usize) {
+fn print_place(page: &mut Page, refusal: u8, place: usize) {
     match refusal {
         4 | 17 => print_at(page, b", operation ", place),
         6 | 7 | 8 | 9 | 10 | 15 | 16 | 18 => print_at(page, b", in batch ", place),
@@ -474,13 +475,13 @@ fn print_place(page: &mut [u8], refusal: u8, place: usize) {
 }
 
 // What a refusal means, and its place.
-pub fn print_words(page: &mut [u8], refusal: u8, place: usize) {
+pub fn print_words(page: &mut Page, refusal: u8, place: usize) {
     print_meaning(page, refusal);
     print_place(page, refusal, place);
 }
 
 // The same after its number.
-pub fn print_refusal(page: &mut [u8], refusal: u8, place: usize) {
+pub fn print_refusal(page: &mut Page, refusal: u8, place: usize) {
     say(page, b"refusal ");
     number(page, word::wide(refusal));
     say(page, b": ");
@@ -488,7 +489,7 @@ pub fn print_refusal(page: &mut [u8], refusal: u8, place: usize) {
 }
 
 // The number of a refusal of decode, and the byte that it points to, where it has one.
-pub fn print_numbered(page: &mut [u8], s: &[u8], from: usize, refusal: u8, place: usize) {
+pub fn print_numbered(page: &mut Page, s: &[u8], from: usize, refusal: u8, place: usize) {
     number(page, word::wide(refusal));
     match refusal {
         2..=10 | 17 => print_at(page, b" at byte ", place_byte(s, from, refusal, place)),

@@ -488,7 +488,7 @@ fn new_table(s: &[u8], from: usize, table: &mut [u8]) -> Left
     }
 }
 
-fn line(n: usize, s: &[u8], t: usize, table: &mut [u8], counts: &mut [u64]) -> Left
+fn line(rt: HostRuntime, n: usize, s: &[u8], t: usize, table: &mut [u8], counts: &mut [u64]) -> Left
     requires { t ≤ length table.old }
     ensures { result.table ≤ length table.new }
 {
@@ -497,6 +497,7 @@ fn line(n: usize, s: &[u8], t: usize, table: &mut [u8], counts: &mut [u64]) -> L
         return new_table(s, what.at, table);
     }
     let start = Case {
+        rt,
         line: n,
         what: what.value,
         at: what.at,
@@ -517,7 +518,7 @@ fn line(n: usize, s: &[u8], t: usize, table: &mut [u8], counts: &mut [u64]) -> L
 }
 
 // The lines of a file, up to the first that is neither a case nor a table; its number, or 0 where there is none.
-fn lines(s: &[u8], counts: &mut [u64]) -> usize {
+fn lines(rt: HostRuntime, s: &[u8], counts: &mut [u64]) -> usize {
     let mut table = [0u8; 256];
     let mut t: usize = 0;
     let mut from: usize = 0;
@@ -525,7 +526,7 @@ fn lines(s: &[u8], counts: &mut [u64]) -> usize {
     while from < s.len() {
         n += 1;
         let end = text::line_end(s, from);
-        let left = line(n, &s[from..end], t, &mut table, counts);
+        let left = line(rt, n, &s[from..end], t, &mut table, counts);
         if !left.well {
             return n;
         }
@@ -535,88 +536,89 @@ fn lines(s: &[u8], counts: &mut [u64]) -> usize {
     0
 }
 
-fn print_count(what: u64, n: usize) {
+fn print_count(rt: HostRuntime, what: u64, n: usize) {
     if n == 0 {
         return;
     }
-    say(b"  ");
-    say_function(what);
-    say(b": ");
-    print(n);
-    say(b" agree\n");
+    say(rt, b"  ");
+    say_function(rt, what);
+    say(rt, b": ");
+    print(rt, n);
+    say(rt, b" agree\n");
 }
 
-fn print_counts(counts: &[u64]) {
+fn print_counts(rt: HostRuntime, counts: &[u64]) {
     let mut what: usize = 1;
     while what <= 14 {
-        print_count(what as u64, counted(counts, what));
+        print_count(rt, what as u64, counted(counts, what));
         what += 1;
     }
 }
 
-fn not_read(path: &[u8], counts: &mut [u64], why: &[u8]) {
-    say(b"  ");
-    say(path);
-    say(why);
+fn not_read(rt: HostRuntime, path: &[u8], counts: &mut [u64], why: &[u8]) {
+    say(rt, b"  ");
+    say(rt, path);
+    say(rt, why);
     add(counts, NOT_READ);
 }
 
 // How many bytes of text the file has; all of the room where it is too long, none where it can't be read.
-fn load(path: &[u8], text: &mut [u8]) -> usize
+fn load(rt: HostRuntime, path: &[u8], text: &mut [u8]) -> usize
     ensures { IsPrefixLen result text.new }
 {
-    let fd = os::open_read(path);
-    if fd < 0 {
+    let Ok(mut file) = console::open(rt, path) else {
         return 0;
-    }
-    let got = console::fill(fd, text);
-    libc::close(fd);
-    if got.failed {
+    };
+    let got = console::fill(&mut file, text);
+    if got.failed.is_some() {
         return 0;
     }
     got.count
 }
 
 // The counts of a file, and the line where it was left, if it was.
-fn finish(path: &[u8], counts: &mut [u64], stopped: usize) {
-    print_counts(counts);
+fn finish(rt: HostRuntime, path: &[u8], counts: &mut [u64], stopped: usize) {
+    print_counts(rt, counts);
     if stopped == 0 {
         return;
     }
-    not_read(path, counts, b", line ");
-    print(stopped);
-    say(b": neither a case nor a table; what comes after it is not run\n");
+    not_read(rt, path, counts, b", line ");
+    print(rt, stopped);
+    say(
+        rt,
+        b": neither a case nor a table; what comes after it is not run\n",
+    );
 }
 
-fn file(path: &[u8], counts: &mut [u64]) {
-    say(path);
-    say(b"\n");
+fn file(rt: HostRuntime, path: &[u8], counts: &mut [u64]) {
+    say(rt, path);
+    say(rt, b"\n");
     fill64(counts, 0, CASES, 0);
     let mut text = text_room();
-    let n = load(path, &mut text);
+    let n = load(rt, path, &mut text);
     if n == 0 {
-        not_read(path, counts, b" cannot be read, or has nothing in it\n");
+        not_read(rt, path, counts, b" cannot be read, or has nothing in it\n");
         return;
     }
     if n == text.len() {
-        not_read(path, counts, b" is longer than 262143 bytes\n");
+        not_read(rt, path, counts, b" is longer than 262143 bytes\n");
         return;
     }
-    let stopped = lines(&text[..n], counts);
-    finish(path, counts, stopped);
+    let stopped = lines(rt, &text[..n], counts);
+    finish(rt, path, counts, stopped);
 }
 
-fn total(counts: &[u64]) {
-    print(counted(counts, CASES));
-    say(b" cases, ");
-    print(counted(counts, DIFFER));
-    say(b" differ");
+fn total(rt: HostRuntime, counts: &[u64]) {
+    print(rt, counted(counts, CASES));
+    say(rt, b" cases, ");
+    print(rt, counted(counts, DIFFER));
+    say(rt, b" differ");
     let n = counted(counts, NOT_READ);
     if 0 < n {
-        say(b"; files not read to the end: ");
-        print(n);
+        say(rt, b"; files not read to the end: ");
+        print(rt, n);
     }
-    say(b"\n");
+    say(rt, b"\n");
 }
 
 // ---- room
@@ -635,43 +637,44 @@ fn text_room() -> [u8; 262144]
 }
 
 // The file that an argument names.
-fn argument(i: usize, counts: &mut [u64]) {
-    let mut path = io::buffer();
-    let n = os::arg(i, &mut path);
-    file(&path[..n], counts);
+fn argument(rt: HostRuntime, i: usize, counts: &mut [u64]) {
+    let mut path = [0u8; 4096];
+    let n = console::argument(rt, i, &mut path);
+    file(rt, &path[..n], counts);
 }
 
-fn files(count: usize, counts: &mut [u64]) {
+fn files(rt: HostRuntime, count: usize, counts: &mut [u64]) {
     let mut i: usize = 1;
     while i < count {
-        argument(i, counts);
+        argument(rt, i, counts);
         i += 1;
     }
 }
 
-fn help() {
-    say(b"usage: replay FILE..\n");
+fn help(rt: HostRuntime) {
+    say(rt, b"usage: replay FILE..\n");
     say(
+        rt,
         b"Runs the cases of each file (rust/README.md) on the exported functions, and says where a reply or an output is not the file's.\n",
     );
 }
 
-fn asked_for_help() -> bool {
-    let mut word = io::buffer();
-    let n = os::arg(1, &mut word);
+fn asked_for_help(rt: HostRuntime) -> bool {
+    let mut word = [0u8; 4096];
+    let n = console::argument(rt, 1, &mut word);
     check::same(&word[..n], b"--help")
 }
 
-fn main() {
-    if os::arg_count() < 2 {
-        console::tell(b"usage: replay FILE.. (replay --help says more)\n");
+fn main(rt: HostRuntime) {
+    if console::arguments(rt) < 2 {
+        console::tell(rt, b"usage: replay FILE.. (replay --help says more)\n");
         return;
     }
-    if asked_for_help() {
-        help();
+    if asked_for_help(rt) {
+        help(rt);
         return;
     }
     let mut counts = [0u64; 18];
-    files(os::arg_count(), &mut counts);
-    total(&counts);
+    files(rt, console::arguments(rt), &mut counts);
+    total(rt, &counts);
 }

@@ -4,19 +4,23 @@
 
 ghost use Rattle.std.specs.Prelude.{◌≤◌};
 
+use console::Page;
 use decoder::Decoded;
 use listing::{After, Block, plus};
+use std::env::Env;
+use std::fs::File;
+use std::io::{Result, Seek, SeekFrom};
 use text::Number;
 
 // ---- a block
 
-fn say_byte(page: &mut [u8], what: &[u8], at: usize) {
+fn say_byte(page: &mut Page, what: &[u8], at: usize) {
     console::say(page, what);
     console::number(page, at as u64);
 }
 
 // The byte that a refusal points to, where it has one.
-fn say_place(page: &mut [u8], s: &[u8], at: usize, refusal: u8, place: usize) {
+fn say_place(page: &mut Page, s: &[u8], at: usize, refusal: u8, place: usize) {
     match refusal {
         2 => say_byte(page, b", in the item that starts at byte ", plus(at, place)),
         3..=10 | 17 => say_byte(
@@ -28,8 +32,8 @@ fn say_place(page: &mut [u8], s: &[u8], at: usize, refusal: u8, place: usize) {
     }
 }
 
-fn refused(path: &[u8], s: &[u8], at: usize, refusal: u8, place: usize) {
-    let mut line = console::errors();
+fn refused(rt: HostRuntime, path: &[u8], s: &[u8], at: usize, refusal: u8, place: usize) {
+    let mut line = console::errors(rt);
     console::about(&mut line, b"show", path);
     console::say(&mut line, b": ");
     listing::print_refusal(&mut line, refusal, place);
@@ -50,7 +54,7 @@ fn after(last: usize, end: usize, read: usize, used: usize) -> After {
 }
 
 // The bytes of the file from `at` on, as many as a block may have.
-fn show(path: &[u8], bytes: &[u8], at: usize, end: usize) {
+fn show(rt: HostRuntime, path: &[u8], bytes: &[u8], at: usize, end: usize) {
     let table = vm::table();
     let mut codes = space::codes();
     let mut values = space::values();
@@ -69,9 +73,9 @@ fn show(path: &[u8], bytes: &[u8], at: usize, end: usize) {
                 used,
             };
             let rest = after(plus(at, used), end, bytes.len(), used);
-            listing::print_block(&codes, &values, &records, block, rest);
+            listing::print_block(rt, &codes, &values, &records, block, rest);
         }
-        Decoded::Refused { number, place } => refused(path, bytes, at, number, place),
+        Decoded::Refused { number, place } => refused(rt, path, bytes, at, number, place),
     }
 }
 
@@ -79,108 +83,110 @@ fn show(path: &[u8], bytes: &[u8], at: usize, end: usize) {
 
 const LAST: usize = 9223372036854775807;
 
-fn seek(fd: i32, at: usize) -> bool
+fn seek(file: &mut File, at: usize) -> Result<()>
     requires { at ≤ 9223372036854775807 }
 {
     if at == 0 {
-        return true;
+        return Ok(());
     }
-    0 <= libc::lseek(fd, at as i64, libc::SEEK_SET)
+    match file.seek(SeekFrom::Start(at as u64)) {
+        Ok(_) => Ok(()),
+        Err(error) => Err(error),
+    }
 }
 
 // Where the file ends; 0 where it is a pipe.
-fn end_of(fd: i32) -> usize {
-    let end = libc::lseek(fd, 0, libc::SEEK_END);
-    if 0 <= end {
-        return end as usize;
+fn end_of(file: &mut File) -> usize {
+    match file.seek(SeekFrom::End(0)) {
+        Ok(end) => end as usize,
+        Err(_) => 0,
     }
-    0
 }
 
-fn show_read(path: &[u8], fd: i32, at: usize, room: &mut [u8]) {
-    let got = console::fill(fd, room);
-    if got.failed {
-        console::fail(b"show", path);
+fn show_read(rt: HostRuntime, path: &[u8], file: &mut File, at: usize, room: &mut [u8]) {
+    let got = console::fill(file, room);
+    if let Some(error) = got.failed {
+        console::fail(rt, b"show", path, error);
         return;
     }
     let n = got.count;
     let read = plus(at, n);
-    let end = end_of(fd);
+    let end = end_of(file);
     if n == 0 && end < at {
-        refused(path, b"", at, 1, 0);
+        refused(rt, path, b"", at, 1, 0);
         return;
     }
     if n < room.len() {
-        show(path, &room[..n], at, read);
+        show(rt, path, &room[..n], at, read);
         return;
     }
-    show(path, &room[..n], at, end);
+    show(rt, path, &room[..n], at, end);
 }
 
-fn show_from(path: &[u8], fd: i32, at: usize) {
+fn show_from(rt: HostRuntime, path: &[u8], file: &mut File, at: usize) {
     if LAST < at {
-        refused(path, b"", at, 1, 0);
+        refused(rt, path, b"", at, 1, 0);
         return;
     }
-    if !seek(fd, at) {
-        console::fail(b"show", path);
+    if let Err(error) = seek(file, at) {
+        console::fail(rt, b"show", path, error);
         return;
     }
     let mut room = space::bytes();
-    show_read(path, fd, at, &mut room);
+    show_read(rt, path, file, at, &mut room);
 }
 
-fn show_file(path: &[u8], at: usize) {
-    let fd = os::open_read(path);
-    if fd < 0 {
-        console::fail(b"show", path);
-        return;
+fn show_file(rt: HostRuntime, path: &[u8], at: usize) {
+    match console::open(rt, path) {
+        Ok(mut file) => show_from(rt, path, &mut file, at),
+        Err(error) => console::fail(rt, b"show", path, error),
     }
-    show_from(path, fd, at);
-    libc::close(fd);
 }
 
 // ---- arguments
 
 // The offset that the second argument names; 0 where there is none.
-fn offset() -> Number {
-    if os::arg_count() < 3 {
+fn offset(rt: HostRuntime) -> Number {
+    if console::arguments(rt) < 3 {
         return Number::Is(0);
     }
-    let mut argument = io::buffer();
-    let n = os::arg(2, &mut argument);
+    let mut argument = [0u8; 4096];
+    let n = console::argument(rt, 2, &mut argument);
     text::either(&argument[..n])
 }
 
-fn help() {
+fn help(rt: HostRuntime) {
     console::print(
+        rt,
         b"show FILE [OFFSET]: prints the batches of the block that starts at byte OFFSET of FILE (0 where none is given), under the virtual machine's\nown table; or says on standard error, in one line, what is wrong: the number of the refusal, what it means, and where.\nFor a group it prints its number, the index of its first operation in the block, and the byte of the file where that operation starts.\nThe file may have any size: the 1048576 bytes from OFFSET on are read, and no block is longer than 671742.\nWhat is printed was read from a whole block: one that is cut short is refused. Not noticed: batch data of another list that\nfits these operations, which batching the list again would show; and a changed byte that leaves a good block, which a checksum would show.\n",
     );
 }
 
-fn run(path: &[u8]) {
+fn run(rt: HostRuntime, path: &[u8]) {
     if check::same(path, b"--help") {
-        help();
+        help(rt);
         return;
     }
-    let at = offset();
+    let at = offset(rt);
     match at {
-        Number::Is(from) => show_file(path, from as usize),
-        Number::Not | Number::Large => console::tell(b"show: OFFSET is not a number of bytes\n"),
+        Number::Is(from) => show_file(rt, path, from as usize),
+        Number::Not | Number::Large => console::tell(
+            rt,
+            b"show: OFFSET is not a number of bytes\n",
+        ),
     }
 }
 
-fn main() {
-    let count = os::arg_count();
+fn main(rt: HostRuntime) {
+    let count = console::arguments(rt);
     if count < 2 || 3 < count {
-        console::tell(b"usage: show FILE [OFFSET] (show --help says more)\n");
+        console::tell(rt, b"usage: show FILE [OFFSET] (show --help says more)\n");
         return;
     }
-    let mut path = io::buffer();
-    let n = os::arg(1, &mut path);
-    if os::errno() != 0 {
-        console::tell(b"show: the name of the file is too long\n");
+    let mut path = [0u8; 4096];
+    let Ok(n) = rt.arg(1, &mut path) else {
+        console::tell(rt, b"show: the name of the file is too long\n");
         return;
-    }
-    run(&path[..n]);
+    };
+    run(rt, &path[..n]);
 }

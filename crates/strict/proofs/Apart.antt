@@ -19,7 +19,6 @@ use Rattle.rules.specs.Strict.{same}
 use Rattle.rules.proofs.Operations.{true_left, true_right}
 use Rattle.rules.proofs.Digits.{split}
 use Rattle.rules.proofs.Runs.{fitted_length}
-use Rattle.op_batch.proofs.Right.{sound}
 use Rattle.checks.proofs.Groups.{right_starts, Bytes, differences_bytes, differences_length, flags_small}
 use Rattle.checks.proofs.Walk.{records_turn, records_end}
 use Rattle.claims.proofs.Shape.{RightGroup, RightBatch}

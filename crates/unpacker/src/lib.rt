@@ -143,7 +143,7 @@ pub fn decode_batch(
     requires table_len { (length table.now ≡ 128) × (length codes.now ≡ length values.now) × Coded codes.now }
     requires at_in_bounds { (at ≤ length codes.now) × (record_size * b + record_size ≤ length records.old) }
     requires width_bound { (width ≤ 8) × RightSizes width deltas }
-    ensures* { λ r. ⌜ Staged (λ (r : Record). r.count) (λ (r : Record) (end : ℕ). (records.new ≡ record_set b r records.old) × (length (record_bytes r) ≡ record_size) × (end ≤ length codes.now)) (batch_at width table.now (operations codes.now values.now) at b (digits 16 8 deltas) (digits 2 8 flags)) r ⌝ }
+    ensures { Staged (λ (r : Record). r.count) (λ (r : Record) (end : ℕ). (records.new ≡ record_set b r records.old) × (length (record_bytes r) ≡ record_size) × (end ≤ length codes.now)) (batch_at width table.now (operations codes.now values.now) at b (digits 16 8 deltas) (digits 2 8 flags)) result }
 {
     if codes.len() - at < operations_in(deltas) {
         return CountRead::Refused {

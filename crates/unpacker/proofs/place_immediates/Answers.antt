@@ -1,5 +1,4 @@
 use mathlib.Core.Path.{◌∙◌}
-use Prim.Native.Nat.{◌-◌}
 use native.Mathlib.Omega.{arith}
 use Rattle.unpacker.proofs.Groups as G
 use Rattle.unpacker.proofs.place_immediates.Goals as goal
@@ -17,21 +16,21 @@ pub loop-i-preserved-then-table-codes-ne1 : goal.loop-i-preserved-then-table-cod
 loop-i-preserved-then-table-codes-ne1 c =
     let l = c.loop-i in
     let k = c.requires.table_len.2 l.i (omega arith) in
-    (omega arith, G.place-plain _ _ _ _ _ _ _ _ _ _ _ l.invariant.1 _ (G.due-plain c.args.table.now c.args.codes.now c.args.values.now l.i (omega arith) (omega arith) (omega arith) c.if-table-codes-ne1.true))
+    (omega arith, G.place_plain _ _ _ _ _ _ _ _ _ _ _ l.invariant.1 _ (G.due_plain c.args.table.now c.args.codes.now c.args.values.now l.i (omega arith) (omega arith) (omega arith) c.if-table-codes-ne1.true))
 
 pub returns-then-width-next : goal.returns-then-width-next
 returns-then-width-next c =
     let l = c.loop-i in
     let k = c.requires.table_len.2 l.i (omega arith) in
-    let d = G.due-placed c.args.table.now c.args.codes.now c.args.values.now l.i (omega arith) (omega arith) (omega arith) c.if-table-codes-ne1.false in
-    λ xs end. l.invariant.1.walk xs end ∙ rw d (G.stop-8 c.args.width c.args.table.now c.args.b xs l.groups l.next l.left _ _ end (omega arith))
+    let d = G.due_placed c.args.table.now c.args.codes.now c.args.values.now l.i (omega arith) (omega arith) (omega arith) c.if-table-codes-ne1.false in
+    λ xs end. l.invariant.1.walk xs end ∙ rw d (G.stop_8 c.args.width c.args.table.now c.args.b xs l.groups l.next l.left _ _ end (omega arith))
 
 pub returns-then-left-ne0 : goal.returns-then-left-ne0
 returns-then-left-ne0 c =
     let l = c.loop-i in
     let k = c.requires.table_len.2 l.i (omega arith) in
-    let d = G.due-placed c.args.table.now c.args.codes.now c.args.values.now l.i (omega arith) (omega arith) (omega arith) c.if-table-codes-ne1.false in
-    λ xs end. l.invariant.1.walk xs end ∙ rw d (G.stop-9 c.args.width c.args.table.now c.args.b xs l.groups l.next l.left _ _ end (omega arith) c.if-left-ne0.true)
+    let d = G.due_placed c.args.table.now c.args.codes.now c.args.values.now l.i (omega arith) (omega arith) (omega arith) c.if-table-codes-ne1.false in
+    λ xs end. l.invariant.1.walk xs end ∙ rw d (G.stop_9 c.args.width c.args.table.now c.args.b xs l.groups l.next l.left _ _ end (omega arith) c.if-left-ne0.true)
 
 pub bounds-groups-next : goal.bounds-groups-next
 bounds-groups-next c = omega (arith, G.eight c.loop-i.groups _ c.loop-i.invariant.1.numbers)
@@ -40,11 +39,11 @@ pub loop-i-preserved : goal.loop-i-preserved
 loop-i-preserved c =
     let l = c.loop-i in
     let k = c.requires.table_len.2 l.i (omega arith) in
-    let d = G.due-placed c.args.table.now c.args.codes.now c.args.values.now l.i (omega arith) (omega arith) (omega arith) c.if-table-codes-ne1.false in
-    (omega arith, G.place-turn _ _ _ _ _ _ _ _ _ _ _ l.invariant.1 _ _ d (omega arith) (omega arith) c.if-left-ne0.false)
+    let d = G.due_placed c.args.table.now c.args.codes.now c.args.values.now l.i (omega arith) (omega arith) (omega arith) c.if-table-codes-ne1.false in
+    (omega arith, G.place_turn _ _ _ _ _ _ _ _ _ _ _ l.invariant.1 _ _ d (omega arith) (omega arith) c.if-left-ne0.false)
 
 pub returns : goal.returns
 returns c =
     let a = c.args in
     let l = c.loop-i in
-    G.place-plain _ _ _ _ _ _ _ _ _ _ _ l.invariant.1 _ (G.due-none a.table.now a.codes.now a.values.now l.i (omega arith))
+    G.place_plain _ _ _ _ _ _ _ _ _ _ _ l.invariant.1 _ (G.due_none a.table.now a.codes.now a.values.now l.i (omega arith))

@@ -1,0 +1,5 @@
+use Rattle.exports.proofs.Builds.{cleared}
+use Rattle.exports.proofs.clear.Goals as goal
+
+pub returns : goal.returns
+returns c = cleared _ _ _ _ _ _ c.zero_bytes.ensures c.zero_bytes-2.ensures c.zero_bytes-3.ensures

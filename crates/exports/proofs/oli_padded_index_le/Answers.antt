@@ -1,0 +1,34 @@
+use Rattle.rules.specs.Lookups.{raw_at, padded_index}
+use Rattle.crossing.specs.Words.{words_in}
+use Rattle.exports.proofs.Indexes.{inside, padded_none, padded_found_lem}
+use Rattle.exports.proofs.Cross.{cross_padded}
+use Rattle.exports.specs.Flat.{flat_padded}
+use Rattle.exports.specs.Replies.{in_whole, padded_reply}
+use Rattle.prefix.specs.Tables.{padded_found, padded_by}
+use Prim.Native.Nat.{ℕ}
+use mathlib.Core.Path.{sym, ap, ◌∙◌}
+use borrow.Author.Rules.{rules}
+use Rattle.exports.proofs.oli_padded_index_le.Goals as goal
+
+pub returns-then-not-has_word : goal.returns-then-not-has_word
+returns-then-not-has_word c =
+    let a = c.args in
+    sym (ap padded_reply (padded_none a.table.now a.raw (sym c.has_word.ensures ∙ c.if-not-has_word.true)))
+
+pub overflow_mul-raw : goal.overflow_mul-raw
+overflow_mul-raw c =
+    let h = inside _ c.args.raw (sym c.has_word.ensures ∙ c.if-not-has_word.false) in
+    search rules
+
+pub le8-entry-requires : goal.le8-entry-requires
+le8-entry-requires c =
+    let h = inside _ c.args.raw (sym c.has_word.ensures ∙ c.if-not-has_word.false) in
+    search rules
+
+pub returns : goal.returns
+returns c =
+    let a = c.args in
+    let h = sym c.has_word.ensures ∙ c.if-not-has_word.false in
+    c.flat_padded.ensures
+    ∙ ap flat_padded (c.padded_by-r.ensures ∙ ap (λ (e : ℕ). padded_found (padded_by e (raw_at a.raw))) c.le8-entry.ensures ∙ ap padded_found (sym (padded_found_lem a.table.now a.raw h)))
+    ∙ cross_padded (in_whole a.table.now (padded_index (words_in a.table.now) (raw_at a.raw)))

@@ -1,0 +1,7 @@
+use mathlib.Core.Path.{sym}
+use Prim.Native.Nat.{ℕ}
+use lib.ListN.{length-replicate}
+use Rattle.space.proofs.bytes.Goals as goal
+
+pub returns : goal.returns
+returns c = sym (length-replicate {A = ℕ} 1048576 0)
