@@ -1,8 +1,6 @@
--- -1 - z is as far from 0 as z is: it fits where z does.
 use mathlib.Core.Path.{sym, subst}
 use Prim.Native.Nat.{ℕ, zero, suc, ◌-◌, ◌<◌}
 use native.Mathlib.Omega.{arith}
-use borrow.Author.Rules.{rules}
 use lib.Dec.{ltb}
 use mathlib.Core.Bool.{Bool, true, false, cond}
 use lib.IntN.{ℤ, pos, negsuc, ◌-ℤ◌}
@@ -10,9 +8,9 @@ use lib.Signed.{mag}
 use mir.Syntax.{w32}
 use mir.Val.{SFits}
 use mir.ValLaws.{to_z-of_z}
-use Rattle.compare.proofs.down_to.Statement.{statement}
-use Rattle.compare.proofs.down_to.Tie as tie
+use Rattle.compare.proofs.down_to.Goals as goal
 
+-- -1 - z is as far from 0 as z is: it fits where z does.
 either : (b : Bool) (x y : ℤ) {h : ℕ} → mag x < h → mag y < h → mag (cond b x y) < h
 either true x y p q = p
 either false x y p q = q
@@ -22,11 +20,5 @@ as-far (pos zero) p = p
 as-far (pos (suc n)) p = omega (arith, p)
 as-far (negsuc n) p = either (ltb (suc n) 1) (negsuc (1 - suc (suc n))) (pos (suc n - 1)) (omega (arith, p)) (omega (arith, p))
 
-sub-result : tie.Need-overflow-sub-result
-sub-result c = subst (λ (x : ℤ). SFits w32 (negsuc 0 -ℤ x)) (sym (to_z-of_z w32 c.args.n c.ranges.n)) (record { sfits = as-far c.args.n c.ranges.n.sfits })
-
-returns : tie.Need-returns
-returns c = search rules
-
-pub down-to-spec : {M : Type 1} → statement M
-down-to-spec = tie.close (tie.spec sub-result returns)
+pub overflow_sub-result : goal.overflow_sub-result
+overflow_sub-result c = subst (λ (x : ℤ). SFits w32 (negsuc 0 -ℤ x)) (sym (to_z-of_z w32 c.args.n c.ranges.n)) (record { sfits = as-far c.args.n c.ranges.n.sfits })
