@@ -3,7 +3,7 @@
 
 ghost use Rattle.std.specs.Prelude.{◌≤◌, length};
 
-use console::{print as say, print_number as print};
+use console::{print as say, print_number};
 use text::Number;
 
 // ---- the numbers of a line, which ends in its line feed
@@ -264,7 +264,7 @@ pub fn say_function(rt: HostRuntime, what: u64) {
 
 fn say_case(c: Case, what: &[u8]) {
     say(c.rt, b"  line ");
-    print(c.rt, c.line);
+    print_number(c.rt, c.line);
     say(c.rt, b", ");
     say_function(c.rt, c.what);
     say(c.rt, b": ");
@@ -280,9 +280,9 @@ pub fn is(mut c: Case, s: &[u8], what: &[u8], ours: usize) -> Case {
     }
     say_case(c, what);
     say(c.rt, b" is ");
-    print(c.rt, ours);
+    print_number(c.rt, ours);
     say(c.rt, b", in the file ");
-    print(c.rt, theirs.value as usize);
+    print_number(c.rt, theirs.value as usize);
     say(c.rt, b"\n");
     c.same = false;
     c
@@ -386,7 +386,7 @@ fn compared(mut c: Case, s: &[u8], h: Head, what: &[u8], ours: usize, at: usize)
         say(c.rt, b" are not so many as in the file\n");
     } else {
         say(c.rt, b" differ first at ");
-        print(c.rt, at);
+        print_number(c.rt, at);
         say(c.rt, b"\n");
     }
     c.same = false;

@@ -9,7 +9,7 @@ use cases::{
     Case, LOST, block_is, block_room, bytes, bytes_are, fill64, is, made, number, pair_room,
     refusal, room, say_function, signed_are, soil, soil32, soil64, words, words_are,
 };
-use console::{print as say, print_number as print};
+use console::{print as say, print_number};
 
 // ---- the functions, each on what its line lends; an array is made where it is used
 
@@ -543,7 +543,7 @@ fn print_count(rt: HostRuntime, what: u64, n: usize) {
     say(rt, b"  ");
     say_function(rt, what);
     say(rt, b": ");
-    print(rt, n);
+    print_number(rt, n);
     say(rt, b" agree\n");
 }
 
@@ -583,7 +583,7 @@ fn finish(rt: HostRuntime, path: &[u8], counts: &mut [u64], stopped: usize) {
         return;
     }
     not_read(rt, path, counts, b", line ");
-    print(rt, stopped);
+    print_number(rt, stopped);
     say(
         rt,
         b": neither a case nor a table; what comes after it is not run\n",
@@ -609,14 +609,14 @@ fn file(rt: HostRuntime, path: &[u8], counts: &mut [u64]) {
 }
 
 fn total(rt: HostRuntime, counts: &[u64]) {
-    print(rt, counted(counts, CASES));
+    print_number(rt, counted(counts, CASES));
     say(rt, b" cases, ");
-    print(rt, counted(counts, DIFFER));
+    print_number(rt, counted(counts, DIFFER));
     say(rt, b" differ");
     let n = counted(counts, NOT_READ);
     if 0 < n {
         say(rt, b"; files not read to the end: ");
-        print(rt, n);
+        print_number(rt, n);
     }
     say(rt, b"\n");
 }
