@@ -2,7 +2,7 @@
 //!
 //! It is `libexports.a` in the folder that OLIASTROFU_LIB names (a relative name counts from the
 //! root of the repository), or without that in `target/staticlib` of the repository. There
-//! `rt staticlib exports` makes it if it is not there, or is not of the sources as they are: beside
+//! `tools/staticlib` makes it if it is not there, or is not of the sources as they are: beside
 //! it stands `libexports.sum`, a sum of the library and one of the sources it was made of. Without
 //! `rt` on the PATH an older library is linked, and a warning says so.
 
@@ -79,26 +79,27 @@ fn line(library: &str, sources: &str) -> String {
 
 /// Has the library made; `there` says whether there is an older one.
 fn make(root: &Path, folder: &Path, there: bool, sources: &str) {
-    let status = Command::new("rt")
-        .args(["staticlib", "exports"])
+    let status = Command::new(root.join("tools/staticlib"))
         .current_dir(root)
         .stdin(Stdio::null())
         .stdout(Stdio::null())
         .status();
-    match status {
-        Err(_) if there => warn(
+    // The script ends so where there is no rt.
+    let status = status.map(|status| (status.code() != Some(127)).then_some(status));
+    match status.ok().flatten() {
+        None if there => warn(
             "target/staticlib/libexports.a is not of the sources as they are; there is no rt on the PATH, so it \
-             is linked as it is (rt staticlib exports makes it anew)",
+             is linked as it is (tools/staticlib makes it anew)",
         ),
-        Err(_) => stop(
+        None => stop(
             "libexports.a is not in target/staticlib of the repository, and there is no rt on the \
              PATH to make it; name its folder in OLIASTROFU_LIB",
         ),
-        Ok(status) if !status.success() || !folder.join(LIBRARY).is_file() => stop(
-            "rt staticlib exports did not make libexports.a of the sources as they are; run it in \
+        Some(status) if !status.success() || !folder.join(LIBRARY).is_file() => stop(
+            "tools/staticlib did not make libexports.a of the sources as they are; run it in \
              the root of the repository to see why",
         ),
-        Ok(_) => {
+        Some(_) => {
             let written = fs::read(folder.join(LIBRARY))
                 .and_then(|bytes| fs::write(folder.join(SUM), line(&library_sum(&bytes), sources)));
             if let Err(error) = written {
@@ -111,7 +112,7 @@ fn make(root: &Path, folder: &Path, there: bool, sources: &str) {
     }
 }
 
-/// A sum of what the library is made of: crates.txt, and the code and definitions of `exports` and
+/// A sum of what the library is made of: crates.txt, and the code and definitions of `exports_c` and
 /// of all that it depends on. (A proof changes neither the library nor what it promises.)
 fn sources(root: &Path) -> Result<String, String> {
     let list = root.join("crates.txt");
@@ -132,14 +133,15 @@ fn sources(root: &Path) -> Result<String, String> {
     Ok(sum.text())
 }
 
-/// `exports` and all that it depends on, by the lines `NAME: DEPENDENCIES`.
+/// `exports_c` and all that it depends on, by the lines `NAME: DEPENDENCIES` (`NAME staticlib: ..`).
 fn with_dependencies(list: &str) -> BTreeSet<String> {
     let mut names = BTreeSet::new();
-    let mut open = vec!["exports".to_string()];
+    let mut open = vec!["exports_c".to_string()];
     while let Some(name) = open.pop() {
-        let line = list
-            .lines()
-            .find_map(|line| line.strip_prefix(&format!("{name}:")));
+        let line = list.lines().find_map(|line| {
+            let (head, rest) = line.split_once(':')?;
+            (head.split_whitespace().next() == Some(name.as_str())).then_some(rest)
+        });
         // What has no line is of the toolchain.
         if let Some(line) = line
             && names.insert(name)

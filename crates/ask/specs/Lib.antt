@@ -1,5 +1,5 @@
 -- Ask the definitions about bytes or a list of your own. Write the question's left side, put `?` in place of `refl`, and run
---     rt dev ask --allow-holes
+--     cd crates/ask && rt check --allow-holes
 -- The checker prints what the left side computes to, after `⊢`. Write that on the right, and `refl` again: now it is proved.
 use Rattle.std.specs.Prelude.{◌≡◌, refl, [], ◌∷◌}
 use Rattle.rules.specs.Answer.{found, good}
