@@ -6,7 +6,7 @@
 ghost use Rattle.std.specs.Prelude.{◌≤◌, ◌<◌, length};
 
 use build::Built;
-use console::{Page, say};
+use console::say;
 use encoder::Encoded;
 use listing::{After, Block};
 use std::fs;
@@ -38,18 +38,18 @@ const MANY: u8 = 9;
 
 const UNASSIGNED: u8 = 10;
 
-fn say_fault(page: &mut Page, fault: u8) {
+fn say_fault(rt: HostRuntime, page: &mut [u8], fault: u8) {
     match fault {
-        NO_NAME => say(page, b": no operation has this name\n"),
-        NO_OPCODE => say(page, b": an opcode is a number up to 127\n"),
-        NO_VALUE => say(page, b": a value is missing\n"),
-        UNNEEDED => say(page, b": this operation has no value\n"),
-        NO_NUMBER => say(page, b": the value is not a number\n"),
-        LARGE => say(page, b": a value is at most 18446744069414584320\n"),
-        WORDS => say(page, b": more than an operation and its value\n"),
-        OPEN => say(page, b": a parenthesis is not closed\n"),
-        UNASSIGNED => say(page, b": this opcode is unassigned\n"),
-        _ => say(page, b": more than 16384 operations\n"),
+        NO_NAME => say(rt, page, b": no operation has this name\n"),
+        NO_OPCODE => say(rt, page, b": an opcode is a number up to 127\n"),
+        NO_VALUE => say(rt, page, b": a value is missing\n"),
+        UNNEEDED => say(rt, page, b": this operation has no value\n"),
+        NO_NUMBER => say(rt, page, b": the value is not a number\n"),
+        LARGE => say(rt, page, b": a value is at most 18446744069414584320\n"),
+        WORDS => say(rt, page, b": more than an operation and its value\n"),
+        OPEN => say(rt, page, b": a parenthesis is not closed\n"),
+        UNASSIGNED => say(rt, page, b": this opcode is unassigned\n"),
+        _ => say(rt, page, b": more than 16384 operations\n"),
     }
 }
 
@@ -197,20 +197,20 @@ fn take(p: Parsed, count: usize, codes: &mut [u8], values: &mut [u64]) -> Taken
 }
 
 // The start of a line of text about a line of the list.
-fn say_line(page: &mut Page, name: &[u8], n: usize) {
-    console::about(page, b"batch", name);
-    say(page, b": line ");
-    console::number(page, n as u64);
-    say(page, b": ");
+fn say_line(rt: HostRuntime, page: &mut [u8], name: &[u8], n: usize) {
+    console::about(rt, page, b"batch", name);
+    say(rt, page, b": line ");
+    console::number(rt, page, n as u64);
+    say(rt, page, b": ");
 }
 
 // One line of text for a fault, with the words of the line that has it.
 fn complain(rt: HostRuntime, name: &[u8], words: &[u8], n: usize, fault: u8) {
-    let mut page = console::errors(rt);
-    say_line(&mut page, name, n);
-    console::quote(&mut page, words, 40);
-    say_fault(&mut page, fault);
-    console::flush(&mut page);
+    let mut page = console::errors();
+    say_line(rt, &mut page, name, n);
+    console::quote(rt, &mut page, words, 40);
+    say_fault(rt, &mut page, fault);
+    console::flush(rt, &mut page);
 }
 
 fn complain_line(rt: HostRuntime, name: &[u8], line: &[u8], n: usize, fault: u8) {
@@ -318,27 +318,27 @@ fn save(rt: HostRuntime, path: &[u8], bytes: &[u8]) -> bool {
 
 // ---- the block
 
-fn print_end(page: &mut Page, printed: usize, all: usize) {
+fn print_end(rt: HostRuntime, page: &mut [u8], printed: usize, all: usize) {
     if printed % 32 == 0 || printed == all {
-        say(page, b"\n");
+        say(rt, page, b"\n");
     }
 }
 
 // A line has 32 bytes.
-fn print_hex(page: &mut Page, bytes: &[u8]) {
+fn print_hex(rt: HostRuntime, page: &mut [u8], bytes: &[u8]) {
     let mut i: usize = 0;
     while i < bytes.len() {
-        console::hex(page, bytes[i]);
+        console::hex(rt, page, bytes[i]);
         i += 1;
-        print_end(page, i, bytes.len());
+        print_end(rt, page, i, bytes.len());
     }
 }
 
 fn print_bytes(rt: HostRuntime, bytes: &[u8]) {
-    let mut page = console::output(rt);
-    say(&mut page, b"bytes\n");
-    print_hex(&mut page, bytes);
-    console::flush(&mut page);
+    let mut page = console::output();
+    say(rt, &mut page, b"bytes\n");
+    print_hex(rt, &mut page, bytes);
+    console::flush(rt, &mut page);
 }
 
 // What was asked: the block in a file, or printed where there is no file's name.
@@ -480,12 +480,12 @@ fn tell_refusal(rt: HostRuntime, name: &[u8], r: Refusal) {
     if r.number == 0 {
         return;
     }
-    let mut page = console::errors(rt);
-    console::about(&mut page, b"batch", name);
-    say(&mut page, b": ");
-    listing::print_refusal(&mut page, r.number, r.place);
-    say(&mut page, b"\n");
-    console::flush(&mut page);
+    let mut page = console::errors();
+    console::about(rt, &mut page, b"batch", name);
+    say(rt, &mut page, b": ");
+    listing::print_refusal(rt, &mut page, r.number, r.place);
+    say(rt, &mut page, b"\n");
+    console::flush(rt, &mut page);
 }
 
 // The n bytes of a list, whose room takes the block's bytes in the end.

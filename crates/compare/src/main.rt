@@ -5,7 +5,7 @@
 ghost use Rattle.io.specs.Counts.{IsPrefixLen};
 
 use comparison::Compared;
-use console::{Page, counted, number, say};
+use console::{counted, number, say};
 use decoder::Decoded;
 use listing::{minus, plus};
 use std::env::Env;
@@ -123,58 +123,66 @@ struct Totals {
 
 // ---- the line of an entry
 
-fn print_both(page: &mut Page, first: u64, second: u64) {
-    number(page, first);
-    say(page, b" / ");
-    number(page, second);
+fn print_both(rt: HostRuntime, page: &mut [u8], first: u64, second: u64) {
+    number(rt, page, first);
+    say(rt, page, b" / ");
+    number(rt, page, second);
 }
 
-fn print_batch(page: &mut Page, b: usize) {
-    listing::print_at(page, b"  batch ", b);
+fn print_batch(rt: HostRuntime, page: &mut [u8], b: usize) {
+    listing::print_at(rt, page, b"  batch ", b);
 }
 
 // The place of an entry that is about a group, or about a whole batch.
-fn print_place(page: &mut Page, e: Entry) {
-    print_batch(page, e.batch);
+fn print_place(rt: HostRuntime, page: &mut [u8], e: Entry) {
+    print_batch(rt, page, e.batch);
     if e.kind == 5 {
-        say(page, b": ");
+        say(rt, page, b": ");
         return;
     }
-    listing::print_at(page, b", group ", e.place);
-    say(page, b": ");
+    listing::print_at(rt, page, b", group ", e.place);
+    say(rt, page, b": ");
 }
 
-fn print_before(page: &mut Page, kind: usize) {
+fn print_before(rt: HostRuntime, page: &mut [u8], kind: usize) {
     match kind {
-        1 => say(page, b"number "),
-        2 => say(page, b"padding flag "),
+        1 => say(rt, page, b"number "),
+        2 => say(rt, page, b"padding flag "),
         _ => {}
     }
 }
 
-fn print_behind(page: &mut Page, kind: usize) {
+fn print_behind(rt: HostRuntime, page: &mut [u8], kind: usize) {
     match kind {
-        3 => say(page, b" operations"),
-        5 => say(page, b" groups"),
+        3 => say(rt, page, b" operations"),
+        5 => say(rt, page, b" groups"),
         _ => {}
     }
 }
 
 // A group's number, flag or length, or how many groups a batch has.
-fn print_values(page: &mut Page, e: Entry, first_records: &[u8], second_records: &[u8]) {
-    print_place(page, e);
-    print_before(page, e.kind);
+fn print_values(
+    rt: HostRuntime,
+    page: &mut [u8],
+    e: Entry,
+    first_records: &[u8],
+    second_records: &[u8],
+) {
+    print_place(rt, page, e);
+    print_before(rt, page, e.kind);
     print_both(
+        rt,
         page,
         value_of(first_records, e),
         value_of(second_records, e),
     );
-    print_behind(page, e.kind);
+    print_behind(rt, page, e.kind);
 }
 
 // The batches' first operations are at two places of the blocks.
 fn print_operation(
-    page: &mut Page,
+    rt: HostRuntime,
+    page: &mut [u8],
     e: Entry,
     first_codes: &[u8],
     first_values: &[u64],
@@ -183,52 +191,60 @@ fn print_operation(
     second_values: &[u64],
     at: usize,
 ) {
-    print_batch(page, e.batch);
-    listing::print_at(page, b", its operation ", e.place);
-    say(page, b":");
-    listing::print_op_at(page, first_codes, first_values, plus(from, e.place));
-    say(page, b" /");
-    listing::print_op_at(page, second_codes, second_values, plus(at, e.place));
+    print_batch(rt, page, e.batch);
+    listing::print_at(rt, page, b", its operation ", e.place);
+    say(rt, page, b":");
+    listing::print_op_at(rt, page, first_codes, first_values, plus(from, e.place));
+    say(rt, page, b" /");
+    listing::print_op_at(rt, page, second_codes, second_values, plus(at, e.place));
 }
 
-fn print_missing(page: &mut Page, e: Entry) {
-    print_batch(page, e.batch);
-    say(page, b": missing in the ");
-    print_side(page, e.place);
+fn print_missing(rt: HostRuntime, page: &mut [u8], e: Entry) {
+    print_batch(rt, page, e.batch);
+    say(rt, page, b": missing in the ");
+    print_side(rt, page, e.place);
 }
 
-fn print_side(page: &mut Page, side: usize) {
+fn print_side(rt: HostRuntime, page: &mut [u8], side: usize) {
     if side == 1 {
-        say(page, b"first");
+        say(rt, page, b"first");
         return;
     }
-    say(page, b"second");
+    say(rt, page, b"second");
 }
 
-fn print_signed(page: &mut Page, n: i32) {
+fn print_signed(rt: HostRuntime, page: &mut [u8], n: i32) {
     if n < 0 {
-        say(page, b"-");
-        number(page, plus(natural(down_to(n)), 1) as u64);
+        say(rt, page, b"-");
+        number(rt, page, plus(natural(down_to(n)), 1) as u64);
         return;
     }
-    say(page, b"+");
-    number(page, natural(n) as u64);
+    say(rt, page, b"+");
+    number(rt, page, natural(n) as u64);
 }
 
-fn print_total(page: &mut Page, what: &[u8], difference: i32, first: usize, second: usize) {
-    say(page, what);
-    print_signed(page, difference);
-    say(page, b" (");
-    print_both(page, first as u64, second as u64);
-    say(page, b")");
+fn print_total(
+    rt: HostRuntime,
+    page: &mut [u8],
+    what: &[u8],
+    difference: i32,
+    first: usize,
+    second: usize,
+) {
+    say(rt, page, what);
+    print_signed(rt, page, difference);
+    say(rt, page, b" (");
+    print_both(rt, page, first as u64, second as u64);
+    say(rt, page, b")");
 }
 
-fn print_totals(page: &mut Page, e: Entry, first: Totals, second: Totals) {
+fn print_totals(rt: HostRuntime, page: &mut [u8], e: Entry, first: Totals, second: Totals) {
     let d = e.difference;
     let kind = e.kind;
     match kind {
-        7 => print_total(page, b"  batches: ", d, first.batches, second.batches),
+        7 => print_total(rt, page, b"  batches: ", d, first.batches, second.batches),
         8 => print_total(
+            rt,
             page,
             b"  operations, paddings among them: ",
             d,
@@ -236,13 +252,21 @@ fn print_totals(page: &mut Page, e: Entry, first: Totals, second: Totals) {
             second.operations,
         ),
         9 => print_total(
+            rt,
             page,
             b"  operations without paddings: ",
             d,
             minus(first.operations, first.paddings),
             minus(second.operations, second.paddings),
         ),
-        _ => print_total(page, b"  paddings: ", d, first.paddings, second.paddings),
+        _ => print_total(
+            rt,
+            page,
+            b"  paddings: ",
+            d,
+            first.paddings,
+            second.paddings,
+        ),
     }
 }
 
@@ -266,7 +290,8 @@ fn move_on(p: Begin, batch: usize, first_records: &[u8], second_records: &[u8]) 
 }
 
 fn print_entry(
-    page: &mut Page,
+    rt: HostRuntime,
+    page: &mut [u8],
     e: Entry,
     p: Begin,
     first_codes: &[u8],
@@ -281,6 +306,7 @@ fn print_entry(
     let kind = e.kind;
     match kind {
         4 => print_operation(
+            rt,
             page,
             e,
             first_codes,
@@ -290,14 +316,15 @@ fn print_entry(
             second_values,
             p.at,
         ),
-        6 => print_missing(page, e),
-        1..=5 => print_values(page, e, first_records, second_records),
-        _ => print_totals(page, e, first, second),
+        6 => print_missing(rt, page, e),
+        1..=5 => print_values(rt, page, e, first_records, second_records),
+        _ => print_totals(rt, page, e, first, second),
     }
 }
 
 fn print_line(
-    page: &mut Page,
+    rt: HostRuntime,
+    page: &mut [u8],
     e: Entry,
     p: Begin,
     first_codes: &[u8],
@@ -310,6 +337,7 @@ fn print_line(
     second: Totals,
 ) {
     print_entry(
+        rt,
         page,
         e,
         p,
@@ -322,12 +350,13 @@ fn print_line(
         second_records,
         second,
     );
-    say(page, b"\n");
+    say(rt, page, b"\n");
 }
 
 // Entries are in the order of their batches, those of totals last.
 fn print_lines(
-    page: &mut Page,
+    rt: HostRuntime,
+    page: &mut [u8],
     report: &[i32],
     entries: usize,
     first_codes: &[u8],
@@ -349,6 +378,7 @@ fn print_lines(
         let e = entry_at(report, i);
         p = move_on(p, e.batch, first_records, second_records);
         print_line(
+            rt,
             page,
             e,
             p,
@@ -397,7 +427,8 @@ fn read_again(
 }
 
 fn print_different(
-    page: &mut Page,
+    rt: HostRuntime,
+    page: &mut [u8],
     report: &[i32],
     entries: usize,
     s: &[u8],
@@ -417,6 +448,7 @@ fn print_different(
     let first = read_again(s, from, first_codes, first_values, first_records);
     let second = read_again(t, at, second_codes, second_values, second_records);
     print_lines(
+        rt,
         page,
         report,
         entries,
@@ -433,22 +465,30 @@ fn print_different(
 
 // ---- the first line
 
-fn print_block(page: &mut Page, path: &[u8], at: usize) {
-    console::quote(page, path, 4096);
+fn print_block(rt: HostRuntime, page: &mut [u8], path: &[u8], at: usize) {
+    console::quote(rt, page, path, 4096);
     if at != 0 {
-        listing::print_at(page, b" at byte ", at);
+        listing::print_at(rt, page, b" at byte ", at);
     }
 }
 
-fn print_blocks(page: &mut Page, first: &[u8], from: usize, second: &[u8], at: usize) {
-    print_block(page, first, from);
-    say(page, b" / ");
-    print_block(page, second, at);
-    say(page, b": ");
+fn print_blocks(
+    rt: HostRuntime,
+    page: &mut [u8],
+    first: &[u8],
+    from: usize,
+    second: &[u8],
+    at: usize,
+) {
+    print_block(rt, page, first, from);
+    say(rt, page, b" / ");
+    print_block(rt, page, second, at);
+    say(rt, page, b": ");
 }
 
 fn print_answer(
-    page: &mut Page,
+    rt: HostRuntime,
+    page: &mut [u8],
     first: &[u8],
     from: usize,
     second: &[u8],
@@ -456,22 +496,22 @@ fn print_answer(
     entries: usize,
 ) {
     if entries == 0 {
-        say(page, b"same: ");
-        print_blocks(page, first, from, second, at);
-        say(page, b"the blocks are the same\n");
+        say(rt, page, b"same: ");
+        print_blocks(rt, page, first, from, second, at);
+        say(rt, page, b"the blocks are the same\n");
         return;
     }
-    say(page, b"different: ");
-    print_blocks(page, first, from, second, at);
-    counted(page, entries, b" difference\n", b" differences\n");
+    say(rt, page, b"different: ");
+    print_blocks(rt, page, first, from, second, at);
+    counted(rt, page, entries, b" difference\n", b" differences\n");
 }
 
-fn start_refused(page: &mut Page, side: usize, path: &[u8], at: usize) {
-    say(page, b"refused: the ");
-    print_side(page, side);
-    say(page, b" block, ");
-    print_block(page, path, at);
-    say(page, b": ");
+fn start_refused(rt: HostRuntime, page: &mut [u8], side: usize, path: &[u8], at: usize) {
+    say(rt, page, b"refused: the ");
+    print_side(rt, page, side);
+    say(rt, page, b" block, ");
+    print_block(rt, page, path, at);
+    say(rt, page, b": ");
 }
 
 fn refused(
@@ -483,21 +523,21 @@ fn refused(
     refusal: u8,
     place: usize,
 ) {
-    let mut page = console::output(rt);
-    start_refused(&mut page, side, path, at);
-    listing::print_numbered(&mut page, s, at, refusal, place);
-    say(&mut page, b": ");
-    listing::print_words(&mut page, refusal, place);
-    say(&mut page, b"\n");
-    console::flush(&mut page);
+    let mut page = console::output();
+    start_refused(rt, &mut page, side, path, at);
+    listing::print_numbered(rt, &mut page, s, at, refusal, place);
+    say(rt, &mut page, b": ");
+    listing::print_words(rt, &mut page, refusal, place);
+    say(rt, &mut page, b"\n");
+    console::flush(rt, &mut page);
 }
 
 // A block that cannot be had, without a number of refusal.
 fn not_had(rt: HostRuntime, side: usize, path: &[u8], at: usize, why: &[u8]) {
-    let mut page = console::output(rt);
-    start_refused(&mut page, side, path, at);
-    say(&mut page, why);
-    console::flush(&mut page);
+    let mut page = console::output();
+    start_refused(rt, &mut page, side, path, at);
+    say(rt, &mut page, why);
+    console::flush(rt, &mut page);
 }
 
 // ---- the bytes of two files
@@ -574,9 +614,10 @@ fn answer(
     second_values: &mut [u64],
     second_records: &mut [u8],
 ) {
-    let mut page = console::output(rt);
-    print_answer(&mut page, first, from, second, at, entries);
+    let mut page = console::output();
+    print_answer(rt, &mut page, first, from, second, at, entries);
     print_different(
+        rt,
         &mut page,
         report,
         entries,
@@ -591,7 +632,7 @@ fn answer(
         second_values,
         second_records,
     );
-    console::flush(&mut page);
+    console::flush(rt, &mut page);
 }
 
 fn compare_in(
@@ -726,10 +767,10 @@ fn read_file(rt: HostRuntime, path: &[u8], room: &mut [u8]) -> Read {
 }
 
 fn unread(rt: HostRuntime, side: usize, path: &[u8], at: usize, error: Error) {
-    let mut page = console::output(rt);
-    start_refused(&mut page, side, path, at);
-    console::unread(&mut page, error);
-    console::flush(&mut page);
+    let mut page = console::output();
+    start_refused(rt, &mut page, side, path, at);
+    console::unread(rt, &mut page, error);
+    console::flush(rt, &mut page);
 }
 
 // Whether the whole file was read; a line says why not.

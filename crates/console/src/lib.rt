@@ -97,9 +97,13 @@ pub fn argument(rt: HostRuntime, i: usize, room: &mut [u8]) -> usize
     }
 }
 
-// ---- a page: so much text, how much of it is filled, where it goes, and whether a write failed
+// ---- a page: so much text, then eight bytes for how much of it is filled, a byte for where it goes and one for a write that failed
 
 const TEXT: usize = 65536;
+
+const TO: usize = 65544;
+
+const FAILED: usize = 65545;
 
 #[derive(Clone, Copy)]
 enum Stream {
@@ -107,45 +111,32 @@ enum Stream {
     Errors,
 }
 
-#[derive(Drop)]
-pub struct Page {
-    rt: HostRuntime,
-    text: [u8; 65536],
-    filled: usize,
-    to: Stream,
-    failed: bool,
+fn blank() -> [u8; 65546]
+    ensures { 65546 ≡ length result }
+{
+    [0; 65546]
 }
 
-fn blank() -> [u8; 65536]
-    ensures { 65536 ≡ length result }
+fn page(to: u8) -> [u8; 65546]
+    ensures { 65546 ≡ length result }
 {
-    [0; 65536]
-}
-
-fn page_to(rt: HostRuntime, to: Stream) -> Page
-    ensures { 65536 ≡ length result.text }
-{
-    Page {
-        rt,
-        text: blank(),
-        filled: 0,
-        to,
-        failed: false,
-    }
+    let mut page = blank();
+    word::store8(&mut page, TO, to);
+    page
 }
 
 // A page for what was asked.
-pub fn output(rt: HostRuntime) -> Page
-    ensures { 65536 ≡ length result.text }
+pub fn output() -> [u8; 65546]
+    ensures { 65546 ≡ length result }
 {
-    page_to(rt, Stream::Output)
+    page(1)
 }
 
 // A page for what is wrong.
-pub fn errors(rt: HostRuntime) -> Page
-    ensures { 65536 ≡ length result.text }
+pub fn errors() -> [u8; 65546]
+    ensures { 65546 ≡ length result }
 {
-    page_to(rt, Stream::Errors)
+    page(2)
 }
 
 // A byte, or eight as a number; 0 past a run's end.
@@ -167,43 +158,45 @@ pub fn long(s: &[u8], at: usize) -> u64 {
     0
 }
 
-fn filled(page: &Page) -> usize
+fn filled(page: &[u8]) -> usize
     ensures { result ≤ 65536 }
 {
-    let n = page.filled;
+    let n = long(page, TEXT) as usize;
     if TEXT < n {
         return TEXT;
     }
     n
 }
 
-fn target(page: &Page) -> Stream {
-    page.to
+fn target(page: &[u8]) -> Stream {
+    if byte(page, TO) == 1 {
+        return Stream::Output;
+    }
+    Stream::Errors
 }
 
-fn write(page: &Page, n: usize) -> Result<()> {
-    let text = &page.text[..];
-    if text.len() < n {
+fn write(rt: HostRuntime, page: &[u8], n: usize) -> Result<()> {
+    if page.len() < n {
         return Err(Error::from(ErrorKind::InvalidInput));
     }
     match target(page) {
-        Stream::Output => page.rt.stdout().write_all(&text[..n]),
-        Stream::Errors => page.rt.stderr().write_all(&text[..n]),
+        Stream::Output => rt.stdout().write_all(&page[..n]),
+        Stream::Errors => rt.stderr().write_all(&page[..n]),
     }
 }
 
 // Writes what the page has. A write that fails is told once, and what comes after it is dropped.
-pub fn flush(page: &mut Page) -> bool {
+pub fn flush(rt: HostRuntime, page: &mut [u8]) -> bool {
     let n = filled(page);
-    page.filled = 0;
-    if page.failed {
+    word::store_le8(page, TEXT, 0);
+    if byte(page, FAILED) != 0 {
         return false;
     }
-    let Err(error) = write(page, n) else {
+    let Err(error) = write(rt, page, n) else {
         return true;
     };
-    tell_failed(page.rt, b"standard output", error);
-    page.failed = true;
+    tell_failed(rt, b"standard output", error);
+    word::store8(page, FAILED, 1);
     false
 }
 
@@ -225,62 +218,63 @@ pub fn copy(page: &mut [u8], at: usize, text: &[u8]) -> usize
     to
 }
 
-fn make_room(page: &mut Page, more: usize) {
+fn make_room(rt: HostRuntime, page: &mut [u8], more: usize) {
     if TEXT - filled(page) < more {
-        flush(page);
+        flush(rt, page);
     }
 }
 
 // A text that is no longer than a page.
-pub fn say(page: &mut Page, text: &[u8]) {
-    make_room(page, text.len());
+pub fn say(rt: HostRuntime, page: &mut [u8], text: &[u8]) {
+    make_room(rt, page, text.len());
     let n = filled(page);
-    page.filled = copy(&mut page.text, n, text);
+    let end = copy(page, n, text);
+    word::store_le8(page, TEXT, end as u64);
 }
 
-pub fn number(page: &mut Page, n: u64) {
+pub fn number(rt: HostRuntime, page: &mut [u8], n: u64) {
     let mut digits = [0u8; 20];
     let k = io::decimal(n, &mut digits);
-    say(page, &digits[..k]);
+    say(rt, page, &digits[..k]);
 }
 
 // A number with its thing, one or several.
-pub fn counted(page: &mut Page, n: usize, one: &[u8], several: &[u8]) {
-    number(page, n as u64);
+pub fn counted(rt: HostRuntime, page: &mut [u8], n: usize, one: &[u8], several: &[u8]) {
+    number(rt, page, n as u64);
     if n == 1 {
-        say(page, one);
+        say(rt, page, one);
         return;
     }
-    say(page, several);
+    say(rt, page, several);
 }
 
 // A byte in hex.
-pub fn hex(page: &mut Page, b: u8) {
+pub fn hex(rt: HostRuntime, page: &mut [u8], b: u8) {
     let mut digits = [0u8; 16];
     let k = io::hex(word::wide(b), 2, &mut digits);
-    say(page, &digits[..k]);
+    say(rt, page, &digits[..k]);
 }
 
 // A byte of somebody else's text, as \xNN where it is no printable one.
-fn printable(page: &mut Page, b: u8) {
+fn printable(rt: HostRuntime, page: &mut [u8], b: u8) {
     if b < 32 || 126 < b {
-        say(page, b"\\x");
-        hex(page, b);
+        say(rt, page, b"\\x");
+        hex(rt, page, b);
         return;
     }
     let one = [b];
-    say(page, &one);
+    say(rt, page, &one);
 }
 
 // Somebody else's text, cut after so many bytes.
-pub fn quote(page: &mut Page, text: &[u8], most: usize) {
+pub fn quote(rt: HostRuntime, page: &mut [u8], text: &[u8], most: usize) {
     let mut i: usize = 0;
     while i < text.len() {
         if most <= i {
-            say(page, b"..");
+            say(rt, page, b"..");
             return;
         }
-        printable(page, text[i]);
+        printable(rt, page, text[i]);
         i += 1;
     }
 }
@@ -288,10 +282,10 @@ pub fn quote(page: &mut Page, text: &[u8], most: usize) {
 // ---- what is wrong with a file, in one line
 
 // How such a line starts.
-pub fn about(page: &mut Page, program: &[u8], path: &[u8]) {
-    say(page, program);
-    say(page, b": ");
-    quote(page, path, 4096);
+pub fn about(rt: HostRuntime, page: &mut [u8], program: &[u8], path: &[u8]) {
+    say(rt, page, program);
+    say(rt, page, b": ");
+    quote(rt, page, path, 4096);
 }
 
 // What the system says of an error.
@@ -349,47 +343,47 @@ fn tell_failed(rt: HostRuntime, what: &[u8], error: Error) {
 
 // A call that failed, in the system's words.
 pub fn fail(rt: HostRuntime, program: &[u8], path: &[u8], error: Error) {
-    let mut line = errors(rt);
-    about(&mut line, program, path);
-    flush(&mut line);
+    let mut line = errors();
+    about(rt, &mut line, program, path);
+    flush(rt, &mut line);
     tell_failed(rt, b"", error);
 }
 
 // What kept a file from being read, by the failed call's error.
-pub fn unread(page: &mut Page, error: Error) {
+pub fn unread(rt: HostRuntime, page: &mut [u8], error: Error) {
     match error.kind() {
-        ErrorKind::NotFound | ErrorKind::NotADirectory => say(page, b"there is no such file\n"),
-        ErrorKind::PermissionDenied => say(page, b"it may not be read\n"),
-        ErrorKind::IsADirectory => say(page, b"it is a directory\n"),
-        ErrorKind::InvalidFilename => say(page, b"its name is too long\n"),
-        _ => say(page, b"it cannot be read\n"),
+        ErrorKind::NotFound | ErrorKind::NotADirectory => say(rt, page, b"there is no such file\n"),
+        ErrorKind::PermissionDenied => say(rt, page, b"it may not be read\n"),
+        ErrorKind::IsADirectory => say(rt, page, b"it is a directory\n"),
+        ErrorKind::InvalidFilename => say(rt, page, b"its name is too long\n"),
+        _ => say(rt, page, b"it cannot be read\n"),
     }
 }
 
 pub fn wrong(rt: HostRuntime, program: &[u8], path: &[u8], what: &[u8]) {
-    let mut line = errors(rt);
-    about(&mut line, program, path);
-    say(&mut line, b": ");
-    say(&mut line, what);
-    say(&mut line, b"\n");
-    flush(&mut line);
+    let mut line = errors();
+    about(rt, &mut line, program, path);
+    say(rt, &mut line, b": ");
+    say(rt, &mut line, what);
+    say(rt, &mut line, b"\n");
+    flush(rt, &mut line);
 }
 
 // One text by itself.
 pub fn print(rt: HostRuntime, text: &[u8]) {
-    let mut page = output(rt);
-    say(&mut page, text);
-    flush(&mut page);
+    let mut page = output();
+    say(rt, &mut page, text);
+    flush(rt, &mut page);
 }
 
 pub fn print_number(rt: HostRuntime, n: usize) {
-    let mut page = output(rt);
-    number(&mut page, n as u64);
-    flush(&mut page);
+    let mut page = output();
+    number(rt, &mut page, n as u64);
+    flush(rt, &mut page);
 }
 
 pub fn tell(rt: HostRuntime, text: &[u8]) {
-    let mut page = errors(rt);
-    say(&mut page, text);
-    flush(&mut page);
+    let mut page = errors();
+    say(rt, &mut page, text);
+    flush(rt, &mut page);
 }

@@ -5,7 +5,7 @@
 ghost use Rattle.std.specs.Prelude.{◌≤◌, ◌<◌};
 
 use build::Built;
-use console::{Page, counted, number, say};
+use console::{counted, number, say};
 use decoder::Decoded;
 use listing::{After, Block, minus, plus};
 use op_batch::OpBatch;
@@ -155,109 +155,111 @@ fn first_difference(batch: OpBatch, made: OpBatch) -> usize
 }
 
 // A group that is there. That it holds a value alone can't be asked: the groups before it are the same on both sides, and so are their slots.
-fn print_held(page: &mut Page, x: Group) {
+fn print_held(rt: HostRuntime, page: &mut [u8], x: Group) {
     if x.own == 0 {
         if x.pads == 0 {
-            say(page, b"only a value");
+            say(rt, page, b"only a value");
             return;
         }
-        say(page, b"only a padding");
+        say(rt, page, b"only a padding");
         return;
     }
-    counted(page, x.own, b" operation", b" operations");
+    counted(rt, page, x.own, b" operation", b" operations");
     if x.pads != 0 {
-        say(page, b" and a padding");
+        say(rt, page, b" and a padding");
     }
 }
 
-fn print_name(page: &mut Page, g: usize) {
-    say(page, b"group ");
-    number(page, g as u64);
+fn print_name(rt: HostRuntime, page: &mut [u8], g: usize) {
+    say(rt, page, b"group ");
+    number(rt, page, g as u64);
 }
 
 // What the block has at group g. An empty group that differs is no value's slot: those follow from the operations before it, which do not differ.
-fn print_group(page: &mut Page, g: usize, x: Group) {
+fn print_group(rt: HostRuntime, page: &mut [u8], g: usize, x: Group) {
     if !x.there {
-        say(page, b"the batch ends before ");
-        print_name(page, g);
+        say(rt, page, b"the batch ends before ");
+        print_name(rt, page, g);
         return;
     }
-    print_name(page, g);
+    print_name(rt, page, g);
     if x.own == 0 && x.pads == 0 {
-        say(page, b" is empty and holds no value");
+        say(rt, page, b" is empty and holds no value");
         return;
     }
-    say(page, b" holds ");
-    print_held(page, x);
+    say(rt, page, b" holds ");
+    print_held(rt, page, x);
 }
 
 // What the batcher has there.
-fn print_made(page: &mut Page, y: Group) {
+fn print_made(rt: HostRuntime, page: &mut [u8], y: Group) {
     if !y.there {
-        say(page, b", the batcher ends the batch before it");
+        say(rt, page, b", the batcher ends the batch before it");
         return;
     }
-    say(page, b", the batcher puts ");
-    print_held(page, y);
-    say(page, b" there");
+    say(rt, page, b", the batcher puts ");
+    print_held(rt, page, y);
+    say(rt, page, b" there");
 }
 
 // A flag alone differs, and no group is there.
-fn print_flagged(page: &mut Page, g: usize, count: usize) {
-    print_name(page, g);
-    say(page, b" is flagged, and the batch has only ");
-    counted(page, count, b" group", b" groups");
+fn print_flagged(rt: HostRuntime, page: &mut [u8], g: usize, count: usize) {
+    print_name(rt, page, g);
+    say(rt, page, b" is flagged, and the batch has only ");
+    counted(rt, page, count, b" group", b" groups");
 }
 
 // The batcher goes on with padding alone.
-fn print_unfilled(page: &mut Page, count: usize, made: usize) {
-    say(page, b"the batch has ");
-    counted(page, count, b" group", b" groups");
-    say(page, b", the batcher fills it up to ");
-    number(page, made as u64);
+fn print_unfilled(rt: HostRuntime, page: &mut [u8], count: usize, made: usize) {
+    say(rt, page, b"the batch has ");
+    counted(rt, page, count, b" group", b" groups");
+    say(rt, page, b", the batcher fills it up to ");
+    number(rt, page, made as u64);
 }
 
-fn print_at(page: &mut Page, batch: OpBatch, made: OpBatch, g: usize)
+fn print_at(rt: HostRuntime, page: &mut [u8], batch: OpBatch, made: OpBatch, g: usize)
     requires { g < 8 }
 {
     let x = group_at(batch, g);
     let y = group_at(made, g);
     if !x.there {
         if !y.there {
-            print_flagged(page, g, batch.count as usize);
+            print_flagged(rt, page, g, batch.count as usize);
             return;
         }
         if y.own == 0 {
-            print_unfilled(page, batch.count as usize, made.count as usize);
+            print_unfilled(rt, page, batch.count as usize, made.count as usize);
             return;
         }
     }
-    print_group(page, g, x);
-    print_made(page, y);
+    print_group(rt, page, g, x);
+    print_made(rt, page, y);
 }
 
 // True of every block that is refused so.
-fn print_unlike(page: &mut Page) {
+fn print_unlike(rt: HostRuntime, page: &mut [u8]) {
     say(
+        rt,
         page,
         b"batching the block's own operations gives another batch",
     );
 }
 
-fn print_difference(page: &mut Page, batch: OpBatch, made: OpBatch) {
+fn print_difference(rt: HostRuntime, page: &mut [u8], batch: OpBatch, made: OpBatch) {
     let g = first_difference(batch, made);
     if g < 8 {
-        print_at(page, batch, made, g);
+        print_at(rt, page, batch, made, g);
         return;
     }
-    print_unlike(page);
+    print_unlike(rt, page);
 }
 
 // ---- what is different in a block that is not finished
 
 // Its batch at the place is held against the one that batching its own list gives there. The block's lent runs take what is batched.
 fn print_against(
-    page: &mut Page,
+    rt: HostRuntime,
+    page: &mut [u8],
     list_codes: &[u8],
     list_values: &[u64],
     batch: OpBatch,
@@ -273,22 +275,24 @@ fn print_against(
         operations: _,
     } = r
     else {
-        print_unlike(page);
+        print_unlike(rt, page);
         return;
     };
     if batches <= place {
         say(
+            rt,
             page,
             b"an extra batch, batching the block's own operations gives only ",
         );
-        number(page, batches as u64);
+        number(rt, page, batches as u64);
         return;
     }
-    print_difference(page, batch, listing::record(records, place));
+    print_difference(rt, page, batch, listing::record(records, place));
 }
 
 fn print_batch(
-    page: &mut Page,
+    rt: HostRuntime,
+    page: &mut [u8],
     list_codes: &[u8],
     list_values: &[u64],
     batch: OpBatch,
@@ -297,13 +301,14 @@ fn print_batch(
     values: &mut [u64],
     records: &mut [u8],
 ) {
-    listing::print_at(page, b" at batch ", place);
-    say(page, b": ");
+    listing::print_at(rt, page, b" at batch ", place);
+    say(rt, page, b": ");
     if batch.starts[8] == 0 {
-        say(page, b"an empty batch");
+        say(rt, page, b"an empty batch");
         return;
     }
     print_against(
+        rt,
         page,
         list_codes,
         list_values,
@@ -315,15 +320,16 @@ fn print_batch(
     );
 }
 
-fn print_many(page: &mut Page, n: usize) {
-    say(page, b": the block's own list has ");
-    number(page, n as u64);
-    say(page, b" operations, more than 16384");
+fn print_many(rt: HostRuntime, page: &mut [u8], n: usize) {
+    say(rt, page, b": the block's own list has ");
+    number(rt, page, n as u64);
+    say(rt, page, b" operations, more than 16384");
 }
 
 // A block of so many batches.
 fn print_block(
-    page: &mut Page,
+    rt: HostRuntime,
+    page: &mut [u8],
     batches: usize,
     place: usize,
     codes: &mut [u8],
@@ -341,15 +347,16 @@ fn print_block(
         &mut list_values,
     );
     if n == 0 {
-        say(page, b": the block has no operations of its own");
+        say(rt, page, b": the block has no operations of its own");
         return;
     }
     if 16384 < n {
-        print_many(page, n);
+        print_many(rt, page, n);
         return;
     }
     let batch = listing::record(records, place);
     print_batch(
+        rt,
         page,
         &list_codes[..n],
         &list_values[..n],
@@ -363,7 +370,8 @@ fn print_block(
 
 // The block is read once more, since a strict read that is refused leaves nothing of it.
 fn print_why(
-    page: &mut Page,
+    rt: HostRuntime,
+    page: &mut [u8],
     s: &[u8],
     place: usize,
     codes: &mut [u8],
@@ -378,24 +386,31 @@ fn print_why(
         used: _,
     } = r
     else {
-        say(page, b": ");
-        print_unlike(page);
+        say(rt, page, b": ");
+        print_unlike(rt, page);
         return;
     };
-    print_block(page, batches, place, codes, values, records);
+    print_block(rt, page, batches, place, codes, values, records);
 }
 
 // ---- a file's line
 
-fn start(page: &mut Page, answer: &[u8], path: &[u8]) {
-    say(page, answer);
-    console::quote(page, path, 4096);
-    say(page, b": ");
+fn start(rt: HostRuntime, page: &mut [u8], answer: &[u8], path: &[u8]) {
+    say(rt, page, answer);
+    console::quote(rt, page, path, 4096);
+    say(rt, page, b": ");
 }
 
-fn start_refused(page: &mut Page, path: &[u8], s: &[u8], refusal: u8, place: usize) {
-    start(page, b"not finished ", path);
-    listing::print_numbered(page, s, 0, refusal, place);
+fn start_refused(
+    rt: HostRuntime,
+    page: &mut [u8],
+    path: &[u8],
+    s: &[u8],
+    refusal: u8,
+    place: usize,
+) {
+    start(rt, page, b"not finished ", path);
+    listing::print_numbered(rt, page, s, 0, refusal, place);
 }
 
 // How many bytes follow, where there are any; `whole` where the file's end was seen.
@@ -409,14 +424,22 @@ fn after(read: usize, used: usize, whole: bool) -> After {
     After::AtLeast(read - used)
 }
 
-fn print_finished(page: &mut Page, path: &[u8], records: &[u8], block: Block, rest: After) {
-    start(page, b"finished ", path);
-    listing::print_totals(page, records, block, rest);
+fn print_finished(
+    rt: HostRuntime,
+    page: &mut [u8],
+    path: &[u8],
+    records: &[u8],
+    block: Block,
+    rest: After,
+) {
+    start(rt, page, b"finished ", path);
+    listing::print_totals(rt, page, records, block, rest);
 }
 
 // A refused block; the lent runs are there to find out why.
 fn refused(
-    page: &mut Page,
+    rt: HostRuntime,
+    page: &mut [u8],
     path: &[u8],
     s: &[u8],
     refusal: u8,
@@ -425,19 +448,19 @@ fn refused(
     values: &mut [u64],
     records: &mut [u8],
 ) {
-    start_refused(page, path, s, refusal, place);
+    start_refused(rt, page, path, s, refusal, place);
     if refusal == 18 {
-        print_why(page, s, place, codes, values, records);
-        say(page, b"\n");
+        print_why(rt, page, s, place, codes, values, records);
+        say(rt, page, b"\n");
         return;
     }
-    say(page, b": ");
-    listing::print_words(page, refusal, place);
-    say(page, b"\n");
+    say(rt, page, b": ");
+    listing::print_words(rt, page, refusal, place);
+    say(rt, page, b"\n");
 }
 
 // The first bytes of a file, as many as a block may have.
-fn check_bytes(page: &mut Page, path: &[u8], s: &[u8], whole: bool) {
+fn check_bytes(rt: HostRuntime, page: &mut [u8], path: &[u8], s: &[u8], whole: bool) {
     let table = vm::table();
     let mut codes = space::codes();
     let mut values = space::values();
@@ -455,9 +478,10 @@ fn check_bytes(page: &mut Page, path: &[u8], s: &[u8], whole: bool) {
                 operations,
                 used,
             };
-            print_finished(page, path, &records, block, after(s.len(), used, whole));
+            print_finished(rt, page, path, &records, block, after(s.len(), used, whole));
         }
         Decoded::Refused { number, place } => refused(
+            rt,
             page,
             path,
             s,
@@ -472,68 +496,69 @@ fn check_bytes(page: &mut Page, path: &[u8], s: &[u8], whole: bool) {
 
 // ---- files
 
-fn unread(page: &mut Page, path: &[u8], error: Error) {
-    start(page, b"not finished ", path);
-    console::unread(page, error);
+fn unread(rt: HostRuntime, page: &mut [u8], path: &[u8], error: Error) {
+    start(rt, page, b"not finished ", path);
+    console::unread(rt, page, error);
 }
 
-fn check_read(page: &mut Page, path: &[u8], file: &mut File, room: &mut [u8]) {
+fn check_read(rt: HostRuntime, page: &mut [u8], path: &[u8], file: &mut File, room: &mut [u8]) {
     let got = console::fill(file, room);
     if let Some(error) = got.failed {
-        unread(page, path, error);
+        unread(rt, page, path, error);
         return;
     }
     let n = got.count;
     let whole = n < room.len();
-    check_bytes(page, path, &room[..n], whole);
+    check_bytes(rt, page, path, &room[..n], whole);
 }
 
-fn check_open(page: &mut Page, path: &[u8], file: &mut File) {
+fn check_open(rt: HostRuntime, page: &mut [u8], path: &[u8], file: &mut File) {
     let mut room = space::bytes();
-    check_read(page, path, file, &mut room);
+    check_read(rt, page, path, file, &mut room);
 }
 
-fn check_file(rt: HostRuntime, page: &mut Page, path: &[u8]) {
+fn check_file(rt: HostRuntime, page: &mut [u8], path: &[u8]) {
     match console::open(rt, path) {
-        Ok(mut file) => check_open(page, path, &mut file),
-        Err(error) => unread(page, path, error),
+        Ok(mut file) => check_open(rt, page, path, &mut file),
+        Err(error) => unread(rt, page, path, error),
     }
 }
 
 // ---- arguments
 
-fn help(page: &mut Page) {
+fn help(rt: HostRuntime, page: &mut [u8]) {
     say(
+        rt,
         page,
         b"finished FILE...: says for each file, in one line, whether the block that it starts with is finished: whether batching the block's own\noperations (flagged padding dropped), under the virtual machine's own table, writes those very bytes.\nThe line starts with `finished`, and has the block's totals and how many bytes follow it, if any do; or it starts with `not finished`, and has\nthe number of the refusal, where it is and what is wrong: 18 where the block can be read and is not finished, with the first batch that is\ndifferent and what is different there. A file that cannot be read has a line too, without a number. A list has at most 16384 operations.\n",
     );
 }
 
-fn check_name(rt: HostRuntime, page: &mut Page, path: &[u8]) {
+fn check_name(rt: HostRuntime, page: &mut [u8], path: &[u8]) {
     if check::same(path, b"--help") {
-        help(page);
+        help(rt, page);
         return;
     }
     check_file(rt, page, path);
 }
 
 // The i-th argument.
-fn check_argument(rt: HostRuntime, page: &mut Page, i: usize) {
+fn check_argument(rt: HostRuntime, page: &mut [u8], i: usize) {
     let mut path = [0u8; 4096];
     let Ok(n) = rt.arg(i, &mut path) else {
-        say(page, b"not finished: the name of file ");
-        number(page, i as u64);
-        say(page, b" is too long\n");
+        say(rt, page, b"not finished: the name of file ");
+        number(rt, page, i as u64);
+        say(rt, page, b" is too long\n");
         return;
     };
     check_name(rt, page, &path[..n]);
 }
 
-fn check_arguments(rt: HostRuntime, page: &mut Page, count: usize) {
+fn check_arguments(rt: HostRuntime, page: &mut [u8], count: usize) {
     let mut i: usize = 1;
     while i < count {
         check_argument(rt, page, i);
-        console::flush(page);
+        console::flush(rt, page);
         i += 1;
     }
 }
@@ -544,6 +569,6 @@ fn main(rt: HostRuntime) {
         console::tell(rt, b"usage: finished FILE... (finished --help says more)\n");
         return;
     }
-    let mut page = console::output(rt);
+    let mut page = console::output();
     check_arguments(rt, &mut page, count);
 }

@@ -4,7 +4,7 @@
 ghost use Rattle.std.specs.Prelude.{◌+◌, ◌<◌, ◌≤◌};
 ghost use Rattle.io.specs.Counts.{IsPrefixLen};
 
-use console::{Page, byte, counted, number, say};
+use console::{byte, counted, number, say};
 use op_batch::OpBatch;
 use wire::CountRead;
 
@@ -47,43 +47,43 @@ fn name(code: u8, out: &mut [u8]) -> usize
 }
 
 // An operation's name, or its number where it has none.
-fn print_name(page: &mut Page, code: u8) {
+fn print_name(rt: HostRuntime, page: &mut [u8], code: u8) {
     let mut text = [0u8; 16];
     let n = name(code, &mut text);
     if n == 0 {
-        say(page, b"op ");
-        number(page, word::wide(code));
+        say(rt, page, b"op ");
+        number(rt, page, word::wide(code));
         return;
     }
-    say(page, &text[..n]);
+    say(rt, page, &text[..n]);
 }
 
 // An operation, with its value where its kind has one.
-fn print_op(page: &mut Page, code: u8, v: u64) {
-    say(page, b" ");
-    print_name(page, code);
+fn print_op(rt: HostRuntime, page: &mut [u8], code: u8, v: u64) {
+    say(rt, page, b" ");
+    print_name(rt, page, code);
     if vm::kind(code) == 0 {
         return;
     }
-    say(page, b"(");
-    number(page, v);
-    say(page, b")");
+    say(rt, page, b"(");
+    number(rt, page, v);
+    say(rt, page, b")");
 }
 
 // The one at a place, after a space.
-pub fn print_op_at(page: &mut Page, codes: &[u8], values: &[u64], at: usize) {
+pub fn print_op_at(rt: HostRuntime, page: &mut [u8], codes: &[u8], values: &[u64], at: usize) {
     if at < codes.len() {
         if at < values.len() {
-            print_op(page, codes[at], values[at]);
+            print_op(rt, page, codes[at], values[at]);
         }
     }
 }
 
 // The n operations from `at` on.
-fn print_ops(page: &mut Page, codes: &[u8], values: &[u64], at: usize, n: usize) {
+fn print_ops(rt: HostRuntime, page: &mut [u8], codes: &[u8], values: &[u64], at: usize, n: usize) {
     let mut i: usize = 0;
     while i < n {
-        print_op_at(page, codes, values, plus(at, i));
+        print_op_at(rt, page, codes, values, plus(at, i));
         i += 1;
     }
 }
@@ -123,14 +123,18 @@ struct Place {
     byte: usize,
 }
 
-fn print_head(page: &mut Page, codes: &[u8], group: u64, at: Place, from: usize) {
-    say(page, b", number ");
-    number(page, group);
-    say(page, b", operation ");
-    number(page, plus(at.operation, from) as u64);
-    say(page, b", byte ");
-    number(page, plus(at.byte, size(codes, at.operation, from)) as u64);
-    say(page, b":");
+fn print_head(rt: HostRuntime, page: &mut [u8], codes: &[u8], group: u64, at: Place, from: usize) {
+    say(rt, page, b", number ");
+    number(rt, page, group);
+    say(rt, page, b", operation ");
+    number(rt, page, plus(at.operation, from) as u64);
+    say(rt, page, b", byte ");
+    number(
+        rt,
+        page,
+        plus(at.byte, size(codes, at.operation, from)) as u64,
+    );
+    say(rt, page, b":");
 }
 
 // The b-th record, or one of zeros where the run ends before it.
@@ -146,79 +150,96 @@ pub fn record(records: &[u8], b: usize) -> OpBatch {
     }
 }
 
-fn print_end(page: &mut Page, flag: u8) {
+fn print_end(rt: HostRuntime, page: &mut [u8], flag: u8) {
     if flag != 0 {
-        say(page, b" [padding]\n");
+        say(rt, page, b" [padding]\n");
         return;
     }
-    say(page, b"\n");
+    say(rt, page, b"\n");
 }
 
 // Group g of a batch.
-fn print_group(page: &mut Page, codes: &[u8], values: &[u64], batch: OpBatch, at: Place, g: usize)
+fn print_group(
+    rt: HostRuntime,
+    page: &mut [u8],
+    codes: &[u8],
+    values: &[u64],
+    batch: OpBatch,
+    at: Place,
+    g: usize,
+)
     requires { g < 8 }
 {
     let from = batch.starts[g] as usize;
     let to = batch.starts[g + 1] as usize;
-    say(page, b"  group ");
-    number(page, g as u64);
+    say(rt, page, b"  group ");
+    number(rt, page, g as u64);
     if to <= from {
-        say(page, b": value ");
-        number(page, batch.groups[g]);
-        say(page, b"\n");
+        say(rt, page, b": value ");
+        number(rt, page, batch.groups[g]);
+        say(rt, page, b"\n");
         return;
     }
-    print_head(page, codes, batch.groups[g], at, from);
-    print_ops(page, codes, values, plus(at.operation, from), to - from);
-    print_end(page, batch.flags[g]);
+    print_head(rt, page, codes, batch.groups[g], at, from);
+    print_ops(rt, page, codes, values, plus(at.operation, from), to - from);
+    print_end(rt, page, batch.flags[g]);
 }
 
 // The groups of a batch.
-fn print_groups(page: &mut Page, codes: &[u8], values: &[u64], batch: OpBatch, at: Place) {
+fn print_groups(
+    rt: HostRuntime,
+    page: &mut [u8],
+    codes: &[u8],
+    values: &[u64],
+    batch: OpBatch,
+    at: Place,
+) {
     let count = batch.count as usize;
     let mut g: usize = 0;
     while g < 8 {
         if count <= g {
             return;
         }
-        print_group(page, codes, values, batch, at, g);
+        print_group(rt, page, codes, values, batch, at, g);
         g += 1;
     }
 }
 
 // Group g is at or above the group count: its flag, where it is set, marks no padding.
-fn print_flag(page: &mut Page, g: usize, flag: u8) {
+fn print_flag(rt: HostRuntime, page: &mut [u8], g: usize, flag: u8) {
     if flag == 0 {
         return;
     }
-    say(page, b"  group ");
-    number(page, g as u64);
+    say(rt, page, b"  group ");
+    number(rt, page, g as u64);
     say(
+        rt,
         page,
         b": its flag stands at or above the group count and is kept; no padding\n",
     );
 }
 
 // The flags of a batch at or above its group count.
-fn print_flags(page: &mut Page, batch: OpBatch) {
+fn print_flags(rt: HostRuntime, page: &mut [u8], batch: OpBatch) {
     let mut g = batch.count as usize;
     while g < 8 {
-        print_flag(page, g, batch.flags[g]);
+        print_flag(rt, page, g, batch.flags[g]);
         g += 1;
     }
 }
 
-fn print_batch(page: &mut Page, b: usize, groups: usize, operations: usize) {
-    say(page, b"batch ");
-    number(page, b as u64);
-    say(page, b": ");
-    counted(page, groups, b" group, ", b" groups, ");
-    counted(page, operations, b" operation\n", b" operations\n");
+fn print_batch(rt: HostRuntime, page: &mut [u8], b: usize, groups: usize, operations: usize) {
+    say(rt, page, b"batch ");
+    number(rt, page, b as u64);
+    say(rt, page, b": ");
+    counted(rt, page, groups, b" group, ", b" groups, ");
+    counted(rt, page, operations, b" operation\n", b" operations\n");
 }
 
 // The batches of a block whose first operation is at a byte.
 fn print_batches(
-    page: &mut Page,
+    rt: HostRuntime,
+    page: &mut [u8],
     codes: &[u8],
     values: &[u64],
     records: &[u8],
@@ -233,13 +254,13 @@ fn print_batches(
     while b < batches {
         let batch = record(records, b);
         let n = batch.starts[8] as usize;
-        print_batch(page, b, batch.count as usize, n);
+        print_batch(rt, page, b, batch.count as usize, n);
         let place = Place {
             operation,
             byte: at,
         };
-        print_groups(page, codes, values, batch, place);
-        print_flags(page, batch);
+        print_groups(rt, page, codes, values, batch, place);
+        print_flags(rt, page, batch);
         at = plus(at, size(codes, operation, n));
         operation = plus(operation, n);
         b += 1;
@@ -293,16 +314,16 @@ pub enum After {
     AtLeast(usize),
 }
 
-fn print_rest(page: &mut Page, then: &[u8], n: usize) {
-    say(page, then);
-    counted(page, n, b" more byte\n", b" more bytes\n");
+fn print_rest(rt: HostRuntime, page: &mut [u8], then: &[u8], n: usize) {
+    say(rt, page, then);
+    counted(rt, page, n, b" more byte\n", b" more bytes\n");
 }
 
-fn print_after(page: &mut Page, after: After) {
+fn print_after(rt: HostRuntime, page: &mut [u8], after: After) {
     match after {
-        After::Unasked => say(page, b"\n"),
-        After::Bytes(n) => print_rest(page, b", then ", n),
-        After::AtLeast(n) => print_rest(page, b", then at least ", n),
+        After::Unasked => say(rt, page, b"\n"),
+        After::Bytes(n) => print_rest(rt, page, b", then ", n),
+        After::AtLeast(n) => print_rest(rt, page, b", then at least ", n),
     }
 }
 
@@ -315,36 +336,43 @@ pub struct Block {
     pub used: usize,
 }
 
-fn print_start(page: &mut Page, at: usize) {
-    say(page, b"block at byte ");
-    number(page, at as u64);
-    say(page, b": ");
+fn print_start(rt: HostRuntime, page: &mut [u8], at: usize) {
+    say(rt, page, b"block at byte ");
+    number(rt, page, at as u64);
+    say(rt, page, b": ");
 }
 
 // In a line: the totals of a block, and what stands after it.
-pub fn print_totals(page: &mut Page, records: &[u8], block: Block, after: After) {
+pub fn print_totals(rt: HostRuntime, page: &mut [u8], records: &[u8], block: Block, after: After) {
     let batches = block.batches;
     if MOST_BATCHES < batches {
         return;
     }
-    counted(page, batches, b" batch, ", b" batches, ");
-    counted(page, block.operations, b" operation, ", b" operations, ");
+    counted(rt, page, batches, b" batch, ", b" batches, ");
     counted(
+        rt,
+        page,
+        block.operations,
+        b" operation, ",
+        b" operations, ",
+    );
+    counted(
+        rt,
         page,
         paddings(records, batches),
         b" padding, ",
         b" paddings, ",
     );
-    counted(page, block.used, b" byte", b" bytes");
-    print_after(page, after);
+    counted(rt, page, block.used, b" byte", b" bytes");
+    print_after(rt, page, after);
 }
 
 // The totals alone.
 pub fn print_line(rt: HostRuntime, records: &[u8], block: Block) {
-    let mut page = console::output(rt);
-    print_start(&mut page, block.at);
-    print_totals(&mut page, records, block, After::Unasked);
-    console::flush(&mut page);
+    let mut page = console::output();
+    print_start(rt, &mut page, block.at);
+    print_totals(rt, &mut page, records, block, After::Unasked);
+    console::flush(rt, &mut page);
 }
 
 // The totals, and the batches; and whether they could be written.
@@ -360,12 +388,12 @@ pub fn print_block(
     if MOST_BATCHES < batches {
         return false;
     }
-    let mut page = console::output(rt);
-    print_start(&mut page, block.at);
-    print_totals(&mut page, records, block, after);
+    let mut page = console::output();
+    print_start(rt, &mut page, block.at);
+    print_totals(rt, &mut page, records, block, after);
     let first = plus(block.at, wire::count_size(block.operations as u64));
-    print_batches(&mut page, codes, values, records, batches, first);
-    console::flush(&mut page)
+    print_batches(rt, &mut page, codes, values, records, batches, first);
+    console::flush(rt, &mut page)
 }
 
 // ---- where a refusal of decode points to, in the bytes of a block
@@ -418,81 +446,102 @@ pub fn place_byte(s: &[u8], from: usize, refusal: u8, place: usize) -> usize {
 // ---- refusals
 
 // What a number of refusal means (document 01, "Numbers of refusal", M-101 for 4 and 17, M-107 for 18), in the words of rust/oliastrofu.
-fn print_meaning(page: &mut Page, refusal: u8) {
+fn print_meaning(rt: HostRuntime, page: &mut [u8], refusal: u8) {
     match refusal {
-        1 => say(page, b"the place to begin at is past the end of the bytes"),
+        1 => say(
+            rt,
+            page,
+            b"the place to begin at is past the end of the bytes",
+        ),
         2 => say(
+            rt,
             page,
             b"the bytes end inside the count, an operation or the batch count",
         ),
         3 => say(
+            rt,
             page,
             b"a count has a wrong form or is over a limit, or lengths do not match",
         ),
         4 => say(
+            rt,
             page,
             b"an operation's opcode is unassigned: 128 or more, or of kind 3",
         ),
-        5 => say(page, b"more batches than the bytes that are left can hold"),
-        6 => say(page, b"a group's length is over 9"),
-        7 => say(page, b"a batch runs past the operations"),
-        8 => say(page, b"an immediate's slot is past the groups"),
-        9 => say(page, b"an immediate's slot is a group of operations"),
-        10 => say(page, b"a padding flag stands where no padding is"),
-        11 => say(page, b"operations are left over after the last batch"),
-        12 => say(page, b"the list to batch is empty"),
-        13 => say(page, b"a lent output is smaller than the result needs"),
-        14 => say(page, b"the table is not 128 bytes or not good"),
-        15 => say(page, b"the batches' structure does not hold"),
+        5 => say(
+            rt,
+            page,
+            b"more batches than the bytes that are left can hold",
+        ),
+        6 => say(rt, page, b"a group's length is over 9"),
+        7 => say(rt, page, b"a batch runs past the operations"),
+        8 => say(rt, page, b"an immediate's slot is past the groups"),
+        9 => say(rt, page, b"an immediate's slot is a group of operations"),
+        10 => say(rt, page, b"a padding flag stands where no padding is"),
+        11 => say(rt, page, b"operations are left over after the last batch"),
+        12 => say(rt, page, b"the list to batch is empty"),
+        13 => say(rt, page, b"a lent output is smaller than the result needs"),
+        14 => say(rt, page, b"the table is not 128 bytes or not good"),
+        15 => say(rt, page, b"the batches' structure does not hold"),
         16 => say(
+            rt,
             page,
             b"a group number, an immediate or an empty group's 0 differs",
         ),
         17 => say(
+            rt,
             page,
             b"an operation's value is not below the field's size, or not 0 where its kind has none",
         ),
         18 => say(
+            rt,
             page,
             b"the block is not finished: batching its own operations does not make it",
         ),
-        _ => say(page, b"a number without a meaning"),
+        _ => say(rt, page, b"a number without a meaning"),
     }
 }
 
-pub fn print_at(page: &mut Page, what: &[u8], place: usize) {
-    say(page, what);
-    number(page, place as u64);
+pub fn print_at(rt: HostRuntime, page: &mut [u8], what: &[u8], place: usize) {
+    say(rt, page, what);
+    number(rt, page, place as u64);
 }
 
 // What the place of a refusal counts; nothing where it is a byte or always 0.
-fn print_place(page: &mut Page, refusal: u8, place: usize) {
+fn print_place(rt: HostRuntime, page: &mut [u8], refusal: u8, place: usize) {
     match refusal {
-        4 | 17 => print_at(page, b", operation ", place),
-        6 | 7 | 8 | 9 | 10 | 15 | 16 | 18 => print_at(page, b", in batch ", place),
+        4 | 17 => print_at(rt, page, b", operation ", place),
+        6 | 7 | 8 | 9 | 10 | 15 | 16 | 18 => print_at(rt, page, b", in batch ", place),
         _ => {}
     }
 }
 
 // What a refusal means, and its place.
-pub fn print_words(page: &mut Page, refusal: u8, place: usize) {
-    print_meaning(page, refusal);
-    print_place(page, refusal, place);
+pub fn print_words(rt: HostRuntime, page: &mut [u8], refusal: u8, place: usize) {
+    print_meaning(rt, page, refusal);
+    print_place(rt, page, refusal, place);
 }
 
 // The same after its number.
-pub fn print_refusal(page: &mut Page, refusal: u8, place: usize) {
-    say(page, b"refusal ");
-    number(page, word::wide(refusal));
-    say(page, b": ");
-    print_words(page, refusal, place);
+pub fn print_refusal(rt: HostRuntime, page: &mut [u8], refusal: u8, place: usize) {
+    say(rt, page, b"refusal ");
+    number(rt, page, word::wide(refusal));
+    say(rt, page, b": ");
+    print_words(rt, page, refusal, place);
 }
 
 // The number of a refusal of decode, and the byte that it points to, where it has one.
-pub fn print_numbered(page: &mut Page, s: &[u8], from: usize, refusal: u8, place: usize) {
-    number(page, word::wide(refusal));
+pub fn print_numbered(
+    rt: HostRuntime,
+    page: &mut [u8],
+    s: &[u8],
+    from: usize,
+    refusal: u8,
+    place: usize,
+) {
+    number(rt, page, word::wide(refusal));
     match refusal {
-        2..=10 | 17 => print_at(page, b" at byte ", place_byte(s, from, refusal, place)),
+        2..=10 | 17 => print_at(rt, page, b" at byte ", place_byte(s, from, refusal, place)),
         _ => {}
     }
 }

@@ -4,7 +4,6 @@
 
 ghost use Rattle.std.specs.Prelude.{◌≤◌};
 
-use console::Page;
 use decoder::Decoded;
 use listing::{After, Block, plus};
 use std::env::Env;
@@ -14,16 +13,22 @@ use text::Number;
 
 // ---- a block
 
-fn say_byte(page: &mut Page, what: &[u8], at: usize) {
-    console::say(page, what);
-    console::number(page, at as u64);
+fn say_byte(rt: HostRuntime, page: &mut [u8], what: &[u8], at: usize) {
+    console::say(rt, page, what);
+    console::number(rt, page, at as u64);
 }
 
 // The byte that a refusal points to, where it has one.
-fn say_place(page: &mut Page, s: &[u8], at: usize, refusal: u8, place: usize) {
+fn say_place(rt: HostRuntime, page: &mut [u8], s: &[u8], at: usize, refusal: u8, place: usize) {
     match refusal {
-        2 => say_byte(page, b", in the item that starts at byte ", plus(at, place)),
+        2 => say_byte(
+            rt,
+            page,
+            b", in the item that starts at byte ",
+            plus(at, place),
+        ),
         3..=10 | 17 => say_byte(
+            rt,
             page,
             b", at byte ",
             plus(at, listing::place_byte(s, 0, refusal, place)),
@@ -33,13 +38,13 @@ fn say_place(page: &mut Page, s: &[u8], at: usize, refusal: u8, place: usize) {
 }
 
 fn refused(rt: HostRuntime, path: &[u8], s: &[u8], at: usize, refusal: u8, place: usize) {
-    let mut line = console::errors(rt);
-    console::about(&mut line, b"show", path);
-    console::say(&mut line, b": ");
-    listing::print_refusal(&mut line, refusal, place);
-    say_place(&mut line, s, at, refusal, place);
-    console::say(&mut line, b"\n");
-    console::flush(&mut line);
+    let mut line = console::errors();
+    console::about(rt, &mut line, b"show", path);
+    console::say(rt, &mut line, b": ");
+    listing::print_refusal(rt, &mut line, refusal, place);
+    say_place(rt, &mut line, s, at, refusal, place);
+    console::say(rt, &mut line, b"\n");
+    console::flush(rt, &mut line);
 }
 
 // What stands after a block that ends at `last`, in a file that ends at `end`; that is not known where it comes first.
