@@ -5,9 +5,9 @@ usage: python3 tools/respell.py [--dry] [TOP]
 
 A name that an .antt file of specs/ or proofs/ declares (a definition, lemma, field or constructor) and that has a capital or a dash inside is
 written with underscores: `countAt` becomes `count_at`, `value-slot` becomes `value_slot`. Types and modules keep their capitals, and a name that
-begins with one keeps its dash (`P1-room`). A lemma that would have its function's name ends in `_lem`. Names that Rattle makes (in proofs/F/) keep their dashes. It renames what declares and what cites, in
-.antt, .rt and .edit files, outside texts in quotes, and says where two names would fall together or a new name is already there.
-It also moves the module Contracts of the crate tight to FromContracts.
+begins with one keeps its dash (`P1-room`). A lemma that would have its function's name ends in `_lem`. Names that Rattle makes (in proofs/F/) keep
+their dashes. It renames what declares and what cites, in .antt, .rt and .edit files, outside texts in quotes, and says where two names would fall
+together or a new name is already there. It also moves the module Contracts of the crate tight to FromContracts.
 """
 
 import collections
@@ -16,7 +16,7 @@ import re
 import sys
 
 MODS = r"(?:(?:pub|abbrev|unfoldable|syntax)\s+)*"
-DECLARES = re.compile(r"\s*" + MODS + r"((?:[^\s(){}:.,;=]+\s+)*?[^\s(){}:.,;=]+)\s+:(?=\s|$)")
+DECLARES = re.compile(r"\s*" + MODS + r"((?:[^\s(){}:.,;=]+\s+)*?[^\s(){}:.,;=]+)(?:\s+\{[^{}]*\})*\s+:(?=\s|$)")
 DATA = re.compile(r"\s*" + MODS + r"(?:data|record|open data)\s+(\S+)")
 TOKEN = re.compile(r"\"(?:\\.|[^\"\\\n])*\"|[^\s(){}\[\].,;\"`|:@]+")
 # a module of specs/ may not be called contracts

@@ -4,14 +4,14 @@ use mathlib.Core.List.{List, [], ◌∷◌, ◌++◌, append_assoc, append-nil, 
 use mathlib.Core.Bool.{Bool, true, false, cond}
 use Prim.Native.Nat.{ℕ, zero, suc}
 use lib.Seq.{append_snoc}
-use Rattle.rules.specs.Lists.{butLast}
+use Rattle.rules.specs.Lists.{but_last}
 use Rattle.rules.specs.Operations.{Op, noop}
 use Rattle.rules.specs.Batching.{Group, ops, imm, Batch, empty, fits, wants_noop, close_group, groups, turned, full, ready, joined, added, turned_times, ended, Work, start, end_batch, room, step, steps, batches_of}
 use Rattle.claims.proofs.Shape.{raw_in, raw, raws}
 
 -- ---- dropping the flagged padding gives the list back
 
-but_last_snoc : (xs : List Op) (x : Op) → butLast (xs ++ (x ∷ [])) ≡ xs
+but_last_snoc : (xs : List Op) (x : Op) → but_last (xs ++ (x ∷ [])) ≡ xs
 but_last_snoc [] x = refl
 but_last_snoc (y ∷ []) x = refl
 but_last_snoc (y ∷ z ∷ xs) x = ap (λ (r : List Op). y ∷ r) (but_last_snoc (z ∷ xs) x)

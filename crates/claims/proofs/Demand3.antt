@@ -8,7 +8,7 @@ use borrow.Author.Tests.{le-ltb, eq-eqb, ne_eqb}
 use lib.ListN.{length, length-append, length-map, take, drop}
 use lib.Seq.{take-append_seam, drop-append_seam}
 use lib.Dec.{ltb, eqb}
-use Rattle.rules.specs.Lists.{total, every, butLast, in_row, All}
+use Rattle.rules.specs.Lists.{total, every, but_last, in_row, All}
 use Rattle.rules.specs.Answer.{Answer, good, found, refuse, refuse_first}
 use Rattle.rules.specs.Operations.{Op, codes, values, noop, has_immediate, good_table, admissible, op_fault}
 use Rattle.rules.specs.Batching.{Group, ops, imm, ended, Work, start, end_batch, steps, batches_of}
@@ -47,7 +47,7 @@ module _ (t : List ℕ) (P : Op → Type 0) (z : P noop) where
   all_right [] ys h = h
   all_right (x ∷ xs) ys h = all_right xs ys h.1
 
-  with_last : (xs : List Op) → EndsInNoop xs → All P (butLast xs) → All P xs
+  with_last : (xs : List Op) → EndsInNoop xs → All P (but_last xs) → All P xs
   with_last [] e h = elim e [ ]
   with_last (x ∷ []) e h = (rw e z, tt)
   with_last (x ∷ y ∷ xs) e h = (h.0, with_last (y ∷ xs) e h.1)
@@ -73,7 +73,7 @@ module _ (t : List ℕ) (P : Op → Type 0) (z : P noop) where
 -- ---- sizes
 
 module _ (t : List ℕ) where
-  grown : (xs : List Op) → length xs ≤ length (butLast xs) + 1
+  grown : (xs : List Op) → length xs ≤ length (but_last xs) + 1
   grown [] = omega arith
   grown (x ∷ []) = omega arith
   grown (x ∷ y ∷ xs) = omega (arith, grown (y ∷ xs))

@@ -7,7 +7,7 @@ use native.Mathlib.Nat.{add-zero}
 use native.Mathlib.Omega.{arith}
 use lib.ListN.{length, drop, replicate, length-append, length-map, length-replicate}
 use lib.Seq.{drop_at, take_all}
-use Rattle.rules.specs.Lists.{fitted, total, butLast, in_row, All}
+use Rattle.rules.specs.Lists.{fitted, total, but_last, in_row, All}
 use Rattle.rules.specs.Operations.{Op, good_table}
 use Rattle.rules.specs.Batching.{Group, ops, imm, wants_noop, batches_of}
 use Rattle.rules.specs.Record.{cut, immediates, ops_in, size_of, flag_of, codes_number, number_of, differences, record_by, record_of, ops_of, padded_of, block_of}
@@ -33,7 +33,7 @@ none_marked [] = refl
 none_marked (x ∷ []) = refl
 none_marked {A} (x ∷ y ∷ xs) = ap (λ (l : List A). x ∷ l) (none_marked (y ∷ xs))
 
-pub last_marked : {A : Type 0} (xs : List A) → unmarked (marks_in (length xs) 1) xs ≡ butLast xs
+pub last_marked : {A : Type 0} (xs : List A) → unmarked (marks_in (length xs) 1) xs ≡ but_last xs
 unfolding marks_in
 last_marked [] = refl
 last_marked (x ∷ []) = refl

@@ -4,7 +4,7 @@ use mathlib.Core.Bool.{Bool, true, false}
 use mathlib.Core.List.{List, [], ◌∷◌, ◌++◌}
 use Prim.Native.Nat.{ℕ, ◌≤◌}
 use lib.ListN.{length}
-use Rattle.rules.specs.Lists.{butLast, All}
+use Rattle.rules.specs.Lists.{but_last, All}
 use Rattle.rules.specs.Operations.{Op}
 use Rattle.rules.specs.Batching.{Group, ops, imm, wants_noop}
 use Rattle.rules.specs.Record.{immediates}
@@ -12,7 +12,7 @@ use Rattle.claims.specs.Shape.{EndsInNoop, PowerOfTwo}
 
 -- "dropping the flagged padding": a group's operations without it, a batch's, and those of all batches
 abbrev pub raw_in : Group → List Op
-raw_in (ops xs true) = butLast xs
+raw_in (ops xs true) = but_last xs
 raw_in (ops xs false) = xs
 raw_in (imm v) = []
 

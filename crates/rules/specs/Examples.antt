@@ -2,7 +2,7 @@
 -- the guards of each function, inputs on both sides of the bound, with number and place (in a later operation or batch too), and inputs with two faults.
 use Rattle.std.specs.Prelude.{◌≡◌, refl, true, false, List, [], ◌∷◌, ◌++◌, map, ℕ, ◌+◌, ◌-◌, ◌*◌, pos, negsuc, length, replicate}
 use Rattle.std.proofs.Math.Option.{Option, none, some}
-use Rattle.rules.specs.Lists.{butLast}
+use Rattle.rules.specs.Lists.{but_last}
 use Rattle.rules.specs.Answer.{Answer, good, refused, Read, found, item_of, refuse_first}
 use Rattle.rules.specs.Operations.{Op, codes, values, kind_of, admissible, op_fault}
 use Rattle.rules.specs.Batching.{target, batches_of}
@@ -199,7 +199,7 @@ pub record OfBatching : Type 0 where
       ≡ good (block (twos 7 ++ (op 1 5 ∷ op 0 0 ∷ op 1 5 ∷ op 0 0 ∷ [])) (is (0 ∷ 9 ∷ 9 ∷ replicate 6 11) (1 ∷ 0 ∷ 1 ∷ zeros 5) (571815307018498 ∷ 5 ∷ 1 ∷ 5 ∷ zeros 4) 4 ∷ []))
   pub no_noop : build (op 1 5 ∷ op 1 6 ∷ op 2 0 ∷ []) ≡ good (block (op 1 5 ∷ op 1 6 ∷ op 2 0 ∷ op 0 0 ∷ []) (is (0 ∷ 3 ∷ 3 ∷ 3 ∷ replicate 5 4) (0 ∷ 0 ∷ 0 ∷ 1 ∷ zeros 4) (32897 ∷ 5 ∷ 6 ∷ zeros 5) 4 ∷ []))
   -- all but the last of a list
-  pub but_last : (butLast (op 1 5 ∷ op 2 0 ∷ op 0 0 ∷ []) ≡ op 1 5 ∷ op 2 0 ∷ []) × (butLast (twos 1) ≡ [])
+  pub but_last_lem : (but_last (op 1 5 ∷ op 2 0 ∷ op 0 0 ∷ []) ≡ op 1 5 ∷ op 2 0 ∷ []) × (but_last (twos 1) ≡ [])
   -- "Errors the rules must catch": a kind 2 value in a group, a caller's own Noop dropped
   pub kind_two : build (op 3 7 ∷ []) ≡ good (block (op 3 7 ∷ []) (numbered (3 ∷ zeros 7) 1 ∷ []))
   pub own_noop : build (op 2 0 ∷ op 0 0 ∷ []) ≡ good (block (op 2 0 ∷ op 0 0 ∷ []) (is (0 ∷ replicate 8 2) (zeros 8) (2 ∷ zeros 7) 1 ∷ []))
@@ -673,26 +673,26 @@ pub record OfFaults : Type 0 where
   -- "all other orders stand": build 3, 14, 12, 17, 13; encode 3, 14, 1, 15, 17, 13; decode 3, 14, 13, 17, then 2, 5 and 13; head and reader 3, 14, 17;
   -- commitment 3, 14, 15, 17, 16. For 14 the table is T without its last byte.
   pub build_3_17 : built 8 table_t (2 ∷ []) (1 ∷ 0 ∷ []) ample ≡ refused 3 0
-  pub build_14_17 : built 8 (butLast table_t) (2 ∷ []) (1 ∷ []) ample ≡ refused 14 0
+  pub build_14_17 : built 8 (but_last table_t) (2 ∷ []) (1 ∷ []) ample ≡ refused 14 0
   pub build_17_13 : built 8 table_t (2 ∷ 2 ∷ []) (0 ∷ 1 ∷ []) (room 0 0 0) ≡ refused 17 1
   pub encode_3_17 : encoded 8 table_t (arena (2 ∷ []) (1 ∷ 0 ∷ []) (records_bytes (single ∷ []))) 1000 0 ≡ refused 3 0
-  pub encode_14_17 : encoded 8 (butLast table_t) (lent (pair (op 2 0) (op 2 1))) 1000 0 ≡ refused 14 0
+  pub encode_14_17 : encoded 8 (but_last table_t) (lent (pair (op 2 0) (op 2 1))) 1000 0 ≡ refused 14 0
   pub encode_1_17 : encoded 8 table_t (lent (pair (op 2 0) (op 2 1))) 20 21 ≡ refused 1 0
   pub encode_15_17 : write (block (op 2 1 ∷ op 2 0 ∷ []) (single ∷ [])) ≡ refused 15 1
   pub encode_17_13 : encoded 8 table_t (lent (pair (op 2 0) (op 2 1))) 0 0 ≡ refused 17 1
   pub decode_3_17 : (s : List ℕ) → length s ≡ 1048567 → decoded 8 table_t (3 ∷ 1 ∷ (over ++ s)) 0 ample ≡ refused 3 0
-  pub decode_14_17 : decoded 8 (butLast table_t) (3 ∷ 1 ∷ over) 0 ample ≡ refused 14 0
+  pub decode_14_17 : decoded 8 (but_last table_t) (3 ∷ 1 ∷ over) 0 ample ≡ refused 14 0
   pub decode_13_17 : decoded 8 table_t (3 ∷ 1 ∷ over) 0 (room 0 0 0) ≡ refused 13 0
   pub decode_17_cut : read (5 ∷ 1 ∷ (over ++ (1 ∷ replicate 7 255))) 0 ≡ refused 17 0
   pub decode_17_2 : read (5 ∷ 1 ∷ over) 0 ≡ refused 17 0
   pub decode_17_5 : decoded 8 table_t (3 ∷ 1 ∷ (over ++ (9 ∷ 0 ∷ 0 ∷ 0 ∷ []))) 0 (room 9 9 0) ≡ refused 17 0
   pub decode_17_13 : decoded 8 table_t (laid 1 (1 ∷ over) 1 (low 1) (0 ∷ [])) 0 (room 9 9 0) ≡ refused 17 0
   pub head_3_17 : (s : List ℕ) → length s ≡ 1048567 → headed table_t (3 ∷ 1 ∷ (over ++ s)) 0 ≡ refused 3 0
-  pub head_14_17 : headed (butLast table_t) (3 ∷ 1 ∷ over) 0 ≡ refused 14 0
+  pub head_14_17 : headed (but_last table_t) (3 ∷ 1 ∷ over) 0 ≡ refused 14 0
   pub op_3_17 : (s : List ℕ) → length s ≡ 1048568 → op_here table_t (1 ∷ (over ++ s)) 0 7 ≡ refused 3 0
-  pub op_14_17 : op_here (butLast table_t) (1 ∷ over) 0 7 ≡ refused 14 0
+  pub op_14_17 : op_here (but_last table_t) (1 ∷ over) 0 7 ≡ refused 14 0
   pub commitment_3_17 : commitment_checked 8 table_t (arena (2 ∷ []) (1 ∷ 0 ∷ []) (records_bytes (single ∷ []))) ≡ refused 3 0
-  pub commitment_14_17 : commitment_checked 8 (butLast table_t) (lent (pair (op 2 0) (op 2 1))) ≡ refused 14 0
+  pub commitment_14_17 : commitment_checked 8 (but_last table_t) (lent (pair (op 2 0) (op 2 1))) ≡ refused 14 0
   pub commitment_15_17 : commitment (block (op 2 1 ∷ op 2 0 ∷ []) (single ∷ [])) ≡ refused 15 1
   pub commitment_17_16 : commitment (block (op 2 0 ∷ op 2 1 ∷ []) (numbered (3 ∷ zeros 7) 1 ∷ single ∷ [])) ≡ refused 17 1
   -- what looks at no value: structure, padding, the tables
@@ -775,7 +775,7 @@ pub record OfStrict : Type 0 where
   pub stale_of_fresh : (size (laid 11 (replicate 11 2) 1 (0x09 ∷ 0x20 ∷ 0 ∷ 0 ∷ []) (0 ∷ [])) ≡ told 1 11) × (strict (laid 11 (replicate 11 2) 1 (0x09 ∷ 0x20 ∷ 0 ∷ 0 ∷ []) (0 ∷ [])) 0 ≡ refused 18 0)
   -- "Otherwise the ordinary refusal comes if there is one": of P1 cut short; and each before 18, where the first batch was closed early
   pub cut_value : strict (0x05 ∷ 0x01 ∷ 0x05 ∷ []) 0 ≡ refused 2 1
-  pub cut_batch : strict (butLast p2) 0 ≡ refused 5 0
+  pub cut_batch : strict (but_last p2) 0 ≡ refused 5 0
   pub order_3 : (s : List ℕ) → length s ≡ 1048577 → strict s 0 ≡ refused 3 0
   pub order_14 : strictly_decoded 8 (zeros 127) (laid 2 (2 ∷ 2 ∷ []) 2 (low 1 ++ low 1) (0 ∷ 0 ∷ [])) 0 ample ≡ refused 14 0
   pub order_1 : strict (laid 2 (2 ∷ 2 ∷ []) 2 (low 1 ++ low 1) (0 ∷ 0 ∷ [])) 18 ≡ refused 1 0
@@ -784,7 +784,7 @@ pub record OfStrict : Type 0 where
   pub order_17 : strict (laid 2 (2 ∷ 1 ∷ over) 2 (low 1 ++ low 1) (0 ∷ 0 ∷ [])) 0 ≡ refused 17 1
   pub order_2 : strict (laid 2 (2 ∷ 2 ∷ []) 2 (low 1 ++ low 1) (0 ∷ 0 ∷ [])) 17 ≡ refused 2 17
   pub order_2_value : strict (laid 2 (2 ∷ 1 ∷ 5 ∷ []) 0 [] []) 0 ≡ refused 2 2
-  pub order_5 : strict (butLast (laid 2 (2 ∷ 2 ∷ []) 2 (low 1 ++ low 1) (0 ∷ 0 ∷ []))) 0 ≡ refused 5 0
+  pub order_5 : strict (but_last (laid 2 (2 ∷ 2 ∷ []) 2 (low 1 ++ low 1) (0 ∷ 0 ∷ []))) 0 ≡ refused 5 0
   pub order_6 : strict (laid 2 (2 ∷ 2 ∷ []) 2 (low 1 ++ low 10) (0 ∷ 0 ∷ [])) 0 ≡ refused 6 1
   pub order_7 : strict (laid 2 (2 ∷ 2 ∷ []) 2 (low 1 ++ low 2) (0 ∷ 0 ∷ [])) 0 ≡ refused 7 1
   pub order_8 : strict (laid 2 (2 ∷ push) 2 (low 1 ++ high 0x10) (0 ∷ 0 ∷ [])) 0 ≡ refused 8 1
@@ -1077,7 +1077,7 @@ numbers =
         five_of_nine = refl;
         noop_ninth = refl;
         no_noop = refl;
-        but_last = (refl, refl);
+        but_last_lem = (refl, refl);
         kind_two = refl;
         own_noop = refl;
       };

@@ -22,10 +22,10 @@ every test [] = true
 every test (x ∷ xs) = test x && every test xs
 
 -- all but the last
-abbrev pub butLast {ℓ} : {A : Type ℓ} → List A → List A
-butLast [] = []
-butLast (x ∷ []) = []
-butLast (x ∷ y ∷ xs) = x ∷ butLast (y ∷ xs)
+abbrev pub but_last {ℓ} : {A : Type ℓ} → List A → List A
+but_last [] = []
+but_last (x ∷ []) = []
+but_last (x ∷ y ∷ xs) = x ∷ but_last (y ∷ xs)
 
 -- every element has a property
 abbrev pub All {ℓ} : {A : Type ℓ} → (A → Type 0) → List A → Type 0

@@ -8,7 +8,7 @@ use borrow.Author.Tests.{ltb-true, ltb-false, eqb-true, eq-eqb}
 use lib.ListN.{length, get_or, take, drop, length-append, length-take, length-drop, take-append-drop, drop_of_length-le}
 use lib.Seq.{take-add, drop-drop}
 use lib.Dec.{ltb, eqb}
-use Rattle.rules.specs.Lists.{total, butLast}
+use Rattle.rules.specs.Lists.{total, but_last}
 use Rattle.rules.specs.Digits.{number}
 use Rattle.rules.specs.Record.{Record, record_at, records_from}
 use Rattle.rules.specs.Checks.{ninth}
@@ -38,7 +38,7 @@ part_glue from mid to cs h l =
 part_length : (n : ℕ) (cs : List ℕ) (i : ℕ) → i + n ≤ length cs → length (codes_part n cs i) ≡ n
 part_length n cs i h = simp (length-take, length-drop) (omega arith)
 
-take_last : (m : ℕ) (xs : List ℕ) → suc m ≤ length xs → butLast (take (suc m) xs) ≡ take m xs
+take_last : (m : ℕ) (xs : List ℕ) → suc m ≤ length xs → but_last (take (suc m) xs) ≡ take m xs
 take_last m [] h = absurd (omega arith)
 take_last zero (x ∷ xs) h = refl
 take_last (suc m) (x ∷ []) h = absurd (omega arith)

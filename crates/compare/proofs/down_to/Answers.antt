@@ -15,10 +15,10 @@ either : (b : Bool) (x y : ℤ) {h : ℕ} → mag x < h → mag y < h → mag (c
 either true x y p q = p
 either false x y p q = q
 
-as-far : (z : ℤ) {h : ℕ} → mag z < h → mag (negsuc 0 -ℤ z) < h
-as-far (pos zero) p = p
-as-far (pos (suc n)) p = omega (arith, p)
-as-far (negsuc n) p = either (ltb (suc n) 1) (negsuc (1 - suc (suc n))) (pos (suc n - 1)) (omega (arith, p)) (omega (arith, p))
+as_far : (z : ℤ) {h : ℕ} → mag z < h → mag (negsuc 0 -ℤ z) < h
+as_far (pos zero) p = p
+as_far (pos (suc n)) p = omega (arith, p)
+as_far (negsuc n) p = either (ltb (suc n) 1) (negsuc (1 - suc (suc n))) (pos (suc n - 1)) (omega (arith, p)) (omega (arith, p))
 
 pub overflow_sub-result : goal.overflow_sub-result
-overflow_sub-result c = subst (λ (x : ℤ). SFits w32 (negsuc 0 -ℤ x)) (sym (to_z-of_z w32 c.args.n c.ranges.n)) (record { sfits = as-far c.args.n c.ranges.n.sfits })
+overflow_sub-result c = subst (λ (x : ℤ). SFits w32 (negsuc 0 -ℤ x)) (sym (to_z-of_z w32 c.args.n c.ranges.n)) (record { sfits = as_far c.args.n c.ranges.n.sfits })
