@@ -66,7 +66,7 @@ impl OpBatchAccumulator {
     // Adds an operation to the b-th batch, whose record has room for it.
     pub fn add_op(self, code: u8, imm: bool, v: u64, b: usize, records: &mut [u8]) -> Self
         requires good { Good record_groups self }
-        requires self_value { fits_in record_groups imm self ≡ true }
+        requires fits { fits_in record_groups imm self ≡ true }
         requires code_bound { (code < 128) × (b < 2 ^ 20) }
         ensures acc { result ≡ added_acc code imm self }
         ensures run { records.new ≡ added_run imm v b self records.old }

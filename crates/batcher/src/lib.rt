@@ -64,7 +64,7 @@ fn step(
     values: &mut [u64],
     records: &mut [u8],
 ) -> Work
-    requires le_width { (2 ≤ width) × (width ≤ record_groups) × Good width work.acc }
+    requires width_in_bounds { (2 ≤ width) × (width ≤ record_groups) × Good width work.acc }
     requires base_bound { (work.base < 2 ^ 31) × (work.batches < 2 ^ 19) × (code < 128) }
     ensures work { result ≡ stepped_work width code imm work }
     ensures codes { codes.new ≡ set codes.old (last_place (stepped_work width code imm work)) code }

@@ -84,7 +84,7 @@ fn values_right(
     to: usize,
 ) -> bool
     requires codes_len { (length codes.now ≡ length values.now) × (to ≤ length codes.now) × Apt table.now codes.now }
-    requires record_size_in_bounds { (record_size * b + record_size ≤ length records.now) × (g ≤ 8) }
+    requires record_in_bounds { (record_size * b + record_size ≤ length records.now) × (g ≤ 8) }
     ensures { result ≡ begins (drop g (record_at records.now b).numbers) (immediates table.now (span (operations codes.now values.now) from to)) }
 {
     let mut j = g;
@@ -270,7 +270,7 @@ fn walk_group(
     to: usize,
 ) -> Walked
     requires codes_len { (length codes.now ≡ length values.now) × (to ≤ length codes.now) × (from ≤ to) × (to ≤ from + 9) × (length table.now ≡ 128) }
-    requires record_size_in_bounds { (record_size * b + record_size ≤ length records.now) × (g ≤ 8) }
+    requires record_in_bounds { (record_size * b + record_size ≤ length records.now) × (g ≤ 8) }
     ensures next_value { result.next ≡ slots_after table.now (span (operations codes.now values.now) from to) (record_at records.now b).numbers g }
     ensures number_value { result.next ≤ 8 → result.number ≡ codes_number (span (operations codes.now values.now) from to) }
 {

@@ -141,7 +141,7 @@ fn batch_apart(
     b: usize,
 ) -> Apart
     requires lies { Lies (arena first_codes.now first_values.now first_records.now) b from }
-    requires lies_2 { Lies (arena second_codes.now second_values.now second_records.now) b at }
+    requires lies_second { Lies (arena second_codes.now second_values.now second_records.now) b at }
     ensures { result ≡ apart_of (whole_at (arena first_codes.now first_values.now first_records.now) b from) (whole_at (arena second_codes.now second_values.now second_records.now) b at) }
 {
     let numbers = numbers_alike(first_records, second_records, b);
@@ -228,7 +228,7 @@ fn report_batches(
     report: &mut [i32],
 ) -> usize
     requires structured { Structured (arena first_codes.now first_values.now first_records.now) × (record_size * k ≤ length first_records.now) }
-    requires structured_2 { Structured (arena second_codes.now second_values.now second_records.now) × (record_size * k ≤ length second_records.now) }
+    requires structured_second { Structured (arena second_codes.now second_values.now second_records.now) × (record_size * k ≤ length second_records.now) }
     ensures { Adds (common_from k (arena first_codes.now first_values.now first_records.now) 0 (arena second_codes.now second_values.now second_records.now) 0 0) 0 result report.old report.new × (result ≤ 5 * k) }
 {
     let mut n: usize = 0;
@@ -354,7 +354,7 @@ fn report_all(
     report: &mut [i32],
 ) -> usize
     requires taken { Taken (arena first_codes.now first_values.now first_records.now) }
-    requires taken_2 { Taken (arena second_codes.now second_values.now second_records.now) }
+    requires taken_second { Taken (arena second_codes.now second_values.now second_records.now) }
     ensures { Adds (blocks_apart (block_in (arena first_codes.now first_values.now first_records.now)) (block_in (arena second_codes.now second_values.now second_records.now))) 0 result report.old report.new × (result < 2 ^ 20) }
 {
     let first = count_totals(first_codes, first_values, first_records);
@@ -408,7 +408,7 @@ fn compare_rooms(
     report: &mut [i32],
 ) -> Compared
     requires begins { Begins (arena first_codes.now first_values.now first_records.now) n k }
-    requires begins_2 { Begins (arena second_codes.now second_values.now second_records.now) m l }
+    requires begins_second { Begins (arena second_codes.now second_values.now second_records.now) m l }
     ensures { Reports (answer_in (room_for report.old) (blocks_apart (block_in (front n k (arena first_codes.now first_values.now first_records.now))) (block_in (front m l (arena second_codes.now second_values.now second_records.now))))) report.old report.new result }
 {
     let entries = report_all(

@@ -156,7 +156,7 @@ fn kept_in(padded: bool, size: usize, pads: usize) -> usize
 
 // The entries of one batch, group by group as far as flags are set.
 fn batch_entries(records: &[u8], b: usize, padded: bool, from: Filled, out: &mut [u64]) -> Filled
-    requires record_size_in_bounds { (record_size * b + record_size ≤ length records.now) × Fits (record_at records.now b) × (b < 16384) }
+    requires record_in_bounds { (record_size * b + record_size ≤ length records.now) × Fits (record_at records.now b) × (b < 16384) }
     requires waiting_bound { (from.entries + from.waiting ≤ 72 * b) × (from.paddings ≤ 8 * b) }
     ensures goes { Goes padded (marks_at (record_at records.now b) 0) from result out.old out.new }
     ensures waiting_bound_2 { (result.entries + result.waiting ≤ 72 * (b + 1)) × (result.paddings ≤ 8 * (b + 1)) }

@@ -392,7 +392,7 @@ fn finished(width: usize, table: &[u8], codes: &[u8], records: &[u8], k: usize) 
 
 // The same of the first n opcodes and the first k records of two runs.
 fn judge(width: usize, table: &[u8], codes: &[u8], n: usize, records: &[u8], k: usize) -> Verdict
-    requires le_width { (2 ≤ width) × (width ≤ record_groups) × (n ≤ length codes.now) × (record_size * k ≤ length records.now) }
+    requires width_in_bounds { (2 ≤ width) × (width ≤ record_groups) × (n ≤ length codes.now) × (record_size * k ≤ length records.now) }
     requires judged { Judged table.now (take n codes.now) (take (record_size * k) records.now) k }
     ensures { result ≡ verdict_of (verdict_in width table.now (take n codes.now) (take (record_size * k) records.now) k) }
 {

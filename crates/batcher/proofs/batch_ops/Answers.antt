@@ -32,7 +32,7 @@ bounds-table-code c = omega (arith, c.requires.sizes, (admitted _ _ (sym c.fault
 
 pub step-s-requires : goal.step-s-requires
 step-s-requires c =
-    let g = c.loop-i.invariant.1 in record { le_width = (c.requires.sizes.3, c.requires.sizes.4, going_good g); base_bound = (omega (arith, g.base, c.requires.sizes), omega (arith, g.batches, c.requires.sizes), (admitted _ _ (sym c.fault-number.ensures ∙ c.if-number-ne0.false)).code) }
+    let g = c.loop-i.invariant.1 in record { width_in_bounds = (c.requires.sizes.3, c.requires.sizes.4, going_good g); base_bound = (omega (arith, g.base, c.requires.sizes), omega (arith, g.batches, c.requires.sizes), (admitted _ _ (sym c.fault-number.ensures ∙ c.if-number-ne0.false)).code) }
 
 pub overflow_add-i : goal.overflow_add-i
 overflow_add-i c = omega (arith, c.loop-i-test.true, c.requires.sizes)

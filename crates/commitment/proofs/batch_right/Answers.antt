@@ -38,7 +38,7 @@ pub walk_group-w-requires : goal.walk_group-w-requires
 walk_group-w-requires c =
     let l = c.loop-g in
     let v = l.invariant in
-    let b = bounds _ _ _ _ v.0 l.g (omega arith) _ _ c.start.ensures.0 c.start-in-loop-g.ensures.0 in record { codes_len = (v.0.equal, b.2, omega arith, omega arith, v.1); record_size_in_bounds = omega arith }
+    let b = bounds _ _ _ _ v.0 l.g (omega arith) _ _ c.start.ensures.0 c.start-in-loop-g.ensures.0 in record { codes_len = (v.0.equal, b.2, omega arith, omega arith, v.1); record_in_bounds = omega arith }
 
 pub returns-then-count-next : goal.returns-then-count-next
 returns-then-count-next c = λ e. let y : ◌≡◌ {A = ℕ} 0 1 = cc in absurd (omega arith)

@@ -66,7 +66,7 @@ returns-then-number-ne0 c =
 pub values_right-requires : goal.values_right-requires
 values_right-requires c =
     let l = c.loop-g in
-    let v = l.invariant in record { codes_len = (v.0.equal, (bounds _ _ _ _ v.0 l.g (omega arith) _ _ c.start.ensures.0 c.start-in-loop-g.ensures.0).2, v.1); record_size_in_bounds = omega arith }
+    let v = l.invariant in record { codes_len = (v.0.equal, (bounds _ _ _ _ v.0 l.g (omega arith) _ _ c.start.ensures.0 c.start-in-loop-g.ensures.0).2, v.1); record_in_bounds = omega arith }
 
 pub returns-then-not-values_right : goal.returns-then-not-values_right
 returns-then-not-values_right c =

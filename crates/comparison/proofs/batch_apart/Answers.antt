@@ -16,17 +16,17 @@ pub sizes-requires : goal.sizes-requires
 sizes-requires c = let x = c.requires.lies in (x.whole, starts_right_lem _ _ _ _ _ x)
 
 pub sizes-requires-2 : goal.sizes-requires-2
-sizes-requires-2 c = let x = c.requires.lies_2 in (x.whole, starts_right_lem _ _ _ _ _ x)
+sizes-requires-2 c = let x = c.requires.lies_second in (x.whole, starts_right_lem _ _ _ _ _ x)
 
 pub count-requires-2 : goal.count-requires-2
-count-requires-2 c = c.requires.lies_2.whole
+count-requires-2 c = c.requires.lies_second.whole
 
 pub returns : goal.returns
 unfolding apart_of
 returns c =
     let a = c.args in
     let p = c.requires.lies in
-    let q = c.requires.lies_2 in
+    let q = c.requires.lies_second in
     let r = record_at a.first_records.now a.b in
     let s = record_at a.second_records.now a.b in
     let both = c.less-both.ensures ∙ ap₂ min c.start.ensures.0 c.start-2.ensures.0 in

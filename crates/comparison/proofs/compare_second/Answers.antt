@@ -16,7 +16,7 @@ compare_rooms-a-requires c =
     let a = c.args in
     let w = c.decode-r in
     let b = arena a.out_codes.now a.out_values.now a.records.now in
-    let m = arena w.new.out_codes w.new.out_values w.new.records in record { begins = c.requires; begins_2 = taken_begins a.table.now a.s.now a.at b m w.result w.ensures _ _ _ c.in-Made.is }
+    let m = arena w.new.out_codes w.new.out_values w.new.records in record { begins = c.requires; begins_second = taken_begins a.table.now a.s.now a.at b m w.result w.ensures _ _ _ c.in-Made.is }
 
 pub empty-requires : goal.empty-requires
 empty-requires c =

@@ -8,7 +8,7 @@ report_batches-n-requires c =
     let p = c.requires in
     let m = c.less-both.ensures in
     let x = c.count_totals-first.ensures in
-    let y = c.count_totals-second.ensures in record { structured = (p.taken.structured, whole_records _ _ _ _ _ x.0 (omega arith)); structured_2 = (p.taken_2.structured, whole_records _ _ _ _ _ y.0 (omega arith)) }
+    let y = c.count_totals-second.ensures in record { structured = (p.taken.structured, whole_records _ _ _ _ _ x.0 (omega arith)); structured_second = (p.taken_second.structured, whole_records _ _ _ _ _ y.0 (omega arith)) }
 
 pub returns : goal.returns
 returns c =

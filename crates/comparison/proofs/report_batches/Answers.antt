@@ -6,10 +6,10 @@ use Rattle.comparison.proofs.Blocks.{along_first, few, along_lies, along_room, a
 use Rattle.comparison.proofs.report_batches.Goals as goal
 
 pub loop-b-init : goal.loop-b-init
-loop-b-init c = let p = c.requires in (along_first _ _ _ _ p.structured.0 p.structured.1, along_first _ _ _ _ p.structured_2.0 p.structured_2.1, refl, omega arith, omega arith, rw (sub-zero c.args.k) (ahead_all _ _ _))
+loop-b-init c = let p = c.requires in (along_first _ _ _ _ p.structured.0 p.structured.1, along_first _ _ _ _ p.structured_second.0 p.structured_second.1, refl, omega arith, omega arith, rw (sub-zero c.args.k) (ahead_all _ _ _))
 
 pub batch_apart-apart-requires : goal.batch_apart-apart-requires
-batch_apart-apart-requires c = let l = c.loop-b in record { lies = along_lies _ _ _ _ l.b l.from l.invariant.0 (omega arith); lies_2 = along_lies _ _ _ _ l.b l.at l.invariant.1 (omega arith) }
+batch_apart-apart-requires c = let l = c.loop-b in record { lies = along_lies _ _ _ _ l.b l.from l.invariant.0 (omega arith); lies_second = along_lies _ _ _ _ l.b l.at l.invariant.1 (omega arith) }
 
 pub report_batch-n-requires : goal.report_batch-n-requires
 report_batch-n-requires c =

@@ -6,7 +6,7 @@ use Rattle.prefix.proofs.Entries.{first_on, wait_on, run_on, last_on, in_batch}
 use Rattle.prefix.proofs.batch_entries.Goals as goal
 
 pub loop-left-init : goal.loop-left-init
-loop-left-init c = (laid _ _ c.requires.record_size_in_bounds.1, omega arith, omega arith, refl, omega arith, omega arith, c.flags-left.ensures, first_on _ _ _ _ _ _)
+loop-left-init c = (laid _ _ c.requires.record_in_bounds.1, omega arith, omega arith, refl, omega arith, omega arith, c.flags-left.ensures, first_on _ _ _ _ _ _)
 
 pub start-requires : goal.start-requires
 start-requires c =

@@ -14,7 +14,7 @@ loop-b-init c = (refl, omega arith, refl, omega arith, omega arith, rw sub-zero,
 
 pub batch_entries-done-requires : goal.batch_entries-done-requires
 batch_entries-done-requires c =
-    let l = c.loop-b in record { record_size_in_bounds = (omega arith, c.requires.1 l.b (omega arith), omega arith); waiting_bound = omega arith }
+    let l = c.loop-b in record { record_in_bounds = (omega arith, c.requires.1 l.b (omega arith), omega arith); waiting_bound = omega arith }
 
 pub loop-b-preserved : goal.loop-b-preserved
 loop-b-preserved c =

@@ -18,7 +18,7 @@ judge-v-requires c =
     let w = c.decode-r in
     let b = arena a.out_codes.now a.out_values.now a.records.now in
     let m = arena w.new.out_codes w.new.out_values w.new.records in
-    let q = asks a.table.now a.s.now a.at b m w.result w.ensures _ _ _ c.in-Made.is in record { le_width = (omega arith, omega arith, q.0, q.1); judged = q.2 }
+    let q = asks a.table.now a.s.now a.at b m w.result w.ensures _ _ _ c.in-Made.is in record { width_in_bounds = (omega arith, omega arith, q.0, q.1); judged = q.2 }
 
 pub returns-in_default-v : goal.returns-in_default-v
 returns-in_default-v c =

@@ -10,12 +10,12 @@ use Rattle.accumulator.proofs.OpBatchAccumulator.add_op.Goals as goal
 
 pub place_imm-d-requires : goal.place_imm-d-requires
 place_imm-d-requires c =
-    let r = ready c.args.imm c.args.self c.requires.good c.requires.self_value in
+    let r = ready c.args.imm c.args.self c.requires.good c.requires.fits in
     (rw c.advance-a.ensures.acc (slot_free c.args.imm (ready_acc c.args.imm c.args.self) r c.if-imm.true), c.requires.code_bound.1)
 
 pub push_op-requires : goal.push_op-requires
 push_op-requires c =
-    let r = ready c.args.imm c.args.self c.requires.good c.requires.self_value in
+    let r = ready c.args.imm c.args.self c.requires.good c.requires.fits in
     let s = slotted_ready c.args.imm (ready_acc c.args.imm c.args.self) c.if-imm.true r in
     rw (c.place_imm-d.ensures.acc, c.advance-a.ensures.acc) (record { good = s.0; code_bound = (c.requires.code_bound.0, omega (arith, s.1)) })
 
@@ -28,7 +28,7 @@ returns-then-imm c =
 
 pub push_op-requires-2 : goal.push_op-requires-2
 push_op-requires-2 c =
-    let r = ready c.args.imm c.args.self c.requires.good c.requires.self_value in
+    let r = ready c.args.imm c.args.self c.requires.good c.requires.fits in
     rw c.advance-a.ensures.acc (record { good = r.good; code_bound = (c.requires.code_bound.0, here_9 c.args.imm (ready_acc c.args.imm c.args.self).inside r.here) })
 
 pub returns : goal.returns
