@@ -57,9 +57,8 @@ fn read_ops(
     requires { (length table.now ≡ 128) × (n ≤ length out_codes.old) × (n ≤ length out_values.old) }
     ensures { Staged length (λ (xs : List Op) (next : ℕ). OpsIn out_codes.new out_values.new xs) (ops_at table.now s.now n at 0) result }
 {
-    let mut i: usize = 0;
     let mut from = at;
-    while i < n {
+    for i in 0..n {
         let r = wire::read_op(table, s, from, i);
         let OpRead::Found { code, value, next } = r else {
             return wire::not_read(r);
@@ -67,7 +66,6 @@ fn read_ops(
         out_codes[i] = code;
         out_values[i] = value;
         from = next;
-        i += 1;
     }
     CountRead::Found {
         value: n as u64,
@@ -113,21 +111,17 @@ fn nibbles_right(s: &[u8], at: usize, k: usize) -> CountRead
     requires { at + 4 * k ≤ length s.now }
     ensures { result ≡ counted length (nibbles_at 8 s.now k at 0) }
 {
-    let mut b: usize = 0;
-    let mut from = at;
-    while b < k {
-        if !wire::deltas_right(word::le4(s, from)) {
+    for b in 0..k {
+        if !wire::deltas_right(word::le4(s, at + 4 * b)) {
             return CountRead::Refused {
                 number: 6,
                 place: b,
             };
         }
-        from += 4;
-        b += 1;
     }
     CountRead::Found {
         value: k as u64,
-        next: from,
+        next: at + 4 * k,
     }
 }
 
@@ -150,9 +144,8 @@ fn decode_each(
     requires width_bound { (width ≤ 8) × ((b : ℕ) → b < k → RightSizes width (le_at 4 s.now (sizes + 4 * b))) }
     ensures { Staged length (λ (rs : List Record) (end : ℕ). RecordsIn records.new rs) (batches_at width table.now (operations codes.now values.now) (sizes_from k s.now sizes) (flags_from k s.now flags)) result }
 {
-    let mut b: usize = 0;
     let mut from: usize = 0;
-    while b < k {
+    for b in 0..k {
         let r = unpacker::decode_batch(
             width,
             table,
@@ -168,7 +161,6 @@ fn decode_each(
             return r;
         };
         from = next;
-        b += 1;
     }
     CountRead::Found {
         value: k as u64,

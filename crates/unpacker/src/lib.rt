@@ -33,10 +33,8 @@ fn place_immediates(
 {
     let mut left = deltas;
     let mut next = slot;
-    let mut i: usize = 0;
-    while i < codes.len() {
-        if table[codes[i] as usize] != 1 {
-            i += 1;
+    for (i, code) in codes.iter().enumerate() {
+        if table[*code as usize] != 1 {
             continue;
         }
         if width <= next {
@@ -54,7 +52,6 @@ fn place_immediates(
         groups[next] = values[i];
         left = left / 16;
         next += 1;
-        i += 1;
     }
     CountRead::Found { value: left, next }
 }
@@ -79,6 +76,7 @@ fn decode_groups(
     let mut from = at;
     let mut count: usize = 0;
     let mut g: usize = 0;
+    // no `for`: a group is followed by the slots of its immediates
     while g < width {
         let n = (left % 16) as usize;
         left = left / 16;
@@ -119,11 +117,9 @@ fn operations_in(deltas: u64) -> usize
 {
     let mut left = deltas;
     let mut sum: usize = 0;
-    let mut i: usize = 0;
-    while i < 8 {
-        sum = sum + (left % 16) as usize;
-        left = left / 16;
-        i += 1;
+    for _ in 0..8_usize {
+        sum += (left % 16) as usize;
+        left /= 16;
     }
     sum
 }

@@ -1,5 +1,5 @@
 use mathlib.Core.Path.{◌≡◌}
-use Prim.Native.Nat.{◌-◌, ◌≤◌}
+use Prim.Native.Nat.{◌≤◌}
 use lib.ListN.{length}
 use Rattle.rules.specs.Operations.{operations}
 use Rattle.decoder.proofs.Batches as B
@@ -7,7 +7,4 @@ use Rattle.decoder.proofs.decode_each.Given as goal
 
 abbrev pub invariant-loop-b : goal.invariant-loop-b
 invariant-loop-b l =
-    (l.b ≤ l.k) × (l.from ≤ length l.codes) × (length l.records ≡ length l.initial.records) × B.Going l.width l.table (operations l.codes l.values) l.s l.sizes l.flags l.k l.records l.b l.from
-
-abbrev pub decreases-loop-b : goal.decreases-loop-b
-decreases-loop-b l = l.k - l.b
+    (l.from ≤ length l.codes) × (length l.records ≡ length l.initial.records) × B.Going l.width l.table (operations l.codes l.values) l.s l.sizes l.flags l.k l.records l.b l.from

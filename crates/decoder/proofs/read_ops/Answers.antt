@@ -13,14 +13,14 @@ use Rattle.decoder.proofs.read_ops.Goals as goal
 
 pub loop-i-init : goal.loop-i-init
 unfolding operations
-loop-i-init c = (omega arith, refl, refl, rw sub-zero (onto_nil _))
+loop-i-init c = (refl, refl, rw sub-zero (onto_nil _))
 
 pub returns-in_default : goal.returns-in_default
 returns-in_default c =
     let a = c.args in
     let l = c.loop-i in
     let o = op_lost (op_at a.table.now a.s.now l.from l.i) c.in_default.field-0 c.in_default.field-1 (sym c.read_op-r.ensures ∙ c.in_default.is) in
-    rw (sym l.invariant.3 ∙ stop a.table.now a.s.now a.n l.from l.i (operations (take l.i l.out_codes) (take l.i l.out_values)) c.in_default.field-0 c.in_default.field-1 (omega arith) o)
+    rw (sym l.invariant.2 ∙ stop a.table.now a.s.now a.n l.from l.i (operations (take l.i l.out_codes) (take l.i l.out_values)) c.in_default.field-0 c.in_default.field-1 (omega arith) o)
     (record { reply = c.not_read.ensures ∙ ap hand_op c.in_default.is; left = tt })
 
 pub offset_bounds-out_values-i : goal.offset_bounds-out_values-i
@@ -31,10 +31,9 @@ loop-i-preserved c =
     let a = c.args in
     let l = c.loop-i in
     let o = op_found (op_at a.table.now a.s.now l.from l.i) c.in-Found.code c.in-Found.value c.in-Found.next (sym c.read_op-r.ensures ∙ c.in-Found.is) in (
-      omega arith,
+      simp length-set l.invariant.0,
       simp length-set l.invariant.1,
-      simp length-set l.invariant.2,
-      turn a.table.now a.s.now a.n l.from l.i l.out_codes l.out_values c.in-Found.code c.in-Found.value c.in-Found.next (omega arith) (omega arith) (omega arith) o ∙ l.invariant.3,
+      turn a.table.now a.s.now a.n l.from l.i l.out_codes l.out_values c.in-Found.code c.in-Found.value c.in-Found.next (omega arith) (omega arith) (omega arith) o ∙ l.invariant.2,
     )
 
 pub returns : goal.returns
@@ -47,5 +46,5 @@ returns c =
     let q : length cs ≡ length vs = p ∙ sym (length-take-le l.i l.out_values (omega arith)) in
     let n : length (operations cs vs) ≡ a.n = length_operations cs vs q ∙ omega arith in
     let m : a.n ≡ l.i = omega arith in
-    rw (sym l.invariant.3 ∙ done a.table.now a.s.now a.n l.from l.i (operations cs vs) (omega arith))
+    rw (sym l.invariant.2 ∙ done a.table.now a.s.now a.n l.from l.i (operations cs vs) (omega arith))
     (record { reply = rw n; left = (rw (n, codes_operations cs vs q, m), rw (n, values_operations cs vs q, m)) })

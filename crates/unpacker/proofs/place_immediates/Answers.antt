@@ -3,47 +3,35 @@ use native.Mathlib.Omega.{arith}
 use Rattle.unpacker.proofs.Groups as G
 use Rattle.unpacker.proofs.place_immediates.Goals as goal
 
-pub loop-i-init : goal.loop-i-init
-loop-i-init c = (omega arith, G.place_none _ _ _ _ _ _ _ (omega arith) c.requires.width_bound.2)
-
-pub overflow_cast-codes : goal.overflow_cast-codes
-overflow_cast-codes c = omega (arith, c.shared_slice_known-1.given c.loop-i.i)
-
-pub bounds-table-codes : goal.bounds-table-codes
-bounds-table-codes c = omega (arith, c.requires.table_len.2 c.loop-i.i (omega arith))
-
-pub loop-i-preserved-then-table-codes-ne1 : goal.loop-i-preserved-then-table-codes-ne1
-loop-i-preserved-then-table-codes-ne1 c =
+pub loop-i-preserved-then-table-code-ne1 : goal.loop-i-preserved-then-table-code-ne1
+loop-i-preserved-then-table-code-ne1 c =
     let l = c.loop-i in
     let k = c.requires.table_len.2 l.i (omega arith) in
-    (omega arith, G.place_plain _ _ _ _ _ _ _ _ _ _ _ l.invariant.1 _ (G.due_plain c.args.table.now c.args.codes.now c.args.values.now l.i (omega arith) (omega arith) (omega arith) c.if-table-codes-ne1.true))
+    (G.place_plain _ _ _ _ _ _ _ _ _ _ _ l.invariant _ (G.due_plain c.args.table.now c.args.codes.now c.args.values.now l.i (omega arith) (omega arith) (omega arith) c.if-table-code-ne1.true))
 
 pub returns-then-width-next : goal.returns-then-width-next
 returns-then-width-next c =
     let l = c.loop-i in
     let k = c.requires.table_len.2 l.i (omega arith) in
-    let d = G.due_placed c.args.table.now c.args.codes.now c.args.values.now l.i (omega arith) (omega arith) (omega arith) c.if-table-codes-ne1.false in
-    λ xs end. l.invariant.1.walk xs end ∙ rw d (G.stop_8 c.args.width c.args.table.now c.args.b xs l.groups l.next l.left _ _ end (omega arith))
+    let d = G.due_placed c.args.table.now c.args.codes.now c.args.values.now l.i (omega arith) (omega arith) (omega arith) c.if-table-code-ne1.false in
+    λ xs end. l.invariant.walk xs end ∙ rw d (G.stop_8 c.args.width c.args.table.now c.args.b xs l.groups l.next l.left _ _ end (omega arith))
 
 pub returns-then-left-ne0 : goal.returns-then-left-ne0
 returns-then-left-ne0 c =
     let l = c.loop-i in
     let k = c.requires.table_len.2 l.i (omega arith) in
-    let d = G.due_placed c.args.table.now c.args.codes.now c.args.values.now l.i (omega arith) (omega arith) (omega arith) c.if-table-codes-ne1.false in
-    λ xs end. l.invariant.1.walk xs end ∙ rw d (G.stop_9 c.args.width c.args.table.now c.args.b xs l.groups l.next l.left _ _ end (omega arith) c.if-left-ne0.true)
-
-pub bounds-groups-next : goal.bounds-groups-next
-bounds-groups-next c = omega (arith, G.eight c.loop-i.groups _ c.loop-i.invariant.1.numbers)
+    let d = G.due_placed c.args.table.now c.args.codes.now c.args.values.now l.i (omega arith) (omega arith) (omega arith) c.if-table-code-ne1.false in
+    λ xs end. l.invariant.walk xs end ∙ rw d (G.stop_9 c.args.width c.args.table.now c.args.b xs l.groups l.next l.left _ _ end (omega arith) c.if-left-ne0.true)
 
 pub loop-i-preserved : goal.loop-i-preserved
 loop-i-preserved c =
     let l = c.loop-i in
     let k = c.requires.table_len.2 l.i (omega arith) in
-    let d = G.due_placed c.args.table.now c.args.codes.now c.args.values.now l.i (omega arith) (omega arith) (omega arith) c.if-table-codes-ne1.false in
-    (omega arith, G.place_turn _ _ _ _ _ _ _ _ _ _ _ l.invariant.1 _ _ d (omega arith) (omega arith) c.if-left-ne0.false)
+    let d = G.due_placed c.args.table.now c.args.codes.now c.args.values.now l.i (omega arith) (omega arith) (omega arith) c.if-table-code-ne1.false in
+    (G.place_turn _ _ _ _ _ _ _ _ _ _ _ l.invariant _ _ d (omega arith) (omega arith) c.if-left-ne0.false)
 
 pub returns : goal.returns
 returns c =
     let a = c.args in
     let l = c.loop-i in
-    G.place_plain _ _ _ _ _ _ _ _ _ _ _ l.invariant.1 _ (G.due_none a.table.now a.codes.now a.values.now l.i (omega arith))
+    G.place_plain _ _ _ _ _ _ _ _ _ _ _ l.invariant _ (G.due_none a.table.now a.codes.now a.values.now l.i (omega arith))

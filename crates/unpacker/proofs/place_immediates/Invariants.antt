@@ -1,5 +1,3 @@
-use Prim.Native.Nat.{◌-◌, ◌≤◌}
-use lib.ListN.{length}
 use Rattle.rules.specs.Operations.{operations}
 use Rattle.rules.specs.Record.{immediates}
 use Rattle.unpacker.specs.Groups.{Placed}
@@ -8,7 +6,4 @@ use Rattle.unpacker.proofs.place_immediates.Given as goal
 
 abbrev pub invariant-loop-i : goal.invariant-loop-i
 invariant-loop-i l =
-    (l.i ≤ length l.codes) × Placed l.width l.table l.b (immediates l.table (operations l.codes l.values)) l.initial.groups l.slot l.deltas (G.due l.table l.codes l.values l.i) l.groups l.next l.left
-
-abbrev pub decreases-loop-i : goal.decreases-loop-i
-decreases-loop-i l = length l.codes - l.i
+    Placed l.width l.table l.b (immediates l.table (operations l.codes l.values)) l.initial.groups l.slot l.deltas (G.due l.table l.codes l.values l.i) l.groups l.next l.left
