@@ -1,13 +1,13 @@
 -- The walk over a table's kinds, and the one over a list of operations to the first that is not admissible. Assumes nothing.
-use mathlib.Core.Path.{◌≡◌, sym, ap, ◌∙◌}
-use mathlib.Core.List.{List, ◌∷◌, map}
+use mathlib.Core.Path.{◌≡◌, refl, sym, ap, ◌∙◌}
+use mathlib.Core.List.{List, map}
 use Prim.Native.Nat.{ℕ, ◌+◌, ◌≤◌, ◌<◌, suc}
 use lib.ListN.{length, get_or, drop}
 use Rattle.rules.specs.Answer.{Answer, good, refused, refuse_first}
 use Rattle.rules.specs.Operations.{operations, op_fault}
 use Rattle.rules.proofs.Answer.{first_turn, first_stop, first_done}
-use Rattle.rules.proofs.Operations.{op, operations_turn, operations_end, every_end, swap, none_left}
-use mathlib.Core.Bool.{Bool, ◌&&◌}
+use Rattle.rules.proofs.Operations.{op, operations_turn, operations_end, every_end, none_left}
+use mathlib.Core.Bool.{Bool, true, false, ◌&&◌}
 use native.Mathlib.Omega.{arith}
 use lib.Seq.{drop-cons}
 use lib.Dec.{leb}
@@ -19,11 +19,10 @@ use Rattle.rules.specs.Lists.{every}
 abbrev pub kinds_from : List ℕ → ℕ → Bool
 kinds_from t i = every (λ (k : ℕ). leb k 3) (drop i t)
 
-pub kind_turn : (t : List ℕ) (i : ℕ) (ok : Bool) → i < length t → ((leb (get_or t i 0) 3 && ok) && kinds_from t (i + 1)) ≡ (ok && kinds_from t i)
+pub kind_turn : (t : List ℕ) (i : ℕ) (ok : Bool) → i < length t → ((ok && leb (get_or t i 0) 3) && kinds_from t (i + 1)) ≡ (ok && kinds_from t i)
 unfolding every
-kind_turn t i ok h =
-    let e : i + 1 ≡ suc i = omega arith in
-    swap (leb (get_or t i 0) 3) ok (kinds_from t (i + 1)) ∙ ap (λ (l : List ℕ). ok && every (λ (k : ℕ). leb k 3) l) (ap (λ (n : ℕ). get_or t i 0 ∷ drop n t) e ∙ sym (drop-cons t i 0 h))
+kind_turn t i true h = let e : i + 1 ≡ suc i = omega arith in rw (e, drop-cons t i 0 h)
+kind_turn t i false h = refl
 
 pub kinds_end : (t : List ℕ) (i : ℕ) (ok : Bool) → length t ≤ i → ok ≡ (ok && kinds_from t i)
 kinds_end t i ok h = none_left ok ∙ ap (λ (b : Bool). ok && b) (sym (every_end 0 (λ (k : ℕ). leb k 3) t i h))

@@ -3,6 +3,7 @@ use mathlib.Core.Bool.{cond}
 use lib.Dec.{eqb}
 use mathlib.Core.Path.{◌≡◌, refl, sym, ap, ◌∙◌}
 use Prim.Native.Nat.{ℕ}
+use native.Mathlib.Omega.{arith}
 use Rattle.std.specs.Prelude.{Result, Ok, Err}
 use Rattle.refusal.specs.declared.Refusal.{Refusal}
 use Rattle.refusal.specs.declared.Reason.{Reason}
@@ -65,3 +66,24 @@ one_told (Err r) (Err s) e =
     let q : r.reason ≡ s.reason = one_number r.reason s.reason h in
     let g : refusal r.reason r.place ≡ refusal s.reason s.place = rw (q, p) in
     ap (λ (x : Refusal). Err x) g
+
+-- a reason is a fault
+pub is_fault : (r : Reason) → number_of r ≡ 0 → ⊥
+is_fault PastEnd e = omega arith
+is_fault CutShort e = omega arith
+is_fault OverLimit e = omega arith
+is_fault Unassigned e = omega arith
+is_fault TooManyBatches e = omega arith
+is_fault BadNibble e = omega arith
+is_fault PastOperations e = omega arith
+is_fault NoSlot e = omega arith
+is_fault SlotTaken e = omega arith
+is_fault BadPadding e = omega arith
+is_fault LeftOver e = omega arith
+is_fault EmptyList e = omega arith
+is_fault NoRoom e = omega arith
+is_fault BadTable e = omega arith
+is_fault BadStructure e = omega arith
+is_fault BadCommitment e = omega arith
+is_fault BadValue e = omega arith
+is_fault Unfinished e = omega arith

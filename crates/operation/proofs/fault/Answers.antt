@@ -29,9 +29,9 @@ returns-then-value_right c =
       sym c.value_right.ensures ∙ c.if-value_right.true,
     )
 
-pub returns : goal.returns
+pub returns-else-value_right : goal.returns-else-value_right
 unfolding op_fault code_fault value_fault assigned value_right valued
-returns c =
+returns-else-value_right c =
     let a = c.args in
     let h : a.code < 128 = omega arith in
     simp (

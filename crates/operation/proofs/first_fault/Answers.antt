@@ -1,26 +1,23 @@
-use mathlib.Core.Path.{refl, sym, ap, ◌∙◌}
+use mathlib.Core.Path.{sym, ◌∙◌}
 use native.Mathlib.Omega.{arith}
-use Rattle.operation.specs.Verdict.{verdict_of}
 use Rattle.operation.proofs.Scan.{turn, stop, done}
 use Rattle.operation.proofs.first_fault.Goals as goal
+use Rattle.refusal.proofs.Told.{is_fault}
 
-pub loop-i-init : goal.loop-i-init
-loop-i-init c = (omega arith, refl)
-
-pub returns-then-number-ne0 : goal.returns-then-number-ne0
-returns-then-number-ne0 c =
+pub returns-in-Some : goal.returns-in-Some
+returns-in-Some c =
     let l = c.loop-i in
     let a = c.args in
-    ap verdict_of (sym (stop a.table.now a.codes.now a.values.now l.i (omega arith) (omega arith) _ c.fault-number.ensures c.if-number-ne0.true) ∙ l.invariant.1)
+    rw c.at.ensures (sym (stop a.table.now a.codes.now a.values.now l.i (omega arith) (omega arith) _ c.in-Some.ensures (is_fault c.in-Some.reason)) ∙ l.invariant)
 
 pub loop-i-preserved : goal.loop-i-preserved
 loop-i-preserved c =
     let l = c.loop-i in
     let a = c.args in
-    (omega arith, turn a.table.now a.codes.now a.values.now l.i (omega arith) (omega arith) (sym c.fault-number.ensures ∙ c.if-number-ne0.false) ∙ l.invariant.1)
+    turn a.table.now a.codes.now a.values.now l.i (omega arith) (omega arith) (sym c.in_default.ensures) ∙ l.invariant
 
 pub returns : goal.returns
 returns c =
     let l = c.loop-i in
     let a = c.args in
-    ap verdict_of (sym (done a.table.now a.codes.now a.values.now l.i (omega arith)) ∙ l.invariant.1)
+    sym (done a.table.now a.codes.now a.values.now l.i (omega arith)) ∙ l.invariant

@@ -4,18 +4,18 @@ use Rattle.rules.specs.Operations.{good_table}
 use Rattle.rules.proofs.Operations.{kind_at}
 use Rattle.operation.proofs.good_table.Goals as goal
 
-pub returns-then-table-ne128 : goal.returns-then-table-ne128
+pub returns-in_default : goal.returns-in_default
 unfolding good_table
-returns-then-table-ne128 c = simp (ne_eqb _ _ c.if-table-ne128.true)
+returns-in_default c = simp (ne_eqb _ _ c.in_default.ensures.1)
 
-pub returns-then-table-ne0 : goal.returns-then-table-ne0
+pub returns-then-table-eq0 : goal.returns-then-table-eq0
 unfolding good_table
-returns-then-table-ne0 c =
-    let a = c.args in
-    simp (eq-eqb _ _ c.if-table-ne128.false, kind_at a.table.now 0 (omega arith), ne_eqb _ _ c.if-table-ne0.true)
+returns-then-table-eq0 c =
+    let w = c.in-Ok.ensures.1 in
+    simp (eq-eqb _ _ w.long, kind_at c.args.table.now 0 (omega arith), ← w.same, eq-eqb _ _ c.if-table-eq0.true) c.kinds_right.ensures
 
-pub returns : goal.returns
+pub returns-else-table-eq0 : goal.returns-else-table-eq0
 unfolding good_table
-returns c =
-    let a = c.args in
-    simp (eq-eqb _ _ c.if-table-ne128.false, kind_at a.table.now 0 (omega arith), eq-eqb _ _ c.if-table-ne0.false) c.kinds_right.ensures
+returns-else-table-eq0 c =
+    let w = c.in-Ok.ensures.1 in
+    simp (eq-eqb _ _ w.long, kind_at c.args.table.now 0 (omega arith), ← w.same, ne_eqb _ _ c.if-table-eq0.false)
