@@ -5,10 +5,10 @@ ghost use Rattle.std.specs.Prelude.{◌≡◌, true, false, IfOk, IfErr, cond, n
 ghost use Rattle.rules.specs.Lists.{every};
 ghost use Rattle.rules.specs.Answer.{good, refuse_first};
 ghost use Rattle.rules.specs.Operations.{operations, good_table, field, op_fault};
-ghost use Rattle.refusal.specs.Told.{told, fault_of, refusal};
-ghost use Rattle.operation.specs.Verdict.{op};
+ghost use Rattle.refusal.specs.Told.{told};
+ghost use Rattle.operation.specs.Verdict.{op, one_fault};
 
-use refusal::{Reason, Refusal};
+use refusal::Refusal;
 
 // The field's size, 2^64 - 2^32 + 1.
 pub const FIELD: u64 = 18446744069414584321;
@@ -39,15 +39,15 @@ pub fn good_table(table: &[u8]) -> bool
 // A good table, or refusal 14.
 pub fn checked(table: &[u8]) -> Result<&[u8; 128], Refusal>
     ensures ok { IfOk result (λ t. (t.now ≡ table.now) × (good_table table.now ≡ true)) }
-    ensures err { IfErr result (λ r. (r ≡ refusal Reason.BadTable 0) × (good_table table.now ≡ false)) }
+    ensures err { IfErr result (λ r. (r ≡ Refusal.BadTable) × (good_table table.now ≡ false)) }
 {
     let Ok(kinds) = <&[u8; 128]>::try_from(table) else {
-        return Err(Reason::BadTable.at(0));
+        return Err(Refusal::BadTable);
     };
     if good_table(table) {
         Ok(kinds)
     } else {
-        Err(Reason::BadTable.at(0))
+        Err(Refusal::BadTable)
     }
 }
 
@@ -60,21 +60,21 @@ pub fn value_right(kind: u8, v: u64) -> bool
     if kind == 0 { v == 0 } else { v < FIELD }
 }
 
-// Why one operation is not admissible, where it is not; its opcode is looked at first.
-pub fn fault(table: &[u8; 128], code: u8, v: u64) -> Option<Reason>
-    ensures { fault_of result ≡ op_fault table.now (op code v) }
+// Whether the i-th operation is admissible; its opcode is looked at first.
+pub fn fault(table: &[u8; 128], code: u8, v: u64, i: usize) -> Result<(), Refusal>
+    ensures { told result ≡ one_fault (op_fault table.now (op code v)) i }
 {
     if 128 <= code {
-        return Some(Reason::Unassigned);
+        return Err(Refusal::Unassigned { operation: i });
     }
     let kind = table[code as usize];
     if 3 <= kind {
-        return Some(Reason::Unassigned);
+        return Err(Refusal::Unassigned { operation: i });
     }
     if value_right(kind, v) {
-        None
+        Ok(())
     } else {
-        Some(Reason::BadValue)
+        Err(Refusal::BadValue { operation: i })
     }
 }
 
@@ -84,9 +84,7 @@ pub fn first_fault(table: &[u8; 128], codes: &[u8], values: &[u64]) -> Result<()
     ensures { told result ≡ refuse_first 0 (map (op_fault table.now) (operations codes.now values.now)) (good tt) }
 {
     for (i, code) in codes.iter().enumerate() {
-        if let Some(reason) = fault(table, *code, values[i]) {
-            return Err(reason.at(i));
-        }
+        fault(table, *code, values[i], i)?;
     }
     Ok(())
 }
