@@ -7,57 +7,22 @@ ghost use Rattle.rules.specs.Lists.{fitted};
 ghost use Rattle.rules.specs.Record.{word_bytes};
 ghost use Rattle.crossing.specs.Words.{words_in, few_words, has_word};
 
-// The longest index table of a block has so many entries, one more than the values of the largest block.
-const MOST: usize = 65536;
-
-// The work space: what a call costs must follow what it is lent, so few numbers get little of it. The `ensures` give the length, which lending an array
-// asks for.
+// The sizes of the work space: what a call costs must follow what it is lent, so few numbers get little of it.
 pub const SMALL: usize = 64;
 
 pub const MIDDLE: usize = 2048;
 
-pub fn small_room() -> [u64; 64]
-    ensures { 64 ≡ length result }
-{
-    [0; 64]
-}
+// The longest index table of a block has so many entries, one more than the values of the largest block.
+pub const LARGE: usize = 65536;
 
-pub fn middle_room() -> [u64; 2048]
-    ensures { 2048 ≡ length result }
-{
-    [0; 2048]
-}
-
-pub fn room() -> [u64; 65536]
-    ensures { 65536 ≡ length result }
-{
-    [0; 65536]
-}
-
-pub fn larger(n: usize, m: usize) -> usize
-    ensures { result ≡ max n m }
-{
-    if n < m {
-        return m;
-    }
-    n
-}
-
-pub fn smaller(n: usize, m: usize) -> usize
-    ensures { result ≡ min n m }
-{
-    if n < m {
-        return n;
-    }
-    m
-}
-
+#[tactic(auto, unfolding(crate::specs::Words::few_words))]
 pub fn few_words(s: &[u8]) -> bool
     ensures { result ≡ few_words s.now }
 {
-    s.len() % 8 == 0 && s.len() / 8 <= MOST
+    s.len() % 8 == 0 && s.len() / 8 <= LARGE
 }
 
+#[tactic(auto, unfolding(crate::specs::Words::has_word))]
 pub fn has_word(s: &[u8], i: usize) -> bool
     ensures { result ≡ has_word s.now i }
 {
@@ -71,11 +36,8 @@ pub fn read_words(s: &[u8], work: &mut [u64])
     requires { length s.now / 8 ≤ length work.old }
     ensures { take (length s.now / 8) work.new ≡ words_in s.now }
 {
-    let n = s.len() / 8;
-    let mut i: usize = 0;
-    while i < n {
+    for i in 0..s.len() / 8 {
         work[i] = word::le8(s, 8 * i);
-        i += 1;
     }
 }
 
@@ -85,20 +47,15 @@ pub fn read_words(s: &[u8], work: &mut [u64])
 pub fn lent(n: usize) -> usize
     ensures { result ≡ min (n / 8) 65536 }
 {
-    if MOST < n / 8 {
-        return MOST;
-    }
-    n / 8
+    (n / 8).min(LARGE)
 }
 
 fn put_words(words: &[u64], out: &mut [u8])
     requires { 8 * length words.now ≤ length out.old }
     ensures { out.new ≡ sets out.old 0 (word_bytes words.now) }
 {
-    let mut i: usize = 0;
-    while i < words.len() {
-        word::put8(out, 8 * i, words[i]);
-        i += 1;
+    for (i, number) in words.iter().enumerate() {
+        word::put8(out, 8 * i, *number);
     }
 }
 

@@ -5,7 +5,7 @@ use mathlib.Core.List.{List}
 use Prim.Native.Nat.{ℕ, ◌-◌, ◌/◌, ◌%◌, ◌≤◌, ◌<◌, min, max}
 use native.Mathlib.Omega.{arith}
 use borrow.Author.Tests.{lt-leb, eqb-true, leb-true, leb-false}
-use lib.ListN.{length, take}
+use lib.ListN.{length, take, replicate, length-replicate}
 use lib.Dec.{leb, ltb, eqb}
 use lib.Seq.{length-take-le, take_all}
 use Rattle.rules.specs.Answer.{Answer, refused, refuse}
@@ -57,6 +57,9 @@ module _ (s : List ℕ) where
 
 pub front : (w : List ℕ) (n k : ℕ) → k ≡ length w → n ≤ k → n ≡ length (take n w)
 front w n k e h = sym (length-take-le n w (omega arith))
+
+pub large_front : (n : ℕ) → n ≤ 65536 → n ≡ length (take n (replicate {A = ℕ} 65536 0))
+large_front n h = front (replicate {A = ℕ} 65536 0) n 65536 (sym (length-replicate {A = ℕ} 65536 0)) h
 
 pub all_in : (w s : List ℕ) → length w ≡ length s / 8 → take (length s / 8) w ≡ words_in s → w ≡ words_in s
 all_in w s e h = sym (take_all (length s / 8) w (omega arith)) ∙ h

@@ -567,8 +567,8 @@ fn build_large(
 {
     let n = values.len() / 8;
     let m = crossing::lent(out_values.len());
-    let mut numbers = crossing::room();
-    let mut work = crossing::room();
+    let mut numbers = [0; crossing::LARGE];
+    let mut work = [0; crossing::LARGE];
     build_through(
         table,
         codes,
@@ -596,8 +596,7 @@ fn build_in(
 {
     let n = values.len() / 8;
     let m = crossing::lent(out_values.len());
-    let k = crossing::larger(n, m);
-    if k <= crossing::smaller(numbers.len(), work.len()) {
+    if n <= numbers.len() && m <= work.len() {
         return build_through(
             table,
             codes,
@@ -609,9 +608,9 @@ fn build_in(
             records,
         );
     }
-    if k <= crossing::MIDDLE {
-        let mut more_numbers = crossing::middle_room();
-        let mut more = crossing::middle_room();
+    if n <= crossing::MIDDLE && m <= crossing::MIDDLE {
+        let mut more_numbers = [0; crossing::MIDDLE];
+        let mut more = [0; crossing::MIDDLE];
         return build_in(
             table,
             codes,
@@ -645,8 +644,8 @@ pub fn oli_build_le(
             operations: 0,
         };
     }
-    let mut numbers = crossing::small_room();
-    let mut work = crossing::small_room();
+    let mut numbers = [0; crossing::SMALL];
+    let mut work = [0; crossing::SMALL];
     build_in(
         table,
         codes,
@@ -688,7 +687,7 @@ fn encode_large(
     ensures { Writes (encoded 8 table.now (arena codes.now (words_in values.now) records.now) (length out.old) at) at result out.old out.new }
 {
     let n = values.len() / 8;
-    let mut work = crossing::room();
+    let mut work = [0; crossing::LARGE];
     encode_through(table, codes, values, &mut work[..n], records, out, at)
 }
 
@@ -709,7 +708,7 @@ fn encode_in(
         return encode_through(table, codes, values, &mut work[..n], records, out, at);
     }
     if n <= crossing::MIDDLE {
-        let mut more = crossing::middle_room();
+        let mut more = [0; crossing::MIDDLE];
         return encode_in(table, codes, values, &mut more, records, out, at);
     }
     encode_large(table, codes, values, records, out, at)
@@ -732,7 +731,7 @@ pub fn oli_encode_le(
             length: 0,
         };
     }
-    let mut work = crossing::small_room();
+    let mut work = [0; crossing::SMALL];
     encode_in(table, codes, values, &mut work, records, out, at)
 }
 
@@ -785,7 +784,7 @@ fn decode_large(
     ensures { ReadsBytes (read_by strict table.now bytes.now at) at result (arena out_codes.old out_values.old records.old) (arena out_codes.new out_values.new records.new) }
 {
     let n = crossing::lent(out_values.len());
-    let mut work = crossing::room();
+    let mut work = [0; crossing::LARGE];
     decode_through(
         strict,
         table,
@@ -824,7 +823,7 @@ fn decode_in(
         );
     }
     if n <= crossing::MIDDLE {
-        let mut more = crossing::middle_room();
+        let mut more = [0; crossing::MIDDLE];
         return decode_in(
             strict, table, bytes, at, out_codes, &mut more, out_values, records,
         );
@@ -842,7 +841,7 @@ pub fn oli_decode_le(
 ) -> DecodeReply
     ensures { ReadsBytes (decoded 8 table.now bytes.now at) at result (arena out_codes.old out_values.old records.old) (arena out_codes.new out_values.new records.new) }
 {
-    let mut work = crossing::small_room();
+    let mut work = [0; crossing::SMALL];
     decode_in(
         false, table, bytes, at, out_codes, &mut work, out_values, records,
     )
@@ -858,7 +857,7 @@ pub fn oli_decode_strict_le(
 ) -> DecodeReply
     ensures { ReadsBytes (strictly_decoded 8 table.now bytes.now at) at result (arena out_codes.old out_values.old records.old) (arena out_codes.new out_values.new records.new) }
 {
-    let mut work = crossing::small_room();
+    let mut work = [0; crossing::SMALL];
     decode_in(
         true, table, bytes, at, out_codes, &mut work, out_values, records,
     )
@@ -874,7 +873,7 @@ pub fn oli_structure_le(codes: &[u8], values: &[u8], records: &[u8]) -> CheckRep
         };
     }
     let n = values.len() / 8;
-    let mut work = crossing::room();
+    let mut work = [0; crossing::LARGE];
     crossing::read_words(values, &mut work);
     oli_structure(codes, &work[..n], records)
 }
@@ -889,7 +888,7 @@ pub fn oli_padding_le(codes: &[u8], values: &[u8], records: &[u8]) -> CheckReply
         };
     }
     let n = values.len() / 8;
-    let mut work = crossing::room();
+    let mut work = [0; crossing::LARGE];
     crossing::read_words(values, &mut work);
     oli_padding(codes, &work[..n], records)
 }
@@ -914,7 +913,7 @@ fn commitment_large(table: &[u8], codes: &[u8], values: &[u8], records: &[u8]) -
     ensures { result ≡ check_reply (commitment_checked 8 table.now (arena codes.now (words_in values.now) records.now)) }
 {
     let n = values.len() / 8;
-    let mut work = crossing::room();
+    let mut work = [0; crossing::LARGE];
     commitment_through(table, codes, values, &mut work[..n], records)
 }
 
@@ -933,7 +932,7 @@ fn commitment_in(
         return commitment_through(table, codes, values, &mut work[..n], records);
     }
     if n <= crossing::MIDDLE {
-        let mut more = crossing::middle_room();
+        let mut more = [0; crossing::MIDDLE];
         return commitment_in(table, codes, values, &mut more, records);
     }
     commitment_large(table, codes, values, records)
@@ -948,7 +947,7 @@ pub fn oli_commitment_le(table: &[u8], codes: &[u8], values: &[u8], records: &[u
             place: 0,
         };
     }
-    let mut work = crossing::small_room();
+    let mut work = [0; crossing::SMALL];
     commitment_in(table, codes, values, &mut work, records)
 }
 
@@ -983,8 +982,8 @@ fn table_large(
 {
     let n = values.len() / 8;
     let m = crossing::lent(out.len());
-    let mut numbers = crossing::room();
-    let mut work = crossing::room();
+    let mut numbers = [0; crossing::LARGE];
+    let mut work = [0; crossing::LARGE];
     table_through(
         codes,
         values,
@@ -1010,8 +1009,7 @@ fn table_in(
 {
     let n = values.len() / 8;
     let m = crossing::lent(out.len());
-    let k = crossing::larger(n, m);
-    if k <= crossing::smaller(numbers.len(), work.len()) {
+    if n <= numbers.len() && m <= work.len() {
         return table_through(
             codes,
             values,
@@ -1022,9 +1020,9 @@ fn table_in(
             out,
         );
     }
-    if k <= crossing::MIDDLE {
-        let mut more_numbers = crossing::middle_room();
-        let mut more = crossing::middle_room();
+    if n <= crossing::MIDDLE && m <= crossing::MIDDLE {
+        let mut more_numbers = [0; crossing::MIDDLE];
+        let mut more = [0; crossing::MIDDLE];
         return table_in(
             codes,
             values,
@@ -1049,8 +1047,8 @@ fn table_le(codes: &[u8], values: &[u8], records: &[u8], padded: bool, out: &mut
             entries: 0,
         };
     }
-    let mut numbers = crossing::small_room();
-    let mut work = crossing::small_room();
+    let mut numbers = [0; crossing::SMALL];
+    let mut work = [0; crossing::SMALL];
     table_in(codes, values, &mut numbers, records, padded, &mut work, out)
 }
 

@@ -1,13 +1,8 @@
 use mathlib.Core.Path.{◌≡◌}
-use Prim.Native.Nat.{◌-◌, ◌/◌}
-use lib.ListN.{length}
 use lib.Seq.{sets}
 use Rattle.crossing.specs.Words.{words_in}
 use Rattle.crossing.proofs.Copies.{left}
 use Rattle.crossing.proofs.read_words.Given as goal
 
 abbrev pub invariant-loop-i : goal.invariant-loop-i
-invariant-loop-i l = (l.n ≡ length l.s / 8) × (length l.work ≡ length l.initial.work) × (sets l.work l.i (left l.s l.i) ≡ sets l.initial.work 0 (words_in l.s))
-
-abbrev pub decreases-loop-i : goal.decreases-loop-i
-decreases-loop-i l = l.n - l.i
+invariant-loop-i l = sets l.work l.i (left l.s l.i) ≡ sets l.initial.work 0 (words_in l.s)

@@ -13,7 +13,7 @@ pub returns-then-n-work : goal.returns-then-n-work
 returns-then-n-work t c = c.commitment_through.ensures
 
 pub commitment_in-requires : goal.commitment_in-requires
-commitment_in-requires t c = (omega (arith, c.middle_room-more.ensures), c.requires)
+commitment_in-requires t c = (omega arith, c.requires)
 
 pub returns-then-n-le-MIDDLE : goal.returns-then-n-le-MIDDLE
 returns-then-n-le-MIDDLE t c = c.commitment_in.ensures

@@ -13,7 +13,7 @@ pub returns-then-n-work : goal.returns-then-n-work
 returns-then-n-work t c = c.decode_through.ensures
 
 pub decode_in-requires : goal.decode_in-requires
-decode_in-requires t c = (omega (arith, c.middle_room-more.ensures, c.lent-n.ensures), tt)
+decode_in-requires t c = (omega (arith, c.lent-n.ensures), tt)
 
 pub returns-then-n-le-MIDDLE : goal.returns-then-n-le-MIDDLE
 returns-then-n-le-MIDDLE t c = c.decode_in.ensures

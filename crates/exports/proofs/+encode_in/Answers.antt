@@ -13,7 +13,7 @@ pub returns-then-n-work : goal.returns-then-n-work
 returns-then-n-work t c = c.encode_through.ensures
 
 pub encode_in-requires : goal.encode_in-requires
-encode_in-requires t c = (omega (arith, c.middle_room-more.ensures), c.requires)
+encode_in-requires t c = (omega arith, c.requires)
 
 pub returns-then-n-le-MIDDLE : goal.returns-then-n-le-MIDDLE
 returns-then-n-le-MIDDLE t c = c.encode_in.ensures

@@ -7,8 +7,5 @@ pub returns-then-not-few_words : goal.returns-then-not-few_words
 unfolding commitment_checked
 returns-then-not-few_words c = let a = c.args in rw (checked_broken a.values.now a.codes.now a.records.now (sym c.few_words.ensures ∙ c.if-not-few_words.true))
 
-pub commitment_in-requires : goal.commitment_in-requires
-commitment_in-requires c = (sym c.few_words.ensures ∙ c.if-not-few_words.false)
-
 pub returns : goal.returns
 returns c = rw (whole c.args.values.now _ (sym c.few_words.ensures ∙ c.if-not-few_words.false)) c.commitment_in.ensures

@@ -9,8 +9,5 @@ returns-then-not-few_words c =
     let a = c.args in
     rw (encoded_broken a.values.now a.codes.now a.records.now (sym c.few_words.ensures ∙ c.if-not-few_words.true) 8 a.table.now _ a.at) (record { reply = refl; bytes = refl })
 
-pub encode_in-requires : goal.encode_in-requires
-encode_in-requires c = (sym c.few_words.ensures ∙ c.if-not-few_words.false)
-
 pub returns : goal.returns
 returns c = rw (whole c.args.values.now _ (sym c.few_words.ensures ∙ c.if-not-few_words.false)) c.encode_in.ensures

@@ -11,10 +11,10 @@ unfolding padding_checked
 returns-then-not-few_words c = let a = c.args in rw (checked_broken a.values.now a.codes.now a.records.now (sym c.few_words.ensures ∙ c.if-not-few_words.true))
 
 pub read_words-requires : goal.read_words-requires
-read_words-requires c = omega (arith, c.room-work.ensures, few c.args.values.now (sym c.few_words.ensures ∙ c.if-not-few_words.false))
+read_words-requires c = omega (arith, few c.args.values.now (sym c.few_words.ensures ∙ c.if-not-few_words.false))
 
 pub slice_bounds-work-end : goal.slice_bounds-work-end
-slice_bounds-work-end c = omega (arith, c.read_words.auto, c.room-work.ensures, few c.args.values.now (sym c.few_words.ensures ∙ c.if-not-few_words.false))
+slice_bounds-work-end c = omega (arith, c.read_words.auto, few c.args.values.now (sym c.few_words.ensures ∙ c.if-not-few_words.false))
 
 pub slice_bounds-oli_padding-end : goal.slice_bounds-oli_padding-end
 slice_bounds-oli_padding-end c = sym (ap length c.read_words.ensures ∙ length_in c.args.values.now)

@@ -1,9 +1,0 @@
-use mathlib.Core.Path.{sym, ap}
-use Rattle.exports.specs.Flat.{flat_built}
-use Rattle.exports.proofs.flat_built.Goals as goal
-
-pub returns-in-Made : goal.returns-in-Made
-returns-in-Made c = sym (ap flat_built c.in-Made.is)
-
-pub returns-in-Refused : goal.returns-in-Refused
-returns-in-Refused c = sym (ap flat_built c.in-Refused.is)
