@@ -1,19 +1,19 @@
 -- What a stage's reply says of what was found, and what holds of whatever a stage finds. Assumes nothing.
-use mathlib.Core.Path.{◌≡◌, refl, sym, ◌∙◌}
+use mathlib.Core.Path.{◌≡◌, refl, sym, ap, ◌∙◌}
 use mathlib.Core.Bool.{Bool, true, false}
 use mathlib.Core.List.{List, [], ◌∷◌, ◌++◌, append-nil}
 use Prim.Native.Nat.{ℕ, suc, ◌+◌}
 use native.Mathlib.Omega.{arith}
 use lib.ListN.{length}
 use lib.Seq.{append_snoc}
+use Rattle.rules.specs.Answer as answer
 use Rattle.rules.specs.Answer.{good, refused, Read, found, refuse, ◌then◌}
-use Rattle.rules.specs.Operations.{Op}
-use Rattle.rules.proofs.Operations.{op}
-use Rattle.wire.specs.Replies.{count_read_of, op_read_of}
-use Rattle.wire.specs.declared.CountRead.{CountRead}
-use Rattle.wire.specs.declared.CountRead.TheVariants as count
-use Rattle.wire.specs.declared.OpRead.TheVariants as one
-use Rattle.wire.specs.Stages.{counted, IfFound, Staged}
+use Rattle.std.specs.Prelude.{Result, Ok, Err}
+use Rattle.refusal.specs.declared.Refusal.{Refusal}
+use Rattle.refusal.specs.Told.{number_of, place_of, told}
+use Rattle.wire.specs.declared.Item.{Item}
+use Rattle.wire.specs.Replies.{count_told}
+use Rattle.wire.specs.Stages.{counted, after, IfFound, Staged, Passed}
 
 pub record Got {A : Type 0} (f : A → ℕ) (P : A → ℕ → Type 0) (d : Read A) (v next : ℕ) : Type 0 where
   pub item : A
@@ -22,40 +22,45 @@ pub record Got {A : Type 0} (f : A → ℕ) (P : A → ℕ → Type 0) (d : Read
   pub holds : P item next
 
 module _ {A : Type 0} (f : A → ℕ) (P : A → ℕ → Type 0) where
-  got : (d : Read A) (v next : ℕ) → counted f d ≡ count.Found v next → IfFound P d → Got f P d v next
-  got (good i) v next h p = let e : i.next ≡ next = cc in record { item = i.item; is = rw (← e); number = cc; holds = rw (← e) p }
-  got (refused n p) v next h q = let z : ◌≡◌ {A = ℕ} 0 1 = cc in absurd (omega arith)
+  got : (d : Read A) (v next : ℕ) → found v next ≡ counted f d → IfFound P d → Got f P d v next
+  got (good i) v next h p =
+      let k : record { item = v; next = next } ≡ record { item = f i.item; next = i.next } = cc in
+      let e : next ≡ i.next = ap (λ (x : answer.Item ℕ). x.next) k in
+      record { item = i.item; is = rw e; number = sym (ap (λ (x : answer.Item ℕ). x.item) k); holds = rw e p }
+  got (refused n p) v next h q = cc
 
-  lost : (d : Read A) (n p : ℕ) → counted f d ≡ count.Refused n p → d ≡ refused n p
+  lost : (d : Read A) (n p : ℕ) → refused n p ≡ counted f d → d ≡ refused n p
   lost (good i) n p h = cc
   lost (refused m q) n p h = cc
 
-module _ {A : Type 0} {f : A → ℕ} {P : A → ℕ → Type 0} {d : Read A} {r : CountRead} (s : Staged f P d r) where
-  pub found_by : {v next : ℕ} → r ≡ count.Found v next → Got f P d v next
-  found_by {v} {next} e = got f P d v next (sym s.reply ∙ e) s.left
+module _ {A : Type 0} {f : A → ℕ} {P : A → ℕ → Type 0} {d : Read A} {r : Result (Item ℕ) Refusal} (s : Staged f P d r) where
+  pub found_by : {i : Item ℕ} → r ≡ Ok i → Got f P d i.item i.next
+  found_by {i} e = got f P d i.item i.next (ap count_told (sym e) ∙ s.reply) s.left
 
-  pub refused_by_lem : {n p : ℕ} → r ≡ count.Refused n p → d ≡ refused n p
-  refused_by_lem {n} {p} e = lost f P d n p (sym s.reply ∙ e)
+  pub refused_by_lem : {e : Refusal} → r ≡ Err e → d ≡ refused (number_of e) (place_of e)
+  refused_by_lem {e} h = lost f P d (number_of e) (place_of e) (ap count_told (sym h) ∙ s.reply)
 
-pub count_found : (d : Read ℕ) (v next : ℕ) → count_read_of d ≡ count.Found v next → d ≡ found v next
-count_found (good i) v next h = let e : i.next ≡ next = cc in let f : i.item ≡ v = cc in rw (← e, ← f)
-count_found (refused n p) v next h = cc
+-- the same where the place alone is answered
+pub record Went {A : Type 0} (P : A → ℕ → Type 0) (d : Read A) (next : ℕ) : Type 0 where
+  pub item : A
+  pub is : d ≡ found item next
+  pub holds : P item next
 
-pub count_lost : (d : Read ℕ) (n p : ℕ) → count_read_of d ≡ count.Refused n p → d ≡ refused n p
-count_lost (good i) n p h = cc
-count_lost (refused m q) n p h = cc
+module _ {A : Type 0} (P : A → ℕ → Type 0) where
+  went : (d : Read A) (next : ℕ) → good next ≡ after d → IfFound P d → Went P d next
+  went (good i) next h p = let e : next ≡ i.next = cc in record { item = i.item; is = rw e; holds = rw e p }
+  went (refused n p) next h q = cc
 
-pub op_found : (d : Read Op) (c v next : ℕ) → op_read_of d ≡ one.Found c v next → d ≡ found (op c v) next
-op_found (good i) c v next h =
-    let e : i.next ≡ next = cc in
-    let f : i.item.code ≡ c = cc in
-    let g : i.item.value ≡ v = cc in
-    rw (← e, ← f, ← g)
-op_found (refused n p) c v next h = cc
+  stuck : (d : Read A) (n p : ℕ) → refused n p ≡ after d → d ≡ refused n p
+  stuck (good i) n p h = cc
+  stuck (refused m q) n p h = cc
 
-pub op_lost : (d : Read Op) (n p : ℕ) → op_read_of d ≡ one.Refused n p → d ≡ refused n p
-op_lost (good i) n p h = cc
-op_lost (refused m q) n p h = cc
+module _ {A : Type 0} {P : A → ℕ → Type 0} {d : Read A} {r : Result ℕ Refusal} (s : Passed P d r) where
+  pub went_by : {next : ℕ} → r ≡ Ok next → Went P d next
+  went_by {next} e = went P d next (ap told (sym e) ∙ s.reply) s.left
+
+  pub stuck_by : {e : Refusal} → r ≡ Err e → d ≡ refused (number_of e) (place_of e)
+  stuck_by {e} h = stuck P d (number_of e) (place_of e) (ap told (sym h) ∙ s.reply)
 
 -- ---- what holds of whatever is found
 

@@ -1,16 +1,15 @@
--- What the answers of the readers say: an item and the place after it, or a refusal's number and place.
-use Rattle.std.specs.Prelude.{ℕ}
-use Rattle.rules.specs.Answer.{Read, good, refused}
+-- What the answers of the readers say: an item and the place after it, or a refusal.
+use Rattle.std.specs.Prelude.{ℕ, Result}
+use Rattle.rules.specs.Answer as rules
 use Rattle.rules.specs.Operations.{Op}
-use Rattle.wire.specs.declared.CountRead.{CountRead}
-use Rattle.wire.specs.declared.CountRead.TheVariants as count
-use Rattle.wire.specs.declared.OpRead.{OpRead}
-use Rattle.wire.specs.declared.OpRead.TheVariants as one
+use Rattle.refusal.specs.declared.Refusal.{Refusal}
+use Rattle.refusal.specs.Told.{told_by}
+use Rattle.operation.specs.Verdict.{op}
+use Rattle.wire.specs.declared.Item.{Item}
+use Rattle.wire.specs.declared.Op as wire
 
-abbrev pub count_read_of : Read ℕ → CountRead
-count_read_of (good i) = count.Found i.item i.next
-count_read_of (refused n p) = count.Refused n p
+abbrev pub count_told : Result (Item ℕ) Refusal → rules.Read ℕ
+count_told = told_by (λ (i : Item ℕ). record { item = i.item; next = i.next })
 
-abbrev pub op_read_of : Read Op → OpRead
-op_read_of (good i) = one.Found i.item.code i.item.value i.next
-op_read_of (refused n p) = one.Refused n p
+abbrev pub op_told : Result (Item wire.Op) Refusal → rules.Read Op
+op_told = told_by (λ (i : Item wire.Op). record { item = op i.item.code i.item.value; next = i.next })

@@ -6,21 +6,22 @@ ghost use Rattle.std.proofs.lemmas.List.Edits.{sets};
 ghost use Rattle.rules.specs.Digits.{digits, number, le_at};
 ghost use Rattle.rules.specs.Bytes.{count_at, least, more, count_bytes, op_at, op_bytes, batch_count_at, up_to};
 ghost use Rattle.operation.specs.Verdict.{op};
-ghost use Rattle.wire.specs.Replies.{count_read_of, op_read_of};
-ghost use Rattle.wire.specs.Stages.{hand_op};
+ghost use Rattle.wire.specs.Replies.{count_told, op_told};
 
-// A count or a batch count, and the place after it; or a refusal's number and place.
-#[derive(Clone, Copy)]
-pub enum CountRead {
-    Found { value: u64, next: usize },
-    Refused { number: u8, place: usize },
+use refusal::Refusal;
+
+// What was read, and the place after it.
+#[derive(Clone, Copy, Debug, PartialEq, Eq)]
+pub struct Item<T> {
+    pub item: T,
+    pub next: usize,
 }
 
-// An operation, and the place after it; or a refusal's number and place.
-#[derive(Clone, Copy)]
-pub enum OpRead {
-    Found { code: u8, value: u64, next: usize },
-    Refused { number: u8, place: usize },
+// An opcode, and its value.
+#[derive(Clone, Copy, Debug, PartialEq, Eq)]
+pub struct Op {
+    pub code: u8,
+    pub value: u64,
 }
 
 // ---- 1. the count
@@ -30,13 +31,11 @@ fn number_in(s: &[u8], at: usize, t: u32) -> u64
     requires { (t ≤ 2) × (at + t < length s.now) }
     ensures { result ≡ le_at (t + 1) s.now at / 2 ^ (t + 1) }
 {
-    if t == 0 {
-        return word::wide(s[at]) / 2;
+    match t {
+        0 => word::wide(s[at]) / 2,
+        1 => word::le2(s, at) / 4,
+        _ => (word::le2(s, at) + 65536 * word::wide(s[at + 2])) / 8,
     }
-    if t == 1 {
-        return word::le2(s, at) / 4;
-    }
-    (word::le2(s, at) + 65536 * word::wide(s[at + 2])) / 8
 }
 
 // The least number whose shortest form has t + 1 bytes.
@@ -44,56 +43,39 @@ fn lowest(t: u32) -> u64
     requires { t ≤ 2 }
     ensures { result ≡ least t }
 {
-    if t == 0 {
-        return 0;
+    match t {
+        0 => 0,
+        1 => 128,
+        _ => 16384,
     }
-    if t == 1 {
-        return 128;
-    }
-    16384
 }
 
 // The count at `at`.
-pub fn read_count(s: &[u8], at: usize) -> CountRead
-    ensures { result ≡ count_read_of (count_at s.now at) }
+pub fn read_count(s: &[u8], at: usize) -> Result<Item<u64>, Refusal>
+    ensures { count_told result ≡ count_at s.now at }
 {
     if s.len() <= at {
-        return CountRead::Refused {
-            number: 2,
-            place: at,
-        };
+        return Err(Refusal::CutShort { byte: at });
     }
-    let t = u8::trailing_zeros(s[at]);
+    let t = s[at].trailing_zeros();
     if 2 < t {
-        return CountRead::Refused {
-            number: 3,
-            place: 0,
-        };
+        return Err(Refusal::OverLimit);
     }
     let k = t as usize;
     if s.len() - at <= k {
-        return CountRead::Refused {
-            number: 2,
-            place: at,
-        };
+        return Err(Refusal::CutShort { byte: at });
     }
     let value = number_in(s, at, t);
     if value < lowest(t) {
-        return CountRead::Refused {
-            number: 3,
-            place: 0,
-        };
+        return Err(Refusal::OverLimit);
     }
     if 65535 < value {
-        return CountRead::Refused {
-            number: 3,
-            place: 0,
-        };
+        return Err(Refusal::OverLimit);
     }
-    CountRead::Found {
-        value,
+    Ok(Item {
+        item: value,
         next: at + k + 1,
-    }
+    })
 }
 
 // How many bytes the count v takes.
@@ -101,12 +83,12 @@ pub fn count_size(v: u64) -> usize
     ensures { result ≡ more v + 1 }
 {
     if v < 128 {
-        return 1;
+        1
+    } else if v < 16384 {
+        2
+    } else {
+        3
     }
-    if v < 16384 {
-        return 2;
-    }
-    3
 }
 
 // The count v, stored from `at` on; and the place after it.
@@ -130,82 +112,46 @@ pub fn write_count(out: &mut [u8], at: usize, v: u64) -> usize
 // ---- 2. one operation
 
 // The operation at `at`, which is the i-th: its opcode is looked at first, then whether its value's bytes are there, then its value.
-pub fn read_op(table: &[u8], s: &[u8], at: usize, i: usize) -> OpRead
-    requires { length table.now ≡ 128 }
-    ensures { result ≡ op_read_of (op_at table.now s.now at i) }
+pub fn read_op(table: &[u8; 128], s: &[u8], at: usize, i: usize) -> Result<Item<Op>, Refusal>
+    ensures { op_told result ≡ op_at table.now s.now at i }
 {
     if s.len() <= at {
-        return OpRead::Refused {
-            number: 2,
-            place: at,
-        };
+        return Err(Refusal::CutShort { byte: at });
     }
     let code = s[at];
     if 128 <= code {
-        return OpRead::Refused {
-            number: 4,
-            place: i,
-        };
+        return Err(Refusal::Unassigned { operation: i });
     }
     let kind = table[code as usize];
     if 3 <= kind {
-        return OpRead::Refused {
-            number: 4,
-            place: i,
-        };
+        return Err(Refusal::Unassigned { operation: i });
     }
     if kind == 0 {
-        return OpRead::Found {
-            code,
-            value: 0,
+        return Ok(Item {
+            item: Op { code, value: 0 },
             next: at + 1,
-        };
+        });
     }
     if s.len() - at < 9 {
-        return OpRead::Refused {
-            number: 2,
-            place: at,
-        };
+        return Err(Refusal::CutShort { byte: at });
     }
     let value = word::le8(s, at + 1);
     if operation::FIELD <= value {
-        return OpRead::Refused {
-            number: 17,
-            place: i,
-        };
+        return Err(Refusal::BadValue { operation: i });
     }
-    OpRead::Found {
-        code,
-        value,
+    Ok(Item {
+        item: Op { code, value },
         next: at + 9,
-    }
-}
-
-// A refused operation, handed on.
-pub fn not_read(r: OpRead) -> CountRead
-    ensures { result ≡ hand_op r }
-{
-    match r {
-        OpRead::Refused { number, place } => CountRead::Refused { number, place },
-        OpRead::Found {
-            code: _,
-            value: _,
-            next: _,
-        } => CountRead::Refused {
-            number: 0,
-            place: 0,
-        },
-    }
+    })
 }
 
 // An operation, stored from `at` on; and the place after it.
-pub fn write_op(table: &[u8], out: &mut [u8], at: usize, code: u8, v: u64) -> usize
-    requires { (length table.now ≡ 128) × (code < 128) × (at + length (op_bytes table.now (op code v)) ≤ length out.old) }
+pub fn write_op(table: &[u8; 128], out: &mut [u8], at: usize, code: u8, v: u64) -> usize
+    requires { (code < 128) × (at + length (op_bytes table.now (op code v)) ≤ length out.old) }
     ensures { (result ≡ at + length (op_bytes table.now (op code v))) × (out.new ≡ sets out.old at (op_bytes table.now (op code v))) }
 {
-    let kind = table[code as usize];
     out[at] = code;
-    if kind == 0 {
+    if table[code as usize] == 0 {
         return at + 1;
     }
     word::put8(out, at + 1, v);
@@ -214,39 +160,24 @@ pub fn write_op(table: &[u8], out: &mut [u8], at: usize, code: u8, v: u64) -> us
 
 // ---- 3. the batch count
 
-pub fn read_batch_count(s: &[u8], at: usize) -> CountRead
-    ensures { result ≡ count_read_of (batch_count_at s.now at) }
+pub fn read_batch_count(s: &[u8], at: usize) -> Result<Item<u64>, Refusal>
+    ensures { count_told result ≡ batch_count_at s.now at }
 {
-    if s.len() <= at {
-        return CountRead::Refused {
-            number: 2,
-            place: at,
-        };
-    }
-    if s.len() - at < 4 {
-        return CountRead::Refused {
-            number: 2,
-            place: at,
-        };
+    if s.len() <= at || s.len() - at < 4 {
+        return Err(Refusal::CutShort { byte: at });
     }
     let value = word::le4(s, at);
     let room = (s.len() - (at + 4)) / 5;
     if (room as u64) < value {
-        return CountRead::Refused {
-            number: 5,
-            place: 0,
-        };
+        return Err(Refusal::TooManyBatches);
     }
     if 16384 < value {
-        return CountRead::Refused {
-            number: 3,
-            place: 0,
-        };
+        return Err(Refusal::OverLimit);
     }
-    CountRead::Found {
-        value,
+    Ok(Item {
+        item: value,
         next: at + 4,
-    }
+    })
 }
 
 // ---- 4. nibbles: eight sizes in four bytes
@@ -256,13 +187,11 @@ pub fn deltas_right(v: u64) -> bool
     ensures { result ≡ up_to 9 (digits 16 8 v) }
 {
     let mut left = v;
-    let mut i: usize = 0;
-    while i < 8 {
+    for _i in 0..8usize {
         if 9 < left % 16 {
             return false;
         }
-        left = left / 16;
-        i += 1;
+        left /= 16;
     }
     true
 }

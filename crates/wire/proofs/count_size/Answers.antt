@@ -10,6 +10,6 @@ pub returns-then-v-lt16384 : goal.returns-then-v-lt16384
 unfolding more
 returns-then-v-lt16384 c = simp (le-ltb _ _ c.if-v-lt128.false, lt-ltb _ _ c.if-v-lt16384.true)
 
-pub returns : goal.returns
+pub returns-else-v-lt16384 : goal.returns-else-v-lt16384
 unfolding more
-returns c = simp (le-ltb _ _ c.if-v-lt128.false, le-ltb _ _ c.if-v-lt16384.false)
+returns-else-v-lt16384 c = simp (le-ltb _ _ c.if-v-lt128.false, le-ltb _ _ c.if-v-lt16384.false)

@@ -4,20 +4,20 @@ use Rattle.rules.specs.Digits.{le_at}
 use Rattle.rules.proofs.Digits.{le_at_split}
 use Rattle.wire.proofs.number_in.Goals as goal
 
-pub returns-then-t-eq0 : goal.returns-then-t-eq0
+pub returns-in-0 : goal.returns-in-0
 unfolding le_at
-returns-then-t-eq0 c =
+returns-in-0 c =
     let e : c.args.t ≡ 0 = omega arith in
     rw e (omega arith)
 
-pub returns-then-t-eq1 : goal.returns-then-t-eq1
-returns-then-t-eq1 c =
+pub returns-in-1 : goal.returns-in-1
+returns-in-1 c =
     let e : c.args.t ≡ 1 = omega arith in
     rw e (omega arith)
 
-pub returns : goal.returns
+pub returns-in_default : goal.returns-in_default
 unfolding le_at
-returns c =
+returns-in_default c =
     let a = c.args in
     let e : a.t ≡ 2 = omega arith in
     rw e (omega (arith, le_at_split 2 1 a.s.now a.at))

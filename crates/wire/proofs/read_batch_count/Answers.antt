@@ -10,10 +10,6 @@ pub returns-then-s-at : goal.returns-then-s-at
 unfolding batch_count_at
 returns-then-s-at c = let a = c.args in simp (lt-ltb (length a.s.now) (a.at + 4) (omega arith))
 
-pub returns-then-s-at-lt4 : goal.returns-then-s-at-lt4
-unfolding batch_count_at
-returns-then-s-at-lt4 c = let a = c.args in simp (lt-ltb (length a.s.now) (a.at + 4) (omega arith))
-
 pub returns-then-room-value : goal.returns-then-room-value
 unfolding batch_count_at
 returns-then-room-value c =

@@ -12,16 +12,16 @@ pub bounds-out-at : goal.bounds-out-at
 unfolding op_bytes
 bounds-out-at c = omega arith
 
-pub returns-then-kind-eq0 : goal.returns-then-kind-eq0
-returns-then-kind-eq0 c =
+pub returns-then-table-code-eq0 : goal.returns-then-table-code-eq0
+returns-then-table-code-eq0 c =
     let a = c.args in
-    rw (op_plain a.table.now a.code a.v (omega arith) c.if-kind-eq0.true) (refl, refl)
+    rw (op_plain a.table.now a.code a.v (omega arith) c.if-table-code-eq0.true) (refl, refl)
 
 pub put8-requires : goal.put8-requires
 unfolding digits
 put8-requires c =
     let a = c.args in
-    simp length-set (omega (arith, ap length (op_valued a.table.now a.code a.v (omega arith) c.if-kind-eq0.false)))
+    simp length-set (omega (arith, ap length (op_valued a.table.now a.code a.v (omega arith) c.if-table-code-eq0.false)))
 
 pub shape_of-out : goal.shape_of-out
 shape_of-out c =
