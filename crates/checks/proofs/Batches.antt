@@ -13,6 +13,8 @@ use Rattle.rules.specs.Checks.{Held, ninth, held_from, held}
 use Rattle.rules.specs.Functions.{Arena, arena, block_in}
 use Rattle.rules.proofs.Answer.{first_turn, first_stop, first_done}
 use Rattle.rules.proofs.Operations.{length_operations}
+use Rattle.operation.specs.Verdict.{one_fault}
+use Rattle.operation.proofs.Faults.{faulted}
 use Rattle.checks.specs.Batch.{held_at, Structured, Lies}
 use Rattle.checks.proofs.Walk.{records_turn, records_end, equal_lengths}
 use Rattle.checks.proofs.Passed.{checked, all_fit}
@@ -96,8 +98,10 @@ module _ (fault : Held → ℕ) (cs vs rs : List ℕ) (n b from : ℕ) (w : Came
     pub came_lies : Lies (arena cs vs rs) b from
     came_lies = lies cs vs rs w.structured b from (omega (arith, w.all)) w.ahead
 
-    pub came_stop : (k : ℕ) → k ≡ fault (held_at (arena cs vs rs) b from) → (k ≡ 0 → ⊥) → refused k b ≡ answer
-    came_stop k e f = sym (stop fault (length rs / record_size) (arena cs vs rs) b from (omega (arith, w.all)) k e f) ∙ w.same ∙ begin fault (arena cs vs rs)
+    pub came_stop : (k p : ℕ) → refused k p ≡ one_fault (fault (held_at (arena cs vs rs) b from)) b → refused k p ≡ answer
+    came_stop k p e =
+        let f = faulted (fault (held_at (arena cs vs rs) b from)) b k p e in
+        rw (← f.number, ← f.place) (sym (stop fault (length rs / record_size) (arena cs vs rs) b from (omega (arith, w.all)) _ refl f.some) ∙ w.same ∙ begin fault (arena cs vs rs))
 
     -- past the batch, by its ninth start
     module _ (s : ℕ) (e : s ≡ ninth (record_at rs b)) where

@@ -11,12 +11,14 @@ use lib.ListN.{length, get_or, drop}
 use lib.Seq.{drop-cons}
 use lib.Dec.{eqb}
 use Rattle.rules.specs.Digits.{number}
+use Rattle.rules.specs.Answer.{good, refused}
 use Rattle.rules.specs.Operations.{Op, operations}
 use Rattle.rules.specs.Record.{Record, differences, cut, part}
 use Rattle.rules.specs.Checks.{padding_fault, ends_in_noop, padding_right}
 use Rattle.rules.proofs.Digits.{split}
 use Rattle.rules.proofs.Operations.{op}
 use Rattle.op_batch.proofs.Right.{flags_ahead}
+use Rattle.operation.specs.Verdict.{one_fault}
 use Rattle.checks.specs.Batch.{under}
 use Rattle.checks.proofs.Groups.{Lying, part_turn, span_none, group, under_start, under_turn, under_none, bounds}
 
@@ -105,8 +107,8 @@ module _ (r : Record) (cs vs : List ℕ) (from : ℕ) (x : Lying r cs vs from) (
   unfolding pad_left padding_fault
   begin = rw (under_start r cs vs from x)
 
-  pub faulty : pad_left r (operations cs vs) from g ≡ false → 10 ≡ fault
-  faulty e = ap (λ (b : Bool). cond b 0 10) (sym e ∙ same) ∙ begin
+  pub faulty : (b : ℕ) → pad_left r (operations cs vs) from g ≡ false → refused 10 b ≡ one_fault fault b
+  faulty b e = let h : 10 ≡ fault = ap (λ (x : Bool). cond x 0 10) (sym e ∙ same) ∙ begin in rw (← h)
 
-  pub faultless : pad_left r (operations cs vs) from g ≡ true → 0 ≡ fault
-  faultless e = ap (λ (b : Bool). cond b 0 10) (sym e ∙ same) ∙ begin
+  pub faultless : (b : ℕ) → pad_left r (operations cs vs) from g ≡ true → good tt ≡ one_fault fault b
+  faultless b e = let h : 0 ≡ fault = ap (λ (x : Bool). cond x 0 10) (sym e ∙ same) ∙ begin in rw (← h)

@@ -17,18 +17,6 @@ use Rattle.rules.specs.Functions.{Arena, arena, block_in, within, structure_chec
 use Rattle.rules.proofs.Answer.{clash, passed, no_fault}
 use Rattle.rules.proofs.Operations.{op, admitted, table_128}
 use Rattle.checks.specs.Batch.{AllFit, Apt}
-use Rattle.operation.specs.declared.Verdict.TheVariants.{Passed, Refused}
-use Rattle.operation.specs.Verdict.{verdict_of}
-
--- ---- a verdict stands for one answer
-
-pub was_good : (d : Answer Unit) → verdict_of d ≡ Passed → d ≡ good tt
-was_good (good u) h = refl
-was_good (refused n p) h = let z : ◌≡◌ {A = ℕ} 0 1 = cc in absurd (omega arith)
-
-pub was_refused : (d : Answer Unit) (n p : ℕ) → verdict_of d ≡ Refused n p → d ≡ refused n p
-was_refused (good u) n p h = let z : ◌≡◌ {A = ℕ} 0 1 = cc in absurd (omega arith)
-was_refused (refused m q) n p h = cc
 
 -- ---- a check, and then what follows it
 
@@ -61,11 +49,6 @@ module _ {A : Type 0} where
   first_good (good u) r a h = refl
   first_good (refused n p) r a h = absurd (clash n p a h)
 
--- a refusal is handed on
-pub handed_on : (d r : Answer Unit) (n p : ℕ) → verdict_of d ≡ Refused n p → verdict_of (and_then d r) ≡ verdict_of d
-handed_on (good u) r n p h = let z : ◌≡◌ {A = ℕ} 0 1 = cc in absurd (omega arith)
-handed_on (refused m q) r n p h = refl
-
 -- the ways out of the padding check
 module _ (w : ℕ) (a : Arena) where
   abbrev padding_stage : Answer Unit
@@ -75,11 +58,11 @@ module _ (w : ℕ) (a : Arena) where
   unfolding padding_checked
   padding_stages = structure_then w a padding_stage
 
-  pub padding_unstructured : (n p : ℕ) → verdict_of (structure_checked w a) ≡ Refused n p → Refused n p ≡ verdict_of (padding_checked w a)
-  padding_unstructured n p e = sym (ap verdict_of padding_stages ∙ handed_on (structure_checked w a) padding_stage n p e ∙ e)
+  pub padding_unstructured : (n p : ℕ) → refused n p ≡ structure_checked w a → refused n p ≡ padding_checked w a
+  padding_unstructured n p e = rw (padding_stages, ← e)
 
-  pub padding_by_batches : structure_checked w a ≡ good tt → verdict_of padding_stage ≡ verdict_of (padding_checked w a)
-  padding_by_batches g = sym (ap verdict_of (padding_stages ∙ went_on (structure_checked w a) padding_stage g))
+  pub padding_by_batches : good tt ≡ structure_checked w a → padding_stage ≡ padding_checked w a
+  padding_by_batches g = sym (padding_stages ∙ went_on (structure_checked w a) padding_stage (sym g))
 
   -- an arena that passed it passed the structure check
   pub padding_good : padding_checked w a ≡ good tt → structure_checked w a ≡ good tt

@@ -5,66 +5,55 @@ ghost use Rattle.std.specs.Prelude.{◌≡◌, ◌≤◌, length};
 ghost use Rattle.rules.specs.Answer.{good, refuse_first};
 ghost use Rattle.rules.specs.Checks.{structure_faults, padding_fault, padding_faults};
 ghost use Rattle.rules.specs.Functions.{arena, block_in, within, structure_checked, padding_checked};
-ghost use Rattle.operation.specs.Verdict.{verdict_of};
+ghost use Rattle.refusal.specs.Told.{told};
+ghost use Rattle.operation.specs.Verdict.{one_fault};
 ghost use Rattle.checks.specs.Batch.{held_at, Structured, Lies};
 
 use op_batch::{RECORD, WIDTH};
-use operation::Verdict;
+use refusal::Refusal;
 
 // "3": lists of equal length, at most 65,535 operations, whole records and at most 16,384 of them.
 pub fn within(codes: &[u8], values: &[u64], records: &[u8]) -> bool
     ensures { result ≡ within (arena codes.now values.now records.now) }
 {
-    if codes.len() != values.len() {
-        return false;
-    }
-    if 65535 < codes.len() {
-        return false;
-    }
-    if records.len() % RECORD != 0 {
-        return false;
-    }
-    records.len() / RECORD <= 16384
+    codes.len() == values.len()
+        && codes.len() <= 65535
+        && records.len() % RECORD == 0
+        && records.len() / RECORD <= 16384
 }
 
 // ---- structure
 
 // The first record that fails the structure test, or their sum: for callers that made sure of equal lengths themselves.
-pub fn structure_fault(width: usize, codes: &[u8], values: &[u64], records: &[u8]) -> Verdict
+pub fn structure_fault(
+    width: usize,
+    codes: &[u8],
+    values: &[u64],
+    records: &[u8],
+) -> Result<(), Refusal>
     requires { (width ≤ 8) × (length codes.now ≡ length values.now) }
-    ensures { result ≡ verdict_of (refuse_first 0 (structure_faults width (block_in (arena codes.now values.now records.now))) (good tt)) }
+    ensures { told result ≡ refuse_first 0 (structure_faults width (block_in (arena codes.now values.now records.now))) (good tt) }
 {
     let n = records.len() / RECORD;
     let mut sum: usize = 0;
-    let mut b: usize = 0;
-    while b < n {
+    for b in 0..n {
         if !op_batch::record_right(width, records, b) {
-            return Verdict::Refused {
-                number: 15,
-                place: b,
-            };
+            return Err(Refusal::BadStructure { batch: b });
         }
         sum += op_batch::start(records, b, 8);
-        b += 1;
     }
     if sum != codes.len() {
-        return Verdict::Refused {
-            number: 15,
-            place: n,
-        };
+        return Err(Refusal::BadStructure { batch: n });
     }
-    Verdict::Passed
+    Ok(())
 }
 
 // Structure: refusals 3, 15.
-pub fn structure(codes: &[u8], values: &[u64], records: &[u8]) -> Verdict
-    ensures { result ≡ verdict_of (structure_checked 8 (arena codes.now values.now records.now)) }
+pub fn structure(codes: &[u8], values: &[u64], records: &[u8]) -> Result<(), Refusal>
+    ensures { told result ≡ structure_checked 8 (arena codes.now values.now records.now) }
 {
     if !within(codes, values, records) {
-        return Verdict::Refused {
-            number: 3,
-            place: 0,
-        };
+        return Err(Refusal::OverLimit);
     }
     structure_fault(WIDTH, codes, values, records)
 }
@@ -72,60 +61,58 @@ pub fn structure(codes: &[u8], values: &[u64], records: &[u8]) -> Verdict
 // ---- padding
 
 // One batch: a flagged group under the count holds operations and ends in opcode 0. The decoder asks it of each record that it has made.
-pub fn batch_padding(codes: &[u8], values: &[u64], records: &[u8], b: usize, from: usize) -> u8
+pub fn batch_padding(
+    codes: &[u8],
+    values: &[u64],
+    records: &[u8],
+    b: usize,
+    from: usize,
+) -> Result<(), Refusal>
     requires { Lies (arena codes.now values.now records.now) b from }
-    ensures { result ≡ padding_fault (held_at (arena codes.now values.now records.now) b from) }
+    ensures { told result ≡ one_fault (padding_fault (held_at (arena codes.now values.now records.now) b from)) b }
 {
     let count = op_batch::count(records, b);
-    let mut left = op_batch::flags(records, b); // those from the g-th on
-    let mut g: usize = 0;
-    while 0 < left {
+    let mut left = op_batch::flags(records, b); // those from the g-th on: most batches have few, so the walk ends with the last
+    for g in 0..8 {
+        if left == 0 {
+            return Ok(());
+        }
         left /= 256;
         if op_batch::flag(records, b, g) == 0 {
-            g += 1;
             continue;
         }
         if count <= g {
-            return 0; // flags from the count on are kept unread (M-100)
+            return Ok(()); // flags from the count on are kept unread (M-100)
         }
         let end = op_batch::start(records, b, g + 1);
         if op_batch::start(records, b, g) == end {
-            return 10;
+            return Err(Refusal::BadPadding { batch: b });
         }
         if codes[from + end - 1] != 0 {
-            return 10;
+            return Err(Refusal::BadPadding { batch: b });
         }
-        g += 1;
     }
-    0
+    Ok(())
 }
 
 // The first batch with a padding fault, where the arena passed the structure check.
-fn padding_fault(codes: &[u8], values: &[u64], records: &[u8]) -> Verdict
+fn padding_fault(codes: &[u8], values: &[u64], records: &[u8]) -> Result<(), Refusal>
     requires { Structured (arena codes.now values.now records.now) }
-    ensures { result ≡ verdict_of (refuse_first 0 (padding_faults (block_in (arena codes.now values.now records.now))) (good tt)) }
+    ensures { told result ≡ refuse_first 0 (padding_faults (block_in (arena codes.now values.now records.now))) (good tt) }
 {
     let n = records.len() / RECORD;
     let mut from: usize = 0;
-    let mut b: usize = 0;
-    while b < n {
-        let number = batch_padding(codes, values, records, b, from);
-        if number != 0 {
-            return Verdict::Refused { number, place: b };
-        }
+    for b in 0..n {
+        batch_padding(codes, values, records, b, from)?;
         from += op_batch::start(records, b, 8);
-        b += 1;
     }
-    Verdict::Passed
+    Ok(())
 }
 
 // Padding: refusals 3, 15, 10.
-pub fn padding(codes: &[u8], values: &[u64], records: &[u8]) -> Verdict
-    ensures { result ≡ verdict_of (padding_checked 8 (arena codes.now values.now records.now)) }
+pub fn padding(codes: &[u8], values: &[u64], records: &[u8]) -> Result<(), Refusal>
+    ensures { told result ≡ padding_checked 8 (arena codes.now values.now records.now) }
 {
-    let v = structure(codes, values, records);
-    if let Verdict::Refused { number, place } = v {
-        return Verdict::Refused { number, place };
-    }
+    structure(codes, values, records)?;
     padding_fault(codes, values, records)
 }

@@ -1,5 +1,5 @@
 use mathlib.Core.Path.{◌≡◌}
-use Prim.Native.Nat.{◌^◌, ◌≤◌, ◌<◌}
+use Prim.Native.Nat.{◌^◌, ◌<◌}
 use lib.ListN.{length, drop}
 use Rattle.rules.specs.Digits.{number}
 use Rattle.rules.specs.Operations.{operations}
@@ -8,14 +8,10 @@ use Rattle.checks.proofs.Groups.{Lying}
 use Rattle.checks.proofs.Flags.{pad_left}
 use Rattle.checks.proofs.batch_padding.Given as goal
 
-abbrev pub invariant-loop-left : goal.invariant-loop-left
-invariant-loop-left l =
+abbrev pub invariant-loop-g : goal.invariant-loop-g
+invariant-loop-g l =
     Lying (record_at l.records l.b) l.codes l.values l.from
     × (l.count ≡ (record_at l.records l.b).count)
-    × (l.g ≤ 8)
     × (pad_left (record_at l.records l.b) (operations l.codes l.values) l.from l.g ≡ pad_left (record_at l.records l.b) (operations l.codes l.values) l.from 0)
     × (l.left ≡ number 256 (drop l.g (record_at l.records l.b).flags))
     × (length l.codes < 2 ^ 64)
-
-abbrev pub decreases-loop-left : goal.decreases-loop-left
-decreases-loop-left l = l.left

@@ -1,15 +1,14 @@
 use mathlib.Core.Path.{sym, ◌∙◌}
 use native.Mathlib.Omega.{arith}
-use Rattle.checks.proofs.Passed.{was_good, padding_unstructured, padding_by_batches}
+use Rattle.refusal.proofs.Told.{handed}
+use Rattle.checks.proofs.Passed.{padding_unstructured, padding_by_batches}
 use Rattle.checks.proofs.padding.Goals as goal
 
-pub returns-in-Refused : goal.returns-in-Refused
-returns-in-Refused c =
-    padding_unstructured _ _ _ _ (sym c.structure-v.ensures ∙ c.in-Refused.is)
+pub returns-in_err-structure : goal.returns-in_err-structure
+returns-in_err-structure c = handed _ _ c.from_residual.ensures.1 ∙ padding_unstructured _ _ _ _ c.in_err-structure.ensures
 
 pub padding_fault-requires : goal.padding_fault-requires
-padding_fault-requires c = record { width = 8; room = omega arith; passed = was_good _ (sym c.structure-v.ensures ∙ c.in_default.is) }
+padding_fault-requires c = record { width = 8; room = omega arith; passed = sym c.in_ok-structure.ensures }
 
 pub returns : goal.returns
-returns c =
-    c.padding_fault.ensures ∙ padding_by_batches _ _ (was_good _ (sym c.structure-v.ensures ∙ c.in_default.is))
+returns c = c.padding_fault.ensures ∙ padding_by_batches _ _ c.in_ok-structure.ensures

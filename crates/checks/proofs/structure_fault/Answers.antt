@@ -1,6 +1,5 @@
-use mathlib.Core.Path.{sym, ap, ◌∙◌}
+use mathlib.Core.Path.{sym, ◌∙◌}
 use native.Mathlib.Omega.{arith}
-use Rattle.operation.specs.Verdict.{verdict_of}
 use Rattle.checks.proofs.Walk.{summed_first, summed_stop, summed_short, summed_done, summed_next}
 use Rattle.checks.proofs.structure_fault.Goals as goal
 
@@ -10,7 +9,7 @@ loop-b-init c = let p = c.requires in (summed_first _ _ _ _ p.1, p.0)
 pub returns-then-not-record_right : goal.returns-then-not-record_right
 returns-then-not-record_right c =
     let l = c.loop-b in
-    ap verdict_of (summed_stop _ _ _ _ _ _ _ l.invariant.0 (omega arith) (sym c.record_right.ensures ∙ c.if-not-record_right.true))
+    (summed_stop _ _ _ _ _ _ _ l.invariant.0 (omega arith) (sym c.record_right.ensures ∙ c.if-not-record_right.true))
 
 pub loop-b-preserved : goal.loop-b-preserved
 loop-b-preserved c =
@@ -18,7 +17,7 @@ loop-b-preserved c =
     (summed_next _ _ _ _ _ _ _ l.invariant.0 (omega arith) (sym c.record_right.ensures ∙ c.if-not-record_right.false) _ c.start-sum.ensures.0, l.invariant.1)
 
 pub returns-then-sum-codes : goal.returns-then-sum-codes
-returns-then-sum-codes c = let l = c.loop-b in ap verdict_of (summed_short _ _ _ _ _ _ _ l.invariant.0 (omega arith) c.if-sum-codes.true)
+returns-then-sum-codes c = let l = c.loop-b in (summed_short _ _ _ _ _ _ _ l.invariant.0 (omega arith) c.if-sum-codes.true)
 
 pub returns : goal.returns
-returns c = let l = c.loop-b in ap verdict_of (summed_done _ _ _ _ _ _ _ l.invariant.0 (omega arith) c.if-sum-codes.false)
+returns c = let l = c.loop-b in (summed_done _ _ _ _ _ _ _ l.invariant.0 (omega arith) c.if-sum-codes.false)

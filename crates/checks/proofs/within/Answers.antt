@@ -1,19 +1,12 @@
-use borrow.Author.Tests.{le-leb, lt-leb, eq-eqb, ne_eqb}
+use native.Mathlib.Omega.{arith}
+use Rattle.std.proofs.lemmas.Bool.Decides.{nat_tests}
 use Rattle.rules.specs.Functions.{within}
 use Rattle.checks.proofs.within.Goals as goal
 
-pub returns-then-codes-values : goal.returns-then-codes-values
+pub returns-then-records-eq0 : goal.returns-then-records-eq0
 unfolding within
-returns-then-codes-values c = simp (ne_eqb _ _ c.if-codes-values.true)
+returns-then-records-eq0 c = grind (arith, nat_tests)
 
-pub returns-then-codes-gt65535 : goal.returns-then-codes-gt65535
+pub returns-else-records-eq0 : goal.returns-else-records-eq0
 unfolding within
-returns-then-codes-gt65535 c = simp (eq-eqb _ _ c.if-codes-values.false, lt-leb _ _ c.if-codes-gt65535.true)
-
-pub returns-then-records-ne0 : goal.returns-then-records-ne0
-unfolding within
-returns-then-records-ne0 c = simp (eq-eqb _ _ c.if-codes-values.false, le-leb _ _ c.if-codes-gt65535.false, ne_eqb _ _ c.if-records-ne0.true)
-
-pub returns : goal.returns
-unfolding within
-returns c = simp (eq-eqb _ _ c.if-codes-values.false, le-leb _ _ c.if-codes-gt65535.false, eq-eqb _ _ c.if-records-ne0.false)
+returns-else-records-eq0 c = grind (arith, nat_tests)
