@@ -2,7 +2,7 @@
 // fit. The lent runs come in all zero.
 #![tactic(auto)]
 
-ghost use Rattle.std.specs.Prelude.{◌≡◌, true, ◌+◌, ◌*◌, ◌-◌, ◌≤◌, ◌<◌, ◌^◌, length, get_or, set};
+ghost use Rattle.std.specs.Prelude.{◌≡◌, true, ◌+◌, ◌*◌, ◌-◌, ◌≤◌, ◌<◌, ◌^◌, length, get_or, set, IfSome};
 ghost use Rattle.rules.specs.Record.{record_size, no_block};
 ghost use Rattle.rules.specs.Functions.{arena, filled};
 ghost use Rattle.accumulator.specs.Good.{record_groups, Good};
@@ -27,15 +27,11 @@ fn end_batch(work: Work, records: &mut [u8]) -> Work
     ensures work { result ≡ ended_work work }
     ensures run { records.new ≡ ended_work_run work records.old }
 {
-    let a = work.acc;
-    let k = work.batches;
-    let total = a.into_batch(k, records);
-    let n = total as usize;
-    let fresh = OpBatchAccumulator::new();
+    let total = work.acc.into_batch(work.batches, records);
     Work {
-        acc: fresh,
-        base: work.base + n,
-        batches: k + 1,
+        acc: OpBatchAccumulator::new(),
+        base: work.base + total as usize,
+        batches: work.batches + 1,
     }
 }
 
@@ -46,11 +42,11 @@ fn make_room(width: usize, work: Work, imm: bool, records: &mut [u8]) -> Work
     ensures work { result ≡ room_work width imm work }
     ensures run { records.new ≡ room_run width imm work records.old }
 {
-    let a = work.acc;
-    if a.can_accept_op(width, imm) {
-        return work;
+    if work.acc.can_accept_op(width, imm) {
+        work
+    } else {
+        end_batch(work, records)
     }
-    end_batch(work, records)
 }
 
 // One operation more.
@@ -72,19 +68,11 @@ fn step(
     ensures run { records.new ≡ stepped_run width imm v work records.old }
 {
     let r = make_room(width, work, imm, records);
-    let b = r.acc;
-    let base = r.base;
-    let k = r.batches;
-    let a = b.add_op(code, imm, v, k, records);
-    let n = a.total as usize;
-    let at = base + n - 1;
+    let acc = r.acc.add_op(code, imm, v, r.batches, records);
+    let at = r.base + acc.total as usize - 1;
     word::store8(codes, at, code);
     word::store64(values, at, v);
-    Work {
-        acc: a,
-        base,
-        batches: k,
-    }
+    Work { acc, ..r }
 }
 
 // ---- the fast path
@@ -101,31 +89,25 @@ struct Taken {
     upto: usize,
 }
 
-// How many slots an operation takes that joins the current group as it is: 0 or 1. 2 where it does not, or is left to `step`. At most `left`
-// may join, and the last of them has no immediate.
-fn slots(width: usize, table: &[u8], code: u8, v: u64, next: usize, left: usize) -> usize
+// How many slots an operation takes that joins the current group as it is, 0 or 1; none where it does not, or is left to `step`. At most `left` may
+// join, and the last of them has no immediate.
+fn slots(width: usize, table: &[u8], code: u8, v: u64, next: usize, left: usize) -> Option<usize>
     requires { (length table.now ≡ 128) × (next ≤ record_groups) }
-    ensures { result < 2 → Joins width table.now code v next left result }
+    ensures { IfSome result (λ k. (k < 2) × Joins width table.now code v next left k) }
 {
     if 128 <= code {
-        return 2;
+        return None;
     }
     let kind = table[code as usize];
-    if 1 < kind {
-        return 2;
-    }
-    // the greatest value, 0 for kind 0 and below the field's size for kind 1, by a product where `value_right` has a branch
-    if word::wide(kind) * (operation::FIELD - 1) < v {
-        return 2;
-    }
     let k = kind as usize;
-    if left <= k {
-        return 2;
+    // the greatest value, 0 for kind 0 and below the field's size for kind 1, by a product where `value_right` has a branch
+    if 1 < kind || word::wide(kind) * (operation::FIELD - 1) < v {
+        return None;
     }
-    if width < next + k {
-        return 2;
+    if left <= k || width < next + k {
+        return None;
     }
-    k
+    Some(k)
 }
 
 // A value in the next free slot, if the record has one more.
@@ -144,13 +126,9 @@ fn room_ahead(from: usize, b: usize, codes: usize, values: usize, records: usize
     requires { (from < 2 ^ 32) × (b < 2 ^ 20) }
     ensures { result ≡ true → (from + 9 ≤ codes) × (from + 9 ≤ values) × (record_size * b + record_size ≤ records) }
 {
-    if records < op_batch::RECORD * b + op_batch::RECORD {
-        return false;
-    }
-    if codes < from + accumulator::GROUP_SIZE {
-        return false;
-    }
-    from + accumulator::GROUP_SIZE <= values
+    op_batch::RECORD * b + op_batch::RECORD <= records
+        && from + accumulator::GROUP_SIZE <= codes
+        && from + accumulator::GROUP_SIZE <= values
 }
 
 // How many operations can join at most: what is left of the group, or of the list.
@@ -158,10 +136,7 @@ fn most(inside: usize, i: usize, len: usize) -> usize
     requires { (inside ≤ 9) × (i ≤ len) }
     ensures { (inside + result ≤ 9) × (i + result ≤ len) }
 {
-    if len - i < accumulator::GROUP_SIZE - inside {
-        return len - i;
-    }
-    accumulator::GROUP_SIZE - inside
+    (len - i).min(accumulator::GROUP_SIZE - inside)
 }
 
 // Whether the last of n operations has an immediate: looked up once they have joined, so that the loop has one thing less in hand.
@@ -170,10 +145,10 @@ fn last_imm(table: &[u8], codes: &[u8], before: bool, i: usize, n: usize) -> boo
     ensures { result ≡ last_imm table.now codes.now before i n }
 {
     if n == 0 {
-        return before;
+        before
+    } else {
+        table[codes[i + n - 1] as usize] == 1
     }
-    let code = codes[i + n - 1];
-    table[code as usize] == 1
 }
 
 // The work put together again, with n operations that have joined from the i-th on.
@@ -192,23 +167,17 @@ fn gather(
     ensures { (result.work ≡ taken_work table.now codes.now work i n next number unit) × (result.upto ≡ i + n) }
 {
     let a = work.acc;
-    let tail = last_imm(table, codes, a.tail, i, n);
     let acc = OpBatchAccumulator {
-        cur: a.cur,
         next,
         inside: a.inside + n,
         number,
         unit,
         total: a.total + n as u8,
-        tail,
-    };
-    let taken = Work {
-        acc,
-        base: work.base,
-        batches: work.batches,
+        tail: last_imm(table, codes, a.tail, i, n),
+        ..a
     };
     Taken {
-        work: taken,
+        work: Work { acc, ..work },
         upto: i + n,
     }
 }
@@ -232,8 +201,7 @@ fn join_ops(
 {
     let a = work.acc;
     let b = work.batches;
-    let t = a.total as usize;
-    let from = work.base + t;
+    let from = work.base + a.total as usize;
     if !room_ahead(from, b, out_codes.len(), out_values.len(), records.len()) {
         return Taken { work, upto: i };
     }
@@ -241,23 +209,20 @@ fn join_ops(
     let mut next = a.next;
     let mut number = a.number;
     let mut unit = a.unit;
-    let mut n: usize = 0;
-    while n < end {
+    for n in 0..end {
         let code = codes[i + n];
         let v = values[i + n];
-        let k = slots(width, table, code, v, next, end - n);
-        if 1 < k {
+        let Some(k) = slots(width, table, code, v, next, end - n) else {
             return gather(work, table, codes, i, n, next, number, unit);
-        }
+        };
         keep(v, b, next, records);
         out_codes[from + n] = code;
         out_values[from + n] = v;
-        number = number + word::wide(code) * unit;
-        unit = unit * 128;
-        next = next + k;
-        n += 1;
+        number += word::wide(code) * unit;
+        unit *= 128;
+        next += k;
     }
-    gather(work, table, codes, i, n, next, number, unit)
+    gather(work, table, codes, i, end, next, number, unit)
 }
 
 // How much a list comes to; or the number of refusal and the place of its first operation that is not admissible.
@@ -281,13 +246,13 @@ pub fn batch_ops(
     requires zero { arena out_codes.old out_values.old records.old ≡ filled (arena out_codes.old out_values.old records.old) no_block }
     ensures { Batched (listed width table.now codes.now values.now) result (arena out_codes.old out_values.old records.old) (arena out_codes.new out_values.new records.new) }
 {
-    let fresh = OpBatchAccumulator::new();
     let mut work = Work {
-        acc: fresh,
+        acc: OpBatchAccumulator::new(),
         base: 0,
         batches: 0,
     };
-    let mut i: usize = 0;
+    let mut i = 0;
+    // no `for`: a turn goes on by as many operations as have joined
     while i < codes.len() {
         let code = codes[i];
         let v = values[i];
@@ -295,8 +260,7 @@ pub fn batch_ops(
         if number != 0 {
             return Batches::Fault { number, place: i };
         }
-        let kind = table[code as usize];
-        let imm = kind == 1;
+        let imm = table[code as usize] == 1;
         let s = step(width, work, code, imm, v, out_codes, out_values, records);
         let t = join_ops(
             width,

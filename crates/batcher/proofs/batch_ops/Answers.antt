@@ -7,7 +7,7 @@ use Rattle.batcher.proofs.InHand.{going_start, going_good, going_turn, going_her
 use Rattle.batcher.proofs.batch_ops.Goals as goal
 
 pub loop-i-init : goal.loop-i-init
-loop-i-init c = rw c.new-fresh.ensures (omega arith, going_start _ c.requires.sizes.3 _ _ _ _ c.requires.zero)
+loop-i-init c = rw c.new.ensures (omega arith, going_start _ c.requires.sizes.3 _ _ _ _ c.requires.zero)
 
 pub fault-number-requires : goal.fault-number-requires
 fault-number-requires c = c.requires.sizes.0
@@ -24,8 +24,8 @@ shape_of-records-then-number-ne0 c = (going_lengths c.loop-i.invariant.1).2
 pub returns-then-number-ne0 : goal.returns-then-number-ne0
 returns-then-number-ne0 c = going_fault c.loop-i.invariant.1 c.loop-i-test.true (omega (arith, c.requires.sizes)) c.fault-number.ensures c.if-number-ne0.true
 
-pub overflow_cast-kind : goal.overflow_cast-kind
-overflow_cast-kind c = omega (arith, (admitted _ _ (sym c.fault-number.ensures ∙ c.if-number-ne0.false)).code)
+pub overflow_cast-imm : goal.overflow_cast-imm
+overflow_cast-imm c = omega (arith, (admitted _ _ (sym c.fault-number.ensures ∙ c.if-number-ne0.false)).code)
 
 pub bounds-table-code : goal.bounds-table-code
 bounds-table-code c = omega (arith, c.requires.sizes, (admitted _ _ (sym c.fault-number.ensures ∙ c.if-number-ne0.false)).code)

@@ -1,4 +1,4 @@
-use Prim.Native.Nat.{◌+◌, ◌-◌, ◌≤◌, ◌<◌}
+use Prim.Native.Nat.{◌+◌, ◌-◌, ◌<◌}
 use lib.ListN.{get_or}
 use Rattle.rules.specs.Functions.{arena}
 use Rattle.batcher.specs.Going.{Going}
@@ -7,8 +7,4 @@ use Rattle.batcher.proofs.join_ops.Given as goal
 
 abbrev pub invariant-loop-n : goal.invariant-loop-n
 invariant-loop-n l =
-    (l.n ≤ l.end) × (0 < l.n → get_or l.codes (l.i + l.n - 1) 0 < 128) × Going l.width (arena l.initial.out_codes l.initial.out_values l.initial.records) l.table l.codes l.values (l.i + l.n) (taken_work l.table l.codes l.work l.i l.n l.next l.number l.unit) (arena l.out_codes l.out_values l.records)
-
-abbrev pub decreases-loop-n : goal.decreases-loop-n
-decreases-loop-n l =
-    l.end - l.n
+    (0 < l.n → get_or l.codes (l.i + l.n - 1) 0 < 128) × Going l.width (arena l.initial.out_codes l.initial.out_values l.initial.records) l.table l.codes l.values (l.i + l.n) (taken_work l.table l.codes l.work l.i l.n l.next l.number l.unit) (arena l.out_codes l.out_values l.records)

@@ -10,9 +10,9 @@ returns-then-can_accept_op c =
     let a = c.args in
     let p : fits_in a.width a.imm a.work.acc ≡ true = sym c.can_accept_op.ensures ∙ c.if-can_accept_op.true in record { work = rw p; run = rw p }
 
-pub returns : goal.returns
+pub returns-else-can_accept_op : goal.returns-else-can_accept_op
 unfolding room_work room_run
-returns c =
+returns-else-can_accept_op c =
     let a = c.args in
     let p : fits_in a.width a.imm a.work.acc ≡ false = sym c.can_accept_op.ensures ∙ c.if-can_accept_op.false in
     rw p c.end_batch.ensures
