@@ -2,30 +2,14 @@ use mathlib.Core.Path.{sym, ◌∙◌}
 use native.Mathlib.Omega.{arith}
 use Rattle.rules.specs.Functions.{arena}
 use Rattle.rules.proofs.Operations.{admitted}
-use Rattle.accumulator.proofs.Good.{good_wider}
-use Rattle.batcher.proofs.InHand.{going_start, going_good, going_turn, going_here, going_back, going_lengths, going_end, going_fault}
+use Rattle.batcher.proofs.InHand.{going_start, going_good, going_turn, going_here, going_end, going_fault}
 use Rattle.batcher.proofs.batch_ops.Goals as goal
 
 pub loop-i-init : goal.loop-i-init
 loop-i-init c = rw c.new.ensures (omega arith, going_start _ c.requires.sizes.3 _ _ _ _ c.requires.zero)
 
-pub fault-number-requires : goal.fault-number-requires
-fault-number-requires c = c.requires.sizes.0
-
-pub shape_of-out_codes-then-number-ne0 : goal.shape_of-out_codes-then-number-ne0
-shape_of-out_codes-then-number-ne0 c = (going_lengths c.loop-i.invariant.1).0
-
-pub shape_of-out_values-then-number-ne0 : goal.shape_of-out_values-then-number-ne0
-shape_of-out_values-then-number-ne0 c = (going_lengths c.loop-i.invariant.1).1
-
-pub shape_of-records-then-number-ne0 : goal.shape_of-records-then-number-ne0
-shape_of-records-then-number-ne0 c = (going_lengths c.loop-i.invariant.1).2
-
 pub returns-then-number-ne0 : goal.returns-then-number-ne0
 returns-then-number-ne0 c = going_fault c.loop-i.invariant.1 c.loop-i-test.true (omega (arith, c.requires.sizes)) c.fault-number.ensures c.if-number-ne0.true
-
-pub overflow_cast-imm : goal.overflow_cast-imm
-overflow_cast-imm c = omega (arith, (admitted _ _ (sym c.fault-number.ensures ∙ c.if-number-ne0.false)).code)
 
 pub bounds-table-code : goal.bounds-table-code
 bounds-table-code c = omega (arith, c.requires.sizes, (admitted _ _ (sym c.fault-number.ensures ∙ c.if-number-ne0.false)).code)
@@ -34,37 +18,10 @@ pub step-s-requires : goal.step-s-requires
 step-s-requires c =
     let g = c.loop-i.invariant.1 in record { width_in_bounds = (c.requires.sizes.3, c.requires.sizes.4, going_good g); base_bound = (omega (arith, g.base, c.requires.sizes), omega (arith, g.batches, c.requires.sizes), (admitted _ _ (sym c.fault-number.ensures ∙ c.if-number-ne0.false)).code) }
 
-pub overflow_add-i : goal.overflow_add-i
-overflow_add-i c = omega (arith, c.loop-i-test.true, c.requires.sizes)
-
 pub join_ops-t-requires : goal.join_ops-t-requires
 join_ops-t-requires c =
     let p = c.requires.sizes in
     let e = c.step-s.ensures in record { sizes = (p.0, p.1, p.2, omega arith, p.3, p.4); going = going_here (going_turn c.loop-i.invariant.1 p.3 p.4 c.loop-i-test.true (omega arith) p.0 (sym c.fault-number.ensures ∙ c.if-number-ne0.false) e.work (λ j. arena (e.codes j) (e.values j) (e.run j))) }
-
-pub loop-i-smaller : goal.loop-i-smaller
-loop-i-smaller c = omega (arith, c.join_ops-t.ensures.place, c.loop-i-test.true)
-
-pub loop-i-preserved : goal.loop-i-preserved
-loop-i-preserved c =
-    let p = c.requires.sizes in
-    let e = c.step-s.ensures in
-    let j = c.join_ops-t.ensures in
-    (j.place.1, going_back (going_turn c.loop-i.invariant.1 p.3 p.4 c.loop-i-test.true (omega arith) p.0 (sym c.fault-number.ensures ∙ c.if-number-ne0.false) e.work (λ j. arena (e.codes j) (e.values j) (e.run j))) j.going)
-
-pub end_batch-e-requires : goal.end_batch-e-requires
-end_batch-e-requires c =
-    let l = c.loop-i in
-    let g = l.invariant.1 in record { good = good_wider _ c.requires.sizes.4 (going_good g); base_bound = (omega (arith, l.invariant.0, g.base, c.requires.sizes), omega (arith, l.invariant.0, g.batches, c.requires.sizes)) }
-
-pub shape_of-out_codes : goal.shape_of-out_codes
-shape_of-out_codes c = (going_lengths c.loop-i.invariant.1).0
-
-pub shape_of-out_values : goal.shape_of-out_values
-shape_of-out_values c = (going_lengths c.loop-i.invariant.1).1
-
-pub shape_of-records : goal.shape_of-records
-shape_of-records c = omega (arith, going_lengths c.loop-i.invariant.1, c.end_batch-e.auto)
 
 pub returns : goal.returns
 returns c =
