@@ -22,7 +22,12 @@ use Rattle.batcher.specs.declared.Work.{Work}
 use Rattle.accumulator.specs.Good.{record_groups, Good}
 use Rattle.accumulator.specs.View.{acc_of, ops_so_far, drafted, record_with}
 use Rattle.batcher.specs.Going.{InHand, Going}
-use Rattle.batcher.specs.declared.Batches.TheVariants.{Done, Fault}
+use Rattle.std.specs.Prelude.{Result, Ok}
+use Rattle.refusal.specs.declared.Refusal.{Refusal}
+use Rattle.refusal.specs.Told.{told}
+use Rattle.operation.specs.Verdict.{one_fault}
+use Rattle.operation.proofs.Faults.{faulted}
+use Rattle.batcher.specs.declared.Totals.{Totals}
 use Rattle.batcher.specs.Batched.{listed, batches_in, Batched}
 use Rattle.accumulator.specs.Model.{new_acc, fits_in, ready_acc, added_acc, added_run, ended_total, ended_run}
 use Rattle.batcher.specs.Model.{ended_work, ended_work_run, room_work, room_run, stepped_work, stepped_run, last_place}
@@ -334,7 +339,7 @@ unfolding end_batch
 end_empty t d = refl
 
 pub going_end : {w : ℕ} {e : Arena} {t xs ys : List ℕ} {i : ℕ} {s s' : Work} {a a' : Arena} → Going w e t xs ys i s a → 2 ≤ w → w ≤ record_groups → length xs ≤ i → s' ≡ ended_work s → a' ≡ arena a.codes a.values (ended_work_run s a.records)
-    → Batched (listed w t xs ys) (Done s'.batches s'.base) e a'
+    → Batched (listed w t xs ys) (Ok (record { batches = s'.batches; operations = s'.base })) e a'
 unfolding batches_of
 going_end {w} {e} {t} {xs} {ys} {i} {s} {s'} {a} {a'} g two wide h e1 e2 =
     let b = block_of (batches_of w t (operations xs ys)) in
@@ -343,12 +348,13 @@ going_end {w} {e} {t} {xs} {ys} {i} {s} {s'} {a} {a'} g two wide h e1 e2 =
     let m = subst (λ (p : rule.Work × Work × Arena). (p.1.batches ≡ length (block_of (end_batch t p.0).batches).records) × (p.1.base ≡ length (block_of (end_batch t p.0).batches).ops) × (p.2 ≡ filled e (block_of (end_batch t p.0).batches)))
     (λ j. (q j, sym e1 j, sym e2 j))
     (done w e t (end_batch t g.work) (ended_work s) (arena a.codes a.values (ended_work_run s a.records)) (end_empty t g.work) (held_end w e t g.work s a g.held wide two)) in
-    record { reply = (λ j. Done (m.0 j) (m.1 j)) ∙ ap batches_in (sym r); runs = λ x k. m.2 ∙ ap (filled e) (value b x (sym r ∙ k)) }
+    record { reply = (λ j. good (record { batches = m.0 j; operations = m.1 j })) ∙ ap batches_in (sym r); runs = λ x k. m.2 ∙ ap (filled e) (value b x (sym r ∙ k)) }
 
 -- ---- or an operation at fault
 
-pub going_fault : {w : ℕ} {e : Arena} {t xs ys : List ℕ} {i n : ℕ} {s : Work} {a : Arena} → Going w e t xs ys i s a → i < length xs → i < length ys → n ≡ op_fault t (op (get_or xs i 0) (get_or ys i 0)) → (n ≡ 0 → ⊥)
-    → Batched (listed w t xs ys) (Fault n i) e a
-going_fault {w} {e} {t} {xs} {ys} {i} {n} {s} {a} g hx hy q f =
-    let r : listed w t xs ys ≡ refused n i = sym g.fine ∙ fine_stop w t xs ys i hx hy n q f in
-    record { reply = ap batches_in (sym r); runs = λ x k. absurd (clash n i x (sym r ∙ k)) }
+pub going_fault : {w : ℕ} {e : Arena} {t xs ys : List ℕ} {i : ℕ} {s : Work} {a : Arena} → Going w e t xs ys i s a → i < length xs → i < length ys → (n p : ℕ) → refused n p ≡ one_fault (op_fault t (op (get_or xs i 0) (get_or ys i 0))) i
+    → (r : Result Totals Refusal) → told r ≡ refused n p → Batched (listed w t xs ys) r e a
+going_fault {w} {e} {t} {xs} {ys} {i} {s} {a} g hx hy n p f r k =
+    let d = faulted (op_fault t (op (get_or xs i 0) (get_or ys i 0))) i n p f in
+    let l : listed w t xs ys ≡ refused n p = sym g.fine ∙ fine_stop w t xs ys i hx hy _ refl d.some ∙ (λ j. refused (d.number j) (d.place j)) in
+    record { reply = k ∙ ap batches_in (sym l); runs = λ x z. absurd (clash n p x (sym l ∙ z)) }

@@ -11,6 +11,7 @@ ghost use Rattle.batcher.specs.Batched.{listed, Batched};
 ghost use Rattle.batcher.specs.Model.{ended_work, ended_work_run, room_work, room_run, stepped_work, stepped_run, last_place, kept_run, last_imm, taken_work, Joins};
 
 use accumulator::OpBatchAccumulator;
+use refusal::Refusal;
 
 // The batch in hand, and how many padded operations and batches stand before it.
 #[derive(Clone, Copy)]
@@ -91,8 +92,15 @@ struct Taken {
 
 // How many slots an operation takes that joins the current group as it is, 0 or 1; none where it does not, or is left to `step`. At most `left` may
 // join, and the last of them has no immediate.
-fn slots(width: usize, table: &[u8], code: u8, v: u64, next: usize, left: usize) -> Option<usize>
-    requires { (length table.now ≡ 128) × (next ≤ record_groups) }
+fn slots(
+    width: usize,
+    table: &[u8; 128],
+    code: u8,
+    v: u64,
+    next: usize,
+    left: usize,
+) -> Option<usize>
+    requires { next ≤ record_groups }
     ensures { IfSome result (λ k. (k < 2) × Joins width table.now code v next left k) }
 {
     if 128 <= code {
@@ -140,8 +148,8 @@ fn most(inside: usize, i: usize, len: usize) -> usize
 }
 
 // Whether the last of n operations has an immediate: looked up once they have joined, so that the loop has one thing less in hand.
-fn last_imm(table: &[u8], codes: &[u8], before: bool, i: usize, n: usize) -> bool
-    requires { (length table.now ≡ 128) × (i + n ≤ length codes.now) × (0 < n → get_or codes.now (i + n - 1) 0 < 128) }
+fn last_imm(table: &[u8; 128], codes: &[u8], before: bool, i: usize, n: usize) -> bool
+    requires { (i + n ≤ length codes.now) × (0 < n → get_or codes.now (i + n - 1) 0 < 128) }
     ensures { result ≡ last_imm table.now codes.now before i n }
 {
     if n == 0 {
@@ -154,7 +162,7 @@ fn last_imm(table: &[u8], codes: &[u8], before: bool, i: usize, n: usize) -> boo
 // The work put together again, with n operations that have joined from the i-th on.
 fn gather(
     work: Work,
-    table: &[u8],
+    table: &[u8; 128],
     codes: &[u8],
     i: usize,
     n: usize,
@@ -162,7 +170,7 @@ fn gather(
     number: u64,
     unit: u64,
 ) -> Taken
-    requires table_len { (length table.now ≡ 128) × (i + n ≤ length codes.now) × (0 < n → get_or codes.now (i + n - 1) 0 < 128) }
+    requires inside { (i + n ≤ length codes.now) × (0 < n → get_or codes.now (i + n - 1) 0 < 128) }
     requires good { Good record_groups (taken_work table.now codes.now work i n next number unit).acc }
     ensures { (result.work ≡ taken_work table.now codes.now work i n next number unit) × (result.upto ≡ i + n) }
 {
@@ -187,14 +195,14 @@ fn join_ops(
     width: usize,
     work: Work,
     i: usize,
-    table: &[u8],
+    table: &[u8; 128],
     codes: &[u8],
     values: &[u64],
     out_codes: &mut [u8],
     out_values: &mut [u64],
     records: &mut [u8],
 ) -> Taken
-    requires sizes { (length table.now ≡ 128) × (length codes.now ≤ 16384) × (length values.now ≡ length codes.now) × (i ≤ length codes.now) × (2 ≤ width) × (width ≤ record_groups) }
+    requires sizes { (length codes.now ≤ 16384) × (length values.now ≡ length codes.now) × (i ≤ length codes.now) × (2 ≤ width) × (width ≤ record_groups) }
     requires going { Going width (arena out_codes.old out_values.old records.old) table.now codes.now values.now i work (arena out_codes.old out_values.old records.old) }
     ensures place { (i ≤ result.upto) × (result.upto ≤ length codes.now) }
     ensures going { Going width (arena out_codes.old out_values.old records.old) table.now codes.now values.now result.upto result.work (arena out_codes.new out_values.new records.new) }
@@ -225,24 +233,25 @@ fn join_ops(
     gather(work, table, codes, i, end, next, number, unit)
 }
 
-// How much a list comes to; or the number of refusal and the place of its first operation that is not admissible.
-#[derive(Clone, Copy)]
-pub enum Batches {
-    Done { batches: usize, operations: usize },
-    Fault { number: u8, place: usize },
+// How much a list comes to.
+#[derive(Clone, Copy, Debug, PartialEq, Eq)]
+pub struct Totals {
+    pub batches: usize,
+    pub operations: usize,
 }
 
-// The batches of a list, written to runs that are all zero. What the runs have no room for falls away; what is replied does not.
+// The batches of a list, written to runs that are all zero; or the refusal of its first operation that is not admissible. What the runs have no room for
+// falls away; what is replied does not.
 pub fn batch_ops(
     width: usize,
-    table: &[u8],
+    table: &[u8; 128],
     codes: &[u8],
     values: &[u64],
     out_codes: &mut [u8],
     out_values: &mut [u64],
     records: &mut [u8],
-) -> Batches
-    requires sizes { (length table.now ≡ 128) × (length codes.now ≤ 16384) × (length values.now ≡ length codes.now) × (2 ≤ width) × (width ≤ record_groups) }
+) -> Result<Totals, Refusal>
+    requires sizes { (length codes.now ≤ 16384) × (length values.now ≡ length codes.now) × (2 ≤ width) × (width ≤ record_groups) }
     requires zero { arena out_codes.old out_values.old records.old ≡ filled (arena out_codes.old out_values.old records.old) no_block }
     ensures { Batched (listed width table.now codes.now values.now) result (arena out_codes.old out_values.old records.old) (arena out_codes.new out_values.new records.new) }
 {
@@ -256,10 +265,7 @@ pub fn batch_ops(
     while i < codes.len() {
         let code = codes[i];
         let v = values[i];
-        let number = operation::fault(table, code, v);
-        if number != 0 {
-            return Batches::Fault { number, place: i };
-        }
+        operation::fault(table, code, v, i)?;
         let imm = table[code as usize] == 1;
         let s = step(width, work, code, imm, v, out_codes, out_values, records);
         let t = join_ops(
@@ -277,8 +283,8 @@ pub fn batch_ops(
         i = t.upto;
     }
     let e = end_batch(work, records);
-    Batches::Done {
+    Ok(Totals {
         batches: e.batches,
         operations: e.base,
-    }
+    })
 }

@@ -25,5 +25,5 @@ loop-n-preserved c =
     let e : a.i + (l.n + 1) - 1 ≡ a.i + l.n = omega arith in (
       λ h. rw e (joins_small j),
       rw c.wide.ensures.0
-          (going_more a.work a.i l.n l.next l.number l.unit l.invariant.1 c.requires.sizes.4 c.requires.sizes.5 c.requires.sizes.0 j c.in-Some.ensures.0 (omega (arith, c.most-end.ensures, c.loop-n-test.true)) (omega (arith, c.most-end.ensures, c.loop-n-test.true)) (omega (arith, c.requires.sizes, c.most-end.ensures, c.loop-n-test.true)) c.keep.ensures),
+          (going_more a.work a.i l.n l.next l.number l.unit l.invariant.1 c.requires.sizes.3 c.requires.sizes.4 (omega arith) j c.in-Some.ensures.0 (omega (arith, c.most-end.ensures, c.loop-n-test.true)) (omega (arith, c.most-end.ensures, c.loop-n-test.true)) (omega (arith, c.requires.sizes, c.most-end.ensures, c.loop-n-test.true)) c.keep.ensures),
     )
