@@ -12,8 +12,8 @@ use listing::{After, Block};
 use std::fs;
 use std::fs::{File, OpenOptions};
 use std::io::{Read, Result, Write};
-use text::Number;
-use vm::Named;
+use text::NotNumber;
+use vm::Kind;
 
 // ---- a line of the list
 
@@ -63,12 +63,12 @@ enum Parsed {
 // The opcode that a word names.
 fn opcode(word: &[u8]) -> Parsed {
     if !text::starts_number(word) {
-        let Named::Code(code) = vm::code_of(word) else {
+        let Some(code) = vm::code_of(word) else {
             return Parsed::Wrong(NO_NAME);
         };
         return Parsed::Op(code, 0);
     }
-    let Number::Is(n) = text::either(word) else {
+    let Ok(n) = text::either(word) else {
         return Parsed::Wrong(NO_OPCODE);
     };
     if 127 < n {
@@ -78,31 +78,31 @@ fn opcode(word: &[u8]) -> Parsed {
 }
 
 fn without_value(code: u8) -> Parsed {
-    match vm::kind(code) {
-        0 => Parsed::Op(code, 0),
-        3 => Parsed::Wrong(UNASSIGNED),
-        _ => Parsed::Wrong(NO_VALUE),
+    match Kind::of(code) {
+        Kind::Plain => Parsed::Op(code, 0),
+        Kind::Unassigned => Parsed::Wrong(UNASSIGNED),
+        Kind::Placed | Kind::Carried => Parsed::Wrong(NO_VALUE),
     }
 }
 
 fn value(code: u8, word: &[u8]) -> Parsed {
     match text::either(word) {
-        Number::Is(v) => {
+        Ok(v) => {
             if 18446744069414584320 < v {
                 return Parsed::Wrong(LARGE);
             }
             Parsed::Op(code, v)
         }
-        Number::Not => Parsed::Wrong(NO_NUMBER),
-        Number::Large => Parsed::Wrong(LARGE),
+        Err(NotNumber::Digits) => Parsed::Wrong(NO_NUMBER),
+        Err(NotNumber::Large) => Parsed::Wrong(LARGE),
     }
 }
 
 fn with_value(code: u8, word: &[u8]) -> Parsed {
-    match vm::kind(code) {
-        0 => Parsed::Wrong(UNNEEDED),
-        3 => Parsed::Wrong(UNASSIGNED),
-        _ => value(code, word),
+    match Kind::of(code) {
+        Kind::Plain => Parsed::Wrong(UNNEEDED),
+        Kind::Unassigned => Parsed::Wrong(UNASSIGNED),
+        Kind::Placed | Kind::Carried => value(code, word),
     }
 }
 

@@ -4,7 +4,7 @@
 ghost use Rattle.std.specs.Prelude.{◌≤◌, length};
 
 use console::{print as say, print_number};
-use text::Number;
+use text::Radix;
 
 // ---- the numbers of a line, which ends in its line feed
 
@@ -32,14 +32,14 @@ pub fn number(s: &[u8], from: usize) -> Read {
     if s.len() <= from {
         return lost();
     }
-    let end = text::hex_end(s, from);
+    let end = text::digits_end(s, from, Radix::Hex);
     if s.len() <= end {
         return lost();
     }
     if !parts(s[end]) {
         return lost();
     }
-    let Number::Is(value) = text::hex(&s[from..end]) else {
+    let Ok(value) = text::number(&s[from..end], Radix::Hex) else {
         return lost();
     };
     Read { value, at: end + 1 }

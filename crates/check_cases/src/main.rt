@@ -12,7 +12,7 @@ ghost use Rattle.std.specs.Prelude.{◌≤◌, ◌<◌, length};
 use op_batch::{Lookup, NextGroup};
 use operation::Verdict;
 use prefix::{PaddedFound, PaddedIndex, RawFound, RawIndex, Tabled};
-use text::Number;
+use text::Radix;
 
 // ---- numbers in a text
 
@@ -41,10 +41,8 @@ fn number(s: &[u8], from: usize) -> Read
     ensures { result.at ≤ length s.now }
 {
     let start = skip(s, from);
-    let at = text::decimal_end(s, start);
-    let Number::Is(value) = text::decimal(&s[start..at]) else {
-        return Read { value: 0, at };
-    };
+    let at = text::digits_end(s, start, Radix::Decimal);
+    let value = text::number(&s[start..at], Radix::Decimal).unwrap_or(0);
     Read { value, at }
 }
 

@@ -11,7 +11,7 @@ use listing::{minus, plus};
 use std::env::Env;
 use std::fs::File;
 use std::io::Error;
-use text::Number;
+use text::NotNumber;
 
 // ---- an entry of the report
 
@@ -858,19 +858,31 @@ fn not_offset(rt: HostRuntime, side: usize, path: &[u8]) {
     not_had(rt, side, path, 0, b"its OFFSET is not a number of bytes\n");
 }
 
-fn compare_named(rt: HostRuntime, first: &[u8], from: Number, second: &[u8], at: Number) {
-    let Number::Is(x) = from else {
+fn compare_named(
+    rt: HostRuntime,
+    first: &[u8],
+    from: Result<u64, NotNumber>,
+    second: &[u8],
+    at: Result<u64, NotNumber>,
+) {
+    let Ok(x) = from else {
         not_offset(rt, 1, first);
         return;
     };
-    let Number::Is(y) = at else {
+    let Ok(y) = at else {
         not_offset(rt, 2, second);
         return;
     };
     compare_files(rt, first, x as usize, second, y as usize);
 }
 
-fn compare_to(rt: HostRuntime, first: &[u8], from: Number, i: usize, at: Number) {
+fn compare_to(
+    rt: HostRuntime,
+    first: &[u8],
+    from: Result<u64, NotNumber>,
+    i: usize,
+    at: Result<u64, NotNumber>,
+) {
     let mut path = [0u8; 4096];
     let Ok(n) = rt.arg(i, &mut path) else {
         console::print(rt, b"refused: the name of the second file is too long\n");
@@ -880,7 +892,13 @@ fn compare_to(rt: HostRuntime, first: &[u8], from: Number, i: usize, at: Number)
 }
 
 // The files that arguments i and k name.
-fn compare_arguments(rt: HostRuntime, i: usize, from: Number, k: usize, at: Number) {
+fn compare_arguments(
+    rt: HostRuntime,
+    i: usize,
+    from: Result<u64, NotNumber>,
+    k: usize,
+    at: Result<u64, NotNumber>,
+) {
     let mut path = [0u8; 4096];
     let Ok(n) = rt.arg(i, &mut path) else {
         console::print(rt, b"refused: the name of the first file is too long\n");
@@ -890,7 +908,7 @@ fn compare_arguments(rt: HostRuntime, i: usize, from: Number, k: usize, at: Numb
 }
 
 // The offset that the i-th argument is.
-fn offset(rt: HostRuntime, i: usize) -> Number {
+fn offset(rt: HostRuntime, i: usize) -> Result<u64, NotNumber> {
     let mut argument = [0u8; 4096];
     let n = console::argument(rt, i, &mut argument);
     text::either(&argument[..n])
@@ -933,7 +951,7 @@ fn run(rt: HostRuntime, count: usize) {
         }
     }
     if count == 2 {
-        compare_arguments(rt, 1, Number::Is(0), 2, Number::Is(0));
+        compare_arguments(rt, 1, Ok(0), 2, Ok(0));
         return;
     }
     if count == 0 || count % 4 != 0 {

@@ -2,10 +2,10 @@
 #![tactic(auto)]
 
 ghost use Rattle.std.specs.Prelude.{◌+◌, ◌<◌, ◌≤◌};
-ghost use Rattle.io.specs.Counts.{IsPrefixLen};
 
 use console::{byte, counted, number, say};
 use op_batch::OpBatch;
+use vm::Kind;
 use wire::CountRead;
 
 const MOST_BATCHES: usize = 16384;
@@ -30,39 +30,22 @@ pub fn minus(a: usize, b: usize) -> usize {
 
 // ---- operations
 
-// An operation's name, at the start of out; and how many bytes it has.
-fn name(code: u8, out: &mut [u8]) -> usize
-    ensures { IsPrefixLen result out.new }
-{
-    let mut n: usize = 0;
-    while n < out.len() {
-        let b = vm::name_byte(code, n);
-        if b == b' ' {
-            break;
-        }
-        out[n] = b;
-        n += 1;
-    }
-    n
-}
-
 // An operation's name, or its number where it has none.
 fn print_name(rt: HostRuntime, page: &mut [u8], code: u8) {
-    let mut text = [0u8; 16];
-    let n = name(code, &mut text);
-    if n == 0 {
-        say(rt, page, b"op ");
-        number(rt, page, word::wide(code));
-        return;
+    match vm::name(code) {
+        Some(name) => say(rt, page, name.as_bytes()),
+        None => {
+            say(rt, page, b"op ");
+            number(rt, page, word::wide(code));
+        }
     }
-    say(rt, page, &text[..n]);
 }
 
 // An operation, with its value where its kind has one.
 fn print_op(rt: HostRuntime, page: &mut [u8], code: u8, v: u64) {
     say(rt, page, b" ");
     print_name(rt, page, code);
-    if vm::kind(code) == 0 {
+    if Kind::of(code) == Kind::Plain {
         return;
     }
     say(rt, page, b"(");
@@ -90,10 +73,10 @@ fn print_ops(rt: HostRuntime, page: &mut [u8], codes: &[u8], values: &[u64], at:
 
 // How many bytes of a block an operation takes.
 fn op_size(code: u8) -> usize {
-    if vm::kind(code) == 0 {
-        return 1;
+    match Kind::of(code) {
+        Kind::Plain => 1,
+        Kind::Placed | Kind::Carried | Kind::Unassigned => 9,
     }
-    9
 }
 
 fn size_at(codes: &[u8], at: usize) -> usize {

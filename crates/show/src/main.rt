@@ -9,7 +9,7 @@ use listing::{After, Block, plus};
 use std::env::Env;
 use std::fs::File;
 use std::io::{Result, Seek, SeekFrom};
-use text::Number;
+use text::NotNumber;
 
 // ---- a block
 
@@ -151,9 +151,9 @@ fn show_file(rt: HostRuntime, path: &[u8], at: usize) {
 // ---- arguments
 
 // The offset that the second argument names; 0 where there is none.
-fn offset(rt: HostRuntime) -> Number {
+fn offset(rt: HostRuntime) -> std::result::Result<u64, NotNumber> {
     if console::arguments(rt) < 3 {
-        return Number::Is(0);
+        return Ok(0);
     }
     let mut argument = [0u8; 4096];
     let n = console::argument(rt, 2, &mut argument);
@@ -174,11 +174,8 @@ fn run(rt: HostRuntime, path: &[u8]) {
     }
     let at = offset(rt);
     match at {
-        Number::Is(from) => show_file(rt, path, from as usize),
-        Number::Not | Number::Large => console::tell(
-            rt,
-            b"show: OFFSET is not a number of bytes\n",
-        ),
+        Ok(from) => show_file(rt, path, from as usize),
+        Err(_) => console::tell(rt, b"show: OFFSET is not a number of bytes\n"),
     }
 }
 

@@ -5,177 +5,99 @@ ghost use Rattle.std.specs.Prelude.{◌≤◌, ◌<◌, length};
 
 // ---- numbers
 
-#[derive(Clone, Copy)]
-pub enum Number {
-    Is(u64),
-    Not,
-    // Digits only, but over 64 bits.
+#[derive(Clone, Copy, Debug, PartialEq, Eq)]
+pub enum Radix {
+    Decimal = 10,
+    Hex = 16,
+}
+
+impl Radix {
+    // The value of a digit, small or capital.
+    fn digit(self, b: u8) -> Option<u32> {
+        char::from(b).to_digit(self as u32)
+    }
+}
+
+// Why a text is no number: it has something else than digits, or no digit; or it is over 64 bits.
+#[derive(Clone, Copy, Debug, PartialEq, Eq)]
+pub enum NotNumber {
+    Digits,
     Large,
 }
 
-// The value of a hex digit, small or capital; 16 where the byte is none.
-fn digit(b: u8) -> u64
-    ensures { result ≤ 16 }
-{
-    match b {
-        48..=57 => word::wide(b - 48),
-        65..=70 => word::wide(b - 55),
-        97..=102 => word::wide(b - 87),
-        _ => 16,
-    }
-}
-
-fn base(hex: bool) -> u64
-    ensures { result ≤ 16 }
-{
-    if hex {
-        return 16;
-    }
-    10
-}
-
-// A number with a digit more, where that is within 64 bits.
-fn with_digit(hex: bool, v: u64, d: u64) -> Number
-    requires { d < 16 }
-{
-    if hex {
-        if 1152921504606846975 < v {
-            return Number::Large;
-        }
-        return Number::Is(v * 16 + d);
-    }
-    if 1844674407370955161 < v {
-        return Number::Large;
-    }
-    if 18446744073709551615 - v * 10 < d {
-        return Number::Large;
-    }
-    Number::Is(v * 10 + d)
-}
-
-fn whole(text: &[u8], hex: bool) -> Number {
-    if text.len() == 0 {
-        return Number::Not;
-    }
-    let b = base(hex);
-    let mut v: u64 = 0;
-    let mut i: usize = 0;
-    while i < text.len() {
-        let d = digit(text[i]);
-        if b <= d {
-            return Number::Not;
-        }
-        let Number::Is(more) = with_digit(hex, v, d) else {
-            return Number::Large;
-        };
-        v = more;
-        i += 1;
-    }
-    Number::Is(v)
-}
-
 // The number that the whole text is.
-pub fn decimal(text: &[u8]) -> Number {
-    whole(text, false)
-}
-
-pub fn hex(text: &[u8]) -> Number {
-    whole(text, true)
+pub fn number(text: &[u8], radix: Radix) -> Result<u64, NotNumber> {
+    if text.is_empty() {
+        return Err(NotNumber::Digits);
+    }
+    let mut value: u64 = 0;
+    for b in text {
+        let digit = radix.digit(*b).ok_or(NotNumber::Digits)?;
+        value = value
+            .checked_mul(radix as u64)
+            .and_then(|value| value.checked_add(u64::from(digit)))
+            .ok_or(NotNumber::Large)?;
+    }
+    Ok(value)
 }
 
 // In hex after 0x, else decimal.
-pub fn either(text: &[u8]) -> Number {
-    if text.len() < 2 {
-        return decimal(text);
+pub fn either(text: &[u8]) -> Result<u64, NotNumber> {
+    match text {
+        [b'0', b'x' | b'X', digits @ ..] => number(digits, Radix::Hex),
+        _ => number(text, Radix::Decimal),
     }
-    if text[0] != b'0' {
-        return decimal(text);
-    }
-    if text[1] != b'x' && text[1] != b'X' {
-        return decimal(text);
-    }
-    hex(&text[2..])
 }
 
 pub fn starts_number(text: &[u8]) -> bool {
-    if text.len() == 0 {
-        return false;
-    }
-    digit(text[0]) < 10
+    text.first().is_some_and(|b| b.is_ascii_digit())
 }
 
-fn end(s: &[u8], from: usize, hex: bool) -> usize
-    requires { from ≤ length s.now }
+// ---- places in a text
+
+// The place of the first byte that stops, from a place on; the end where none does.
+fn place<S: Fn(u8) -> bool>(s: &[u8], from: usize, stops: S) -> usize
+    requires within { from ≤ length s.now }
+    requires callable { S.IsAlwaysCallable stops }
     ensures { (from ≤ result) × (result ≤ length s.now) }
 {
-    let b = base(hex);
-    let mut at = from;
-    while at < s.len() {
-        if b <= digit(s[at]) {
-            return at;
-        }
-        at += 1;
-    }
-    at
+    s[from..]
+        .iter()
+        .position(|b| stops(*b))
+        .map_or(s.len(), |i| from + i)
 }
 
 // Where the digits from a place on end.
-pub fn decimal_end(s: &[u8], from: usize) -> usize
+pub fn digits_end(s: &[u8], from: usize, radix: Radix) -> usize
     requires { from ≤ length s.now }
     ensures { (from ≤ result) × (result ≤ length s.now) }
 {
-    end(s, from, false)
+    place(s, from, |b| radix.digit(b).is_none())
 }
-
-pub fn hex_end(s: &[u8], from: usize) -> usize
-    requires { from ≤ length s.now }
-    ensures { (from ≤ result) × (result ≤ length s.now) }
-{
-    end(s, from, true)
-}
-
-// ---- lines and words
 
 // The place after the line feed of the line at a place, or the end.
 pub fn line_end(s: &[u8], from: usize) -> usize
     requires { from < length s.now }
     ensures { (from < result) × (result ≤ length s.now) }
 {
-    let mut at = from;
-    while at < s.len() {
-        if s[at] == b'\n' {
-            return at + 1;
-        }
-        at += 1;
-    }
-    at
+    let feed = place(s, from, |b| b == b'\n');
+    s.len().min(feed + 1)
 }
 
 // What parts words.
 fn blank(b: u8) -> bool {
-    match b {
-        b' ' | b'\t' | b'\r' | b'\n' => true,
-        _ => false,
-    }
+    matches!(b, b' ' | b'\t' | b'\r' | b'\n')
 }
 
 // Where the words of a line end: in front of its comment, and of the blanks there.
 pub fn words_end(line: &[u8]) -> usize
     ensures { result ≤ length line.now }
 {
-    let mut end: usize = 0;
-    let mut at: usize = 0;
-    while at < line.len() {
-        let b = line[at];
-        at += 1;
-        if b == b'#' {
-            return end;
-        }
-        if !blank(b) {
-            end = at;
-        }
-    }
-    end
+    let comment = place(line, 0, |b| b == b'#');
+    line[..comment]
+        .iter()
+        .rposition(|b| !blank(*b))
+        .map_or(0, |last| last + 1)
 }
 
 // Where the next word of a line starts; its end where there is none.
@@ -183,35 +105,13 @@ pub fn word_start(line: &[u8], from: usize) -> usize
     requires { from ≤ length line.now }
     ensures { (from ≤ result) × (result ≤ length line.now) }
 {
-    let mut at = from;
-    while at < line.len() {
-        if !blank(line[at]) {
-            return at;
-        }
-        at += 1;
-    }
-    at
+    place(line, from, |b| !blank(b))
 }
 
-// A parenthesis ends a word too, so that `push(5)` has two.
-fn parts(b: u8) -> bool {
-    if b == b'(' || b == b')' {
-        return true;
-    }
-    blank(b)
-}
-
-// Where the word at a place ends.
+// Where the word at a place ends. A parenthesis ends one too, so that `push(5)` has two.
 pub fn word_end(line: &[u8], from: usize) -> usize
     requires { from ≤ length line.now }
     ensures { (from ≤ result) × (result ≤ length line.now) }
 {
-    let mut at = from;
-    while at < line.len() {
-        if parts(line[at]) {
-            return at;
-        }
-        at += 1;
-    }
-    at
+    place(line, from, |b| matches!(b, b'(' | b')') || blank(b))
 }

@@ -18,106 +18,128 @@ pub fn table() -> [u8; 128]
     KINDS
 }
 
-// The kind of an opcode; unassigned past the table.
-pub fn kind(code: u8) -> u8 {
-    if 128 <= code {
-        return 3;
-    }
-    let kinds = table();
-    kinds[code as usize]
+// What an operation has beside its opcode: nothing, a value that is placed in a group, or one that is carried and never placed.
+#[derive(Clone, Copy, Debug, PartialEq, Eq)]
+pub enum Kind {
+    Plain,
+    Placed,
+    Carried,
+    Unassigned,
 }
 
-fn letter(name: &[u8], i: usize) -> u8 {
-    if i < name.len() {
-        return name[i];
-    }
-    b' '
-}
-
-// The k-th letter of the names of sixteen opcodes, sixteen letters each.
-fn row(r: usize, k: usize) -> u8 {
-    match r {
-        0 => letter(
-            b"noop            eqz             neg             inv             incr            not                             mload           swap            caller          movup2          movdn2          movup3          movdn3          advpopw         expacc",
-            k,
-        ),
-        1 => letter(
-            b"movup4          movdn4          movup5          movdn5          movup6          movdn6          movup7          movdn7          swapw           ext2mul         movup8          movdn8          swapw2          swapw3          swapdw          emit",
-            k,
-        ),
-        2 => letter(
-            b"assert          eq              add             mul             and             or              u32and          u32xor          frie2f4         drop            cswap           cswapw          mloadw          mstore          mstorew",
-            k,
-        ),
-        3 => letter(
-            b"pad             dup0            dup1            dup2            dup3            dup4            dup5            dup6            dup7            dup9            dup11           dup13           dup15           advpop          sdepth          clk",
-            k,
-        ),
-        4 => letter(
-            b"u32add                          u32sub                          u32mul                          u32div                          u32split                        u32assert2                      u32add3                         u32madd",
-            k,
-        ),
-        5 => letter(
-            b"hperm           mpverify        pipe            mstream                                                                                         horner_eval_basehorner_eval_ext push                            eval_circuit    log_deferred",
-            k,
-        ),
-        6 => letter(
-            b"mrupdate                                                        crypto_stream",
-            k,
-        ),
-        _ => b' ',
-    }
-}
-
-// The i-th byte of an operation's name; a space past its end, and where the opcode is unassigned.
-pub fn name_byte(code: u8, i: usize) -> u8 {
-    if 16 <= i {
-        return b' ';
-    }
-    let c = word::wide(code) as usize;
-    row(c / 16, c % 16 * 16 + i)
-}
-
-// The opcode of a name.
-#[derive(Clone, Copy)]
-pub enum Named {
-    Code(u8),
-    Nothing,
-}
-
-// A capital letter counts as its small one.
-fn small(b: u8) -> u8 {
-    match b {
-        65..=90 => b + 32,
-        _ => b,
-    }
-}
-
-fn is_named(code: u8, name: &[u8]) -> bool {
-    let mut i: usize = 0;
-    while i < name.len() {
-        if name_byte(code, i) != small(name[i]) {
-            return false;
+impl From<u8> for Kind {
+    fn from(number: u8) -> Kind {
+        match number {
+            0 => Kind::Plain,
+            1 => Kind::Placed,
+            2 => Kind::Carried,
+            _ => Kind::Unassigned,
         }
-        i += 1;
     }
-    name_byte(code, i) == b' '
 }
 
-// An empty name is none, nor is a space.
-pub fn code_of(name: &[u8]) -> Named {
-    if name.len() == 0 {
-        return Named::Nothing;
+impl Kind {
+    // The kind of an opcode; unassigned past the table.
+    pub fn of(code: u8) -> Kind {
+        KINDS
+            .get(usize::from(code))
+            .map_or(Kind::Unassigned, |number| Kind::from(*number))
     }
-    if name[0] == b' ' {
-        return Named::Nothing;
-    }
-    let mut code: u8 = 0;
-    while code < 128 {
-        if is_named(code, name) {
-            return Named::Code(code);
-        }
-        code += 1;
-    }
-    Named::Nothing
+}
+
+// The name of an operation; none where the opcode is unassigned.
+pub fn name(code: u8) -> Option<&'static str> {
+    Some(match code {
+        0 => "noop",
+        1 => "eqz",
+        2 => "neg",
+        3 => "inv",
+        4 => "incr",
+        5 => "not",
+        7 => "mload",
+        8 => "swap",
+        9 => "caller",
+        10 => "movup2",
+        11 => "movdn2",
+        12 => "movup3",
+        13 => "movdn3",
+        14 => "advpopw",
+        15 => "expacc",
+        16 => "movup4",
+        17 => "movdn4",
+        18 => "movup5",
+        19 => "movdn5",
+        20 => "movup6",
+        21 => "movdn6",
+        22 => "movup7",
+        23 => "movdn7",
+        24 => "swapw",
+        25 => "ext2mul",
+        26 => "movup8",
+        27 => "movdn8",
+        28 => "swapw2",
+        29 => "swapw3",
+        30 => "swapdw",
+        31 => "emit",
+        32 => "assert",
+        33 => "eq",
+        34 => "add",
+        35 => "mul",
+        36 => "and",
+        37 => "or",
+        38 => "u32and",
+        39 => "u32xor",
+        40 => "frie2f4",
+        41 => "drop",
+        42 => "cswap",
+        43 => "cswapw",
+        44 => "mloadw",
+        45 => "mstore",
+        46 => "mstorew",
+        48 => "pad",
+        49 => "dup0",
+        50 => "dup1",
+        51 => "dup2",
+        52 => "dup3",
+        53 => "dup4",
+        54 => "dup5",
+        55 => "dup6",
+        56 => "dup7",
+        57 => "dup9",
+        58 => "dup11",
+        59 => "dup13",
+        60 => "dup15",
+        61 => "advpop",
+        62 => "sdepth",
+        63 => "clk",
+        64 => "u32add",
+        66 => "u32sub",
+        68 => "u32mul",
+        70 => "u32div",
+        72 => "u32split",
+        74 => "u32assert2",
+        76 => "u32add3",
+        78 => "u32madd",
+        80 => "hperm",
+        81 => "mpverify",
+        82 => "pipe",
+        83 => "mstream",
+        89 => "horner_eval_base",
+        90 => "horner_eval_ext",
+        91 => "push",
+        93 => "eval_circuit",
+        94 => "log_deferred",
+        96 => "mrupdate",
+        100 => "crypto_stream",
+        _ => return None,
+    })
+}
+
+fn is_named(code: u8, word: &[u8]) -> bool {
+    name(code).is_some_and(|name| name.as_bytes().eq_ignore_ascii_case(word))
+}
+
+// The opcode of a name. A capital letter counts as its small one.
+pub fn code_of(word: &[u8]) -> Option<u8> {
+    (0..128).find(|code| is_named(*code, word))
 }
