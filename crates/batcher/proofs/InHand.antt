@@ -28,7 +28,7 @@ use Rattle.refusal.specs.Told.{told}
 use Rattle.operation.specs.Verdict.{one_fault}
 use Rattle.operation.proofs.Faults.{faulted}
 use Rattle.batcher.specs.declared.Totals.{Totals}
-use Rattle.batcher.specs.Batched.{listed, batches_in, Batched}
+use Rattle.batcher.specs.Batched.{listed, built_of, Batched}
 use Rattle.accumulator.specs.Model.{new_acc, fits_in, ready_acc, added_acc, added_run, ended_total, ended_run}
 use Rattle.batcher.specs.Model.{ended_work, ended_work_run, room_work, room_run, stepped_work, stepped_run, last_place}
 use Rattle.accumulator.proofs.Good as good
@@ -348,7 +348,7 @@ going_end {w} {e} {t} {xs} {ys} {i} {s} {s'} {a} {a'} g two wide h e1 e2 =
     let m = subst (λ (p : rule.Work × Work × Arena). (p.1.batches ≡ length (block_of (end_batch t p.0).batches).records) × (p.1.base ≡ length (block_of (end_batch t p.0).batches).ops) × (p.2 ≡ filled e (block_of (end_batch t p.0).batches)))
     (λ j. (q j, sym e1 j, sym e2 j))
     (done w e t (end_batch t g.work) (ended_work s) (arena a.codes a.values (ended_work_run s a.records)) (end_empty t g.work) (held_end w e t g.work s a g.held wide two)) in
-    record { reply = (λ j. good (record { batches = m.0 j; operations = m.1 j })) ∙ ap batches_in (sym r); runs = λ x k. m.2 ∙ ap (filled e) (value b x (sym r ∙ k)) }
+    record { reply = (λ j. good (record { batches = m.0 j; operations = m.1 j })) ∙ ap built_of (sym r); runs = λ x k. m.2 ∙ ap (filled e) (value b x (sym r ∙ k)) }
 
 -- ---- or an operation at fault
 
@@ -357,4 +357,4 @@ pub going_fault : {w : ℕ} {e : Arena} {t xs ys : List ℕ} {i : ℕ} {s : Work
 going_fault {w} {e} {t} {xs} {ys} {i} {s} {a} g hx hy n p f r k =
     let d = faulted (op_fault t (op (get_or xs i 0) (get_or ys i 0))) i n p f in
     let l : listed w t xs ys ≡ refused n p = sym g.fine ∙ fine_stop w t xs ys i hx hy _ refl d.some ∙ (λ j. refused (d.number j) (d.place j)) in
-    record { reply = k ∙ ap batches_in (sym l); runs = λ x z. absurd (clash n p x (sym l ∙ z)) }
+    record { reply = k ∙ ap built_of (sym l); runs = λ x z. absurd (clash n p x (sym l ∙ z)) }

@@ -13,11 +13,11 @@ use Rattle.batcher.specs.declared.Totals.{Totals}
 abbrev pub listed : ℕ → List ℕ → List ℕ → List ℕ → Answer Block
 listed w t cs vs = refuse_first 0 (map (op_fault t) (operations cs vs)) (good (block_of (batches_of w t (operations cs vs))))
 
-abbrev pub batches_in : Answer Block → Answer Totals
-batches_in (good b) = good (record { batches = length b.records; operations = length b.ops })
-batches_in (refused n p) = refused n p
+abbrev pub built_of : Answer Block → Answer Totals
+built_of (good b) = good (record { batches = length b.records; operations = length b.ops })
+built_of (refused n p) = refused n p
 
 -- nothing is said of what a refused list leaves in the runs
 pub record Batched (answer : Answer Block) (r : Result Totals Refusal) (before after : Arena) : Type 0 where
-  pub reply : told r ≡ batches_in answer
+  pub reply : told r ≡ built_of answer
   pub runs : (b : Block) → answer ≡ good b → after ≡ filled before b

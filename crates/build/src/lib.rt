@@ -1,60 +1,42 @@
 // The public entry of the batcher (document 01, "Numbers of refusal", build): refusals 3, 14, 12, 4 or 17 (M-101), and 13.
 #![tactic(auto)]
 
-ghost use Rattle.std.specs.Prelude.{◌≡◌, ◌&&◌, ◌/◌, leb};
+ghost use Rattle.std.specs.Prelude.{◌≡◌, ◌&&◌, ◌/◌, ◌≤◌, map, length, leb};
+ghost use Rattle.rules.specs.Answer.{refuse_first};
+ghost use Rattle.rules.specs.Operations.{operations, op_fault};
 ghost use Rattle.rules.specs.Record.{record_size, no_block};
-ghost use Rattle.rules.specs.Functions.{arena, filled, built};
+ghost use Rattle.rules.specs.Functions.{arena, room_in, filled, built};
+ghost use Rattle.batcher.specs.Batched.{Batched};
 ghost use Rattle.build.specs.Outcome.{Outcome};
-ghost use Rattle.build.specs.Checked.{Checked};
+ghost use Rattle.build.specs.Checked.{Checked, placed, block_for};
 
-#[derive(Clone, Copy)]
-pub enum Built {
-    Made { batches: usize, operations: usize },
-    Refused { number: u8, place: usize },
-}
+pub use batcher::Totals;
+use refusal::Refusal;
 
-// The checks of the input that come before its operations, in order.
-fn check_input(table: &[u8], codes: &[u8], values: &[u64]) -> operation::Verdict
+// The longest list.
+const MOST: usize = 16384;
+
+// The checks of the input that come before its operations, in order; the table.
+fn check_input<'a>(table: &'a [u8], codes: &[u8], values: &[u64]) -> Result<&'a [u8; 128], Refusal>
     ensures { Checked table.now codes.now values.now result }
 {
-    if codes.len() != values.len() {
-        return operation::Verdict::Refused {
-            number: 3,
-            place: 0,
-        };
+    if codes.len() != values.len() || MOST < codes.len() {
+        return Err(Refusal::OverLimit);
     }
-    if 16384 < codes.len() {
-        return operation::Verdict::Refused {
-            number: 3,
-            place: 0,
-        };
+    let table = operation::checked(table)?;
+    if codes.is_empty() {
+        return Err(Refusal::EmptyList);
     }
-    if !operation::good_table(table) {
-        return operation::Verdict::Refused {
-            number: 14,
-            place: 0,
-        };
-    }
-    if codes.len() == 0 {
-        return operation::Verdict::Refused {
-            number: 12,
-            place: 0,
-        };
-    }
-    operation::Verdict::Passed
+    Ok(table)
 }
 
 // Whether runs of these lengths hold so much.
-fn room_for(batches: usize, operations: usize, codes: usize, values: usize, records: usize) -> bool
-    ensures { result ≡ (leb operations codes && (leb operations values && leb batches (records / record_size))) }
+fn room_for(totals: Totals, codes: usize, values: usize, records: usize) -> bool
+    ensures { result ≡ (leb totals.operations codes && (leb totals.operations values && leb totals.batches (records / record_size))) }
 {
-    if codes < operations {
-        return false;
-    }
-    if values < operations {
-        return false;
-    }
-    batches <= records / op_batch::RECORD
+    totals.operations <= codes
+        && totals.operations <= values
+        && totals.batches <= records / op_batch::RECORD
 }
 
 // All of the three runs 0.
@@ -66,6 +48,35 @@ fn clear(codes: &mut [u8], values: &mut [u64], records: &mut [u8])
     word::zero_bytes(records, 0);
 }
 
+// The batches of a list that has passed, written to runs that are all zero. What a refusal leaves there is not said.
+fn batch(
+    table: &[u8; 128],
+    codes: &[u8],
+    values: &[u64],
+    out_codes: &mut [u8],
+    out_values: &mut [u64],
+    records: &mut [u8],
+) -> Result<Totals, Refusal>
+    requires sizes { (length codes.now ≤ 16384) × (length values.now ≡ length codes.now) }
+    requires zero { arena out_codes.old out_values.old records.old ≡ filled (arena out_codes.old out_values.old records.old) no_block }
+    ensures { Batched (refuse_first 0 (map (op_fault table.now) (operations codes.now values.now)) (placed (block_for 8 table.now codes.now values.now) (room_in (arena out_codes.old out_values.old records.old)))) result (arena out_codes.old out_values.old records.old) (arena out_codes.new out_values.new records.new) }
+{
+    let totals = batcher::batch_ops(
+        op_batch::WIDTH,
+        table,
+        codes,
+        values,
+        out_codes,
+        out_values,
+        records,
+    )?;
+    if room_for(totals, out_codes.len(), out_values.len(), records.len()) {
+        Ok(totals)
+    } else {
+        Err(Refusal::NoRoom)
+    }
+}
+
 // The list in batches, written to the lent runs, with zeros after it; or a refusal, and all of them 0.
 pub fn build(
     table: &[u8],
@@ -74,49 +85,14 @@ pub fn build(
     out_codes: &mut [u8],
     out_values: &mut [u64],
     records: &mut [u8],
-) -> Built
+) -> Result<Totals, Refusal>
     ensures { Outcome (built 8 table.now codes.now values.now) result (arena out_codes.old out_values.old records.old) (arena out_codes.new out_values.new records.new) }
 {
     clear(out_codes, out_values, records);
-    let verdict = check_input(table, codes, values);
-    if let operation::Verdict::Refused { number, place } = verdict {
-        return Built::Refused { number, place };
+    let table = check_input(table, codes, values)?;
+    let made = batch(table, codes, values, out_codes, out_values, records);
+    if made.is_err() {
+        clear(out_codes, out_values, records);
     }
-    let answer = batcher::batch_ops(
-        op_batch::WIDTH,
-        table,
-        codes,
-        values,
-        out_codes,
-        out_values,
-        records,
-    );
-    match answer {
-        batcher::Batches::Fault { number, place } => {
-            clear(out_codes, out_values, records);
-            return Built::Refused { number, place };
-        }
-        batcher::Batches::Done {
-            batches,
-            operations,
-        } => {
-            if room_for(
-                batches,
-                operations,
-                out_codes.len(),
-                out_values.len(),
-                records.len(),
-            ) {
-                return Built::Made {
-                    batches,
-                    operations,
-                };
-            }
-            clear(out_codes, out_values, records);
-            return Built::Refused {
-                number: 13,
-                place: 0,
-            };
-        }
-    }
+    made
 }

@@ -1,33 +1,45 @@
-use mathlib.Core.Path.{sym, ◌∙◌}
+use mathlib.Core.Path.{sym, ap, ◌∙◌, subst}
 use borrow.Author.Tests.{le-ltb, lt-ltb, eq-eqb, ne_eqb}
+use Rattle.std.specs.Prelude.{Err}
+use Rattle.std.proofs.lemmas.Result.{err_from_is_err_and}
 use Rattle.rules.specs.Functions.{built}
-use Rattle.rules.proofs.Operations.{table_128}
+use Rattle.refusal.specs.declared.Refusal.{Refusal}
+use Rattle.build.specs.Checked.{Checked}
+use Rattle.build.proofs.check_input.Goals.{then-codes-values-via-then-codes-values, then-codes-values-via-else-codes-values+then-codes-gt-MOST}
 use Rattle.build.proofs.check_input.Goals as goal
 
 pub returns-then-codes-values : goal.returns-then-codes-values
 unfolding built
-returns-then-codes-values c = record { fit = tt; decides = λ w room. simp (ne_eqb _ _ c.if-codes-values.true) }
+returns-then-codes-values c =
+    record {
+      fit = tt;
+      decides =
+          λ w room. elim c.then-codes-values.branch [
+            | then-codes-values-via-then-codes-values k ↦ simp (ne_eqb _ _ k.if-codes-values.true)
+            | then-codes-values-via-else-codes-values+then-codes-gt-MOST k ↦ simp (eq-eqb _ _ k.if-codes-values.false, lt-ltb _ _ k.if-codes-gt-MOST.true)
+          ];
+    }
 
-pub returns-then-codes-gt16384 : goal.returns-then-codes-gt16384
+pub returns-in_err-table : goal.returns-in_err-table
 unfolding built
-returns-then-codes-gt16384 c = record { fit = tt; decides = λ w room. simp (eq-eqb _ _ c.if-codes-values.false, lt-ltb _ _ c.if-codes-gt16384.true) }
+returns-in_err-table c =
+    let a = c.args in
+    let e = c.in_err-table.ensures.err in
+    let r = err_from_is_err_and _ c.from_residual.ensures.1 in
+    subst (Checked a.table.now a.codes.now a.values.now) (sym (r.1 ∙ ap (λ (x : Refusal). Err x) (r.2 ∙ e.0)))
+    (record { fit = tt; decides = λ w room. simp (eq-eqb _ _ c.if-codes-values.false, le-ltb _ _ c.if-codes-gt-MOST.false, e.1) })
 
-pub returns-then-not-good_table : goal.returns-then-not-good_table
+pub returns-then-is_empty : goal.returns-then-is_empty
 unfolding built
-returns-then-not-good_table c =
-    record { fit = tt; decides = λ w room. simp (eq-eqb _ _ c.if-codes-values.false, le-ltb _ _ c.if-codes-gt16384.false, sym c.good_table.ensures ∙ c.if-not-good_table.true) }
-
-pub returns-then-codes-eq0 : goal.returns-then-codes-eq0
-unfolding built
-returns-then-codes-eq0 c =
-    record { fit = tt; decides = λ w room. simp (eq-eqb _ _ c.if-codes-values.false, le-ltb _ _ c.if-codes-gt16384.false, sym c.good_table.ensures ∙ c.if-not-good_table.false, eq-eqb _ _ c.if-codes-eq0.true) }
+returns-then-is_empty c =
+    record { fit = tt; decides = λ w room. simp (eq-eqb _ _ c.if-codes-values.false, le-ltb _ _ c.if-codes-gt-MOST.false, c.in_ok-table.ensures.ok.1, sym c.is_empty.ensures ∙ c.if-is_empty.true) }
 
 pub returns : goal.returns
 unfolding built
 returns c =
-    let t = sym c.good_table.ensures ∙ c.if-not-good_table.false in
+    let k = c.in_ok-table.ensures.ok in
     let e = c.if-codes-values.false in
     record {
-      fit = (table_128 _ t, c.if-codes-gt16384.false, sym e);
-      decides = λ w room. simp (eq-eqb _ _ e, le-ltb _ _ c.if-codes-gt16384.false, t, ne_eqb _ _ c.if-codes-eq0.false);
+      fit = (k.0, c.if-codes-gt-MOST.false, sym e);
+      decides = λ w room. simp (eq-eqb _ _ e, le-ltb _ _ c.if-codes-gt-MOST.false, k.1, sym c.is_empty.ensures ∙ c.if-is_empty.false);
     }
