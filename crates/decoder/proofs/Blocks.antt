@@ -3,6 +3,8 @@ use mathlib.Core.Path.{◌≡◌, refl, ◌∙◌}
 use mathlib.Core.Bool.{true, false}
 use mathlib.Core.List.{List}
 use Prim.Native.Nat.{ℕ, ◌+◌, ◌≤◌, ◌<◌}
+use native.Mathlib.Nat.{lt_of_not-le}
+use native.Mathlib.Decide.{dec_le}
 use borrow.Author.Tests.{lt-ltb, le-ltb, lt-leb, le-leb}
 use lib.ListN.{length}
 use Rattle.rules.specs.Answer.{good, refused, Read, found, ◌then◌}
@@ -64,13 +66,9 @@ module _ (w : ℕ) (t s : List ℕ) (at : ℕ) (room : Room) where
   block_uncounted n p e = rw e
 
   module _ (n a₁ : ℕ) (e : count_at s at ≡ found n a₁) where
-    pub block_codes : room.codes < n → block_at w t s at room ≡ refused no_room₁₃ 0
+    pub block_13 : (n ≤ room.codes → n ≤ room.values → ⊥) → block_at w t s at room ≡ refused no_room₁₃ 0
     unfolding block_at head_at
-    block_codes h = rw (e, lt-leb n room.codes h)
-
-    pub block_values : n ≤ room.codes → room.values < n → block_at w t s at room ≡ refused no_room₁₃ 0
-    unfolding block_at head_at
-    block_values g h = rw (e, le-leb n room.codes g, lt-leb n room.values h)
+    block_13 h = elim (dec_le n room.codes) [ no g ↦ rw (e, lt-leb n room.codes (lt_of_not-le g)) | yes g ↦ rw (e, le-leb n room.codes g, lt-leb n room.values (lt_of_not-le (h g))) ]
 
     module _ (g : n ≤ room.codes) (h : n ≤ room.values) where
       pub block_items : (m p : ℕ) → items_at t s n a₁ room.records ≡ refused m p → block_at w t s at room ≡ refused m p

@@ -1,17 +1,18 @@
 -- What is kept of lent runs: the block and then zeros, or zeros alone. Assumes nothing.
 use mathlib.Core.Path.{◌≡◌, refl, sym, ap, ◌∙◌}
-use Prim.Native.Nat.{ℕ, ◌*◌, ◌≤◌}
-use native.Mathlib.Omega.{arith}
-use lib.ListN.{length, length-take}
+use Prim.Native.Nat.{ℕ, ◌*◌}
+use lib.ListN.{length}
 use Rattle.rules.specs.Answer.{good, refused, Read, item_of}
 use Rattle.rules.specs.Operations.{codes, values}
 use Rattle.rules.specs.Record.{Block, no_block, record_size, records_bytes}
 use Rattle.rules.specs.Functions.{Arena, filled, leaves}
+use Rattle.rules.proofs.Answer.{clash, value}
 use Rattle.rules.proofs.Runs.{zeroed}
-use Rattle.decoder.specs.Replies.{decoded_of}
+use Rattle.std.specs.Prelude.{Result, Ok, Err}
+use Rattle.std.specs.Result.{ResultUnwrapsOrElse}
+use Rattle.refusal.specs.declared.Refusal.{Refusal}
 use Rattle.decoder.specs.Stages.{OpsIn, RecordsIn, Reading, tailless}
 use Rattle.decoder.specs.declared.Decoded.{Decoded}
-use Rattle.decoder.specs.declared.Decoded.TheVariants as whole
 use Rattle.rules.proofs.Sizes.{length_codes, length_values}
 use Rattle.rules.specs.Lists.{in_row}
 
@@ -22,13 +23,10 @@ pub record Even (a b : Arena) : Type 0 where
   pub records : length a.records ≡ length b.records
 
 module _ (at : ℕ) (before after : Arena) (e : Even after before) where
-  no_block_lem : (d : Read Block) (n p : ℕ) → decoded_of at d ≡ whole.Refused n p → tailless 0 0 after ≡ filled before (leaves no_block (item_of d))
+  refused_kept : (d : Read Block) (e : Refusal) → Reading at d after (Err e) → tailless 0 0 after ≡ filled before (leaves no_block (item_of d))
   unfolding filled no_block codes values in_row
-  no_block_lem (good i) n p h = cc
-  no_block_lem (refused m q) n p h = rw (e.codes, e.values, e.records)
-
-  pub refused_kept : {d : Read Block} {r : Decoded} {n p : ℕ} → Reading at d after r → r ≡ whole.Refused n p → tailless 0 0 after ≡ filled before (leaves no_block (item_of d))
-  refused_kept {d} {r} {n} {p} w h = no_block_lem d n p (sym w.reply ∙ h)
+  refused_kept (good i) r w = absurd (clash _ _ _ w.reply)
+  refused_kept (refused m q) r w = rw (e.codes, e.values, e.records)
 
   -- a block of n operations and k records
   kept : (b : Block) (k n : ℕ) → length b.records ≡ k → length b.ops ≡ n → OpsIn after.codes after.values b.ops → RecordsIn after.records b.records
@@ -50,14 +48,14 @@ module _ (at : ℕ) (before after : Arena) (e : Even after before) where
     begins : OpsIn after.codes after.values block.ops
     records : RecordsIn after.records block.records
 
-  made : {r : Decoded} {k n u : ℕ} (d : Read Block) → Reading at d after r → r ≡ whole.Made k n u → Made d k n
-  made (good i) w h = record { block = i.item; is = refl; batches = cc w.reply; ops = cc w.reply; begins = w.left.0; records = w.left.1 }
-  made (refused m q) w h = let z : ◌≡◌ {A = ℕ} 0 1 = cc w.reply in absurd (omega arith)
+  made : (d : Read Block) (m : Decoded) → Reading at d after (Ok m) → Made d m.batches m.operations
+  made (good i) m w =
+      let v = value _ _ w.reply in
+      record { block = i.item; is = refl; batches = sym (ap (λ (x : Decoded). x.batches) v); ops = sym (ap (λ (x : Decoded). x.operations) v); begins = w.left.0; records = w.left.1 }
+  made (refused n q) m w = absurd (clash _ _ _ (sym w.reply))
 
-  pub made_kept : {d : Read Block} {r : Decoded} {k n u : ℕ} → Reading at d after r → r ≡ whole.Made k n u → tailless n (record_size * k) after ≡ filled before (leaves no_block (item_of d))
-  made_kept {d} {r} {k} {n} w h = let m = made d w h in rw m.is (kept m.block k n m.batches m.ops m.begins m.records)
-
-  pub made_fits : {d : Read Block} {r : Decoded} {k n u : ℕ} → Reading at d after r → r ≡ whole.Made k n u → record_size * k ≤ length before.records
-  made_fits {d} w h =
-      let m = made d w h in
-      omega (arith, e.records, m.batches, m.records.1, ap length m.records.0, length-take (length (records_bytes m.block.records)) after.records)
+  -- of a block that was made, or of no operations and no batches where none was: it is kept
+  module _ (IsNone : Decoded → Type 0) (none : (m : Decoded) → IsNone m → (m.operations ≡ 0) × (m.batches ≡ 0)) where
+    pub reading_kept : (d : Read Block) (r : Result Decoded Refusal) (m : Decoded) → Reading at d after r → ResultUnwrapsOrElse r IsNone m → tailless m.operations (record_size * m.batches) after ≡ filled before (leaves no_block (item_of d))
+    reading_kept d (Ok x) m w u = let f = made d x w in rw (u, f.is) (kept f.block x.batches x.operations f.batches f.ops f.begins f.records)
+    reading_kept d (Err x) m w u = let z = none m u in rw (z.0, z.1) (refused_kept d x w)

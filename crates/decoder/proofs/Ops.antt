@@ -18,8 +18,8 @@ use Rattle.rules.specs.Operations.{Op, operations, codes, values, kind_of, assig
 use Rattle.rules.specs.Bytes.{least, count_by, count_at, op_at, value_at, ops_at, batch_count_at}
 use Rattle.rules.specs.Block.{Head}
 use Rattle.rules.proofs.Operations.{op, true_left, codes_back, op_guards, value_guards}
-use Rattle.wire.specs.declared.CountRead.{CountRead}
-use Rattle.wire.specs.declared.CountRead.TheVariants as count
+use Rattle.std.specs.Prelude.{Ok}
+use Rattle.wire.specs.declared.Item.{Item}
 use Rattle.wire.specs.Stages.{IfFound, Staged}
 use Rattle.unpacker.specs.Groups.{Coded}
 use Rattle.decoder.specs.Stages.{OpsIn, items_at}
@@ -171,9 +171,9 @@ module _ (t s : List ℕ) (n at room : ℕ) (cs vs : List ℕ) (k next : ℕ) wh
         records = rw (← b) f.records;
       }
 
-  pub items_in : {r : CountRead} → Staged (λ (h : Head). h.batches) (λ (h : Head) (next : ℕ). OpsIn cs vs h.ops) (items_at t s n at room) r → r ≡ count.Found k next
-      → ItemsIn t s n at room cs vs k next
-  items_in w e =
-      let d = items_at t s n at room in
-      let g = found_by w e in
-      lies g.item g.is g.number (held _ d g.item next g.is (items_found t s n at room)) g.holds
+pub items_in : (t s : List ℕ) (n at room : ℕ) (cs vs : List ℕ) {i : Item ℕ} → Staged (λ (h : Head). h.batches) (λ (h : Head) (next : ℕ). OpsIn cs vs h.ops) (items_at t s n at room) (Ok i)
+    → ItemsIn t s n at room cs vs i.item i.next
+items_in t s n at room cs vs {i} w =
+    let d = items_at t s n at room in
+    let g = found_by w refl in
+    lies t s n at room cs vs i.item i.next g.item g.is g.number (held _ d g.item i.next g.is (items_found t s n at room)) g.holds

@@ -1,22 +1,24 @@
 -- The sizes and the flags of all batches. Assumes nothing.
 use mathlib.Core.Path.{◌≡◌, refl, sym}
 use mathlib.Core.Bool.{true, false, not}
-use mathlib.Core.List.{List}
-use Prim.Native.Nat.{ℕ, zero, suc, ◌+◌, ◌-◌, ◌*◌, ◌≤◌, ◌<◌}
+use mathlib.Core.List.{List, ◌∷◌}
+use Prim.Native.Nat.{ℕ, zero, suc, ◌+◌, ◌-◌, ◌*◌, ◌<◌}
 use native.Mathlib.Nat.{add-zero}
 use native.Mathlib.Omega.{arith}
 use borrow.Author.Tests.{not-false}
-use lib.ListN.{length, get_or, drop}
+use lib.ListN.{get_or, drop}
 use Rattle.rules.specs.Lists.{every}
 use Rattle.rules.specs.Digits.{digits, le_at}
-use Rattle.rules.specs.Answer.{refused, found, row}
+use Rattle.rules.specs.Answer.{Answer, good, refused, Read, found, row, ◌then◌}
 use Rattle.rules.specs.Refusals.{bad_nibble₆}
 use Rattle.rules.specs.Bytes.{up_to, sizes_at, nibbles_at, bits_at, flags_at}
-use Rattle.wire.specs.declared.CountRead.{CountRead}
-use Rattle.wire.specs.Stages.{counted, IfFound, Staged}
+use Rattle.std.specs.Prelude.{Result}
+use Rattle.refusal.specs.declared.Refusal.{Refusal}
+use Rattle.refusal.specs.Told.{told}
+use Rattle.wire.specs.Stages.{after, IfFound, Passed}
 use Rattle.unpacker.specs.Groups.{RightSizes}
 use Rattle.decoder.specs.Stages.{sizes_from, flags_from}
-use Rattle.wire.proofs.Stages.{more_then, if_then, if_refuse, held}
+use Rattle.wire.proofs.Stages.{if_then, if_refuse, held}
 
 -- ---- at width 8 the sizes are right where none is over 9, and no flag byte is refused
 
@@ -43,21 +45,30 @@ flags_found e s k at = rw e (all_flags s k at 0)
 
 -- ---- the walk over the sizes
 
-module _ (s : List ℕ) (k at b : ℕ) where
-  pub turn : b < k → up_to 9 (digits 16 8 (le_at 4 s at)) ≡ true
-      → counted (λ (l : List (List ℕ)). b + 1 + length l) (nibbles_at 8 s (k - (b + 1)) (at + 4) (b + 1)) ≡ counted (λ (l : List (List ℕ)). b + length l) (nibbles_at 8 s (k - b) at b)
-  unfolding row
-  turn h r =
-      let e : k - b ≡ suc (k - (b + 1)) = omega arith in
-      rw (e, sizes_right s at b r) (sym (more_then b (digits 16 8 (le_at 4 s at)) (nibbles_at 8 s (k - (b + 1)) (at + 4) (b + 1))))
+after_then : {A : Type 0} (x : A) (r : Read (List A)) → after (r then λ l end. found (x ∷ l) end) ≡ after r
+after_then x (good i) = refl
+after_then x (refused n p) = refl
 
-  pub stop : (f : List (List ℕ) → ℕ) → b < k → up_to 9 (digits 16 8 (le_at 4 s at)) ≡ false → counted f (nibbles_at 8 s (k - b) at b) ≡ counted f (refused bad_nibble₆ b)
-  unfolding row
-  stop f h r = let e : k - b ≡ suc (k - (b + 1)) = omega arith in rw (e, sizes_wrong s at b r)
+module _ (s : List ℕ) (at k : ℕ) where
+  -- the place after the sizes from the b-th batch's on
+  abbrev pub end_from : ℕ → Answer ℕ
+  end_from b = after (nibbles_at 8 s (k - b) (at + 4 * b) b)
 
-  pub done : k ≤ b → counted (λ (l : List (List ℕ)). b + length l) (nibbles_at 8 s (k - b) at b) ≡ counted (λ (n : ℕ). n) (found b at)
-  unfolding row
-  done h = let e : k - b ≡ 0 = omega arith in rw (e, add-zero)
+  module _ (b : ℕ) where
+    pub turn : b < k → up_to 9 (digits 16 8 (le_at 4 s (at + 4 * b))) ≡ true → end_from (b + 1) ≡ end_from b
+    unfolding row
+    turn h r =
+        let e : k - b ≡ suc (k - (b + 1)) = omega arith in
+        let f : at + 4 * (b + 1) ≡ at + 4 * b + 4 = omega arith in
+        rw (e, sizes_right s (at + 4 * b) b r, f) (sym (after_then (digits 16 8 (le_at 4 s (at + 4 * b))) (nibbles_at 8 s (k - (b + 1)) (at + 4 * b + 4) (b + 1))))
+
+    pub stop : b < k → up_to 9 (digits 16 8 (le_at 4 s (at + 4 * b))) ≡ false → end_from b ≡ refused bad_nibble₆ b
+    unfolding row
+    stop h r = let e : k - b ≡ suc (k - (b + 1)) = omega arith in rw (e, sizes_wrong s (at + 4 * b) b r)
+
+    pub done : k ≡ b → end_from b ≡ good (at + 4 * k)
+    unfolding row
+    done h = let e : k - b ≡ 0 = omega arith in rw (e, h)
 
 -- ---- what is found, of any width
 
@@ -86,5 +97,5 @@ module _ (w : ℕ) (s : List ℕ) where
       at_j zero l h f = rw add-zero h
       at_j (suc j) l h f = let e : at + 4 * suc j ≡ at + 4 + 4 * j = omega arith in rw e (f j (omega arith))
 
-pub sized_by : {w : ℕ} → w ≡ 8 → {s : List ℕ} {k at : ℕ} {r : CountRead} → r ≡ counted length (nibbles_at 8 s k at 0) → Staged length (Sized w s k at) (nibbles_at w s k at 0) r
+pub sized_by : {w : ℕ} → w ≡ 8 → {s : List ℕ} {k at : ℕ} {r : Result ℕ Refusal} → told r ≡ after (nibbles_at 8 s k at 0) → Passed (Sized w s k at) (nibbles_at w s k at 0) r
 sized_by {w} d {s} {k} {at} e = record { reply = rw d e; left = nibbles_found w s k at 0 }

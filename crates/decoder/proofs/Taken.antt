@@ -5,7 +5,11 @@ use mathlib.Core.List.{List}
 use Prim.Native.Nat.{ℕ, ◌*◌, ◌≤◌}
 use native.Mathlib.Omega.{arith}
 use lib.ListN.{length, take}
-use Rattle.rules.specs.Answer.{good, refused, Read, found, item_of}
+use Rattle.std.specs.Prelude.{Result, Ok, Err}
+use Rattle.refusal.specs.declared.Refusal.{Refusal}
+use Rattle.refusal.specs.Told.{number_of, place_of, told}
+use Rattle.rules.proofs.Answer.{clash, value}
+use Rattle.rules.specs.Answer.{Answer, good, refused, Read, found, item_of}
 use Rattle.rules.specs.Record.{Block, no_block, record_size}
 use Rattle.rules.specs.Functions.{Arena, arena, room_in, room_for, filled, decoded, leaves}
 use Rattle.rules.proofs.Runs.{fitted_length}
@@ -13,24 +17,23 @@ use Rattle.claims.specs.Demand3.{lent, front}
 use Rattle.claims.proofs.Arena.{roomed, front_lent}
 use Rattle.claims.proofs.ReadThenChecked.{encodable, had_room}
 use Rattle.decoder.specs.declared.Decoded.{Decoded}
-use Rattle.decoder.specs.declared.Decoded.TheVariants as whole
 use Rattle.decoder.specs.Replies.{decoded_of, Decodes}
 
-module _ (t s : List ℕ) (at : ℕ) (before after : Arena) (r : Decoded) (d : Decodes t s at before after r) where
+module _ (t s : List ℕ) (at : ℕ) (before after : Arena) (r : Result Decoded Refusal) (d : Decodes t s at before after r) where
   abbrev answer : Read Block
   answer = decoded 8 t s at (room_in before)
 
   -- ---- it refused
 
-  pub refused_answer : (n p : ℕ) → r ≡ whole.Refused n p → answer ≡ refused n p
-  refused_answer n p h = go answer refl
+  pub refused_answer : (e : Refusal) → r ≡ Err e → answer ≡ refused (number_of e) (place_of e)
+  refused_answer e h = go answer (ap told (sym h) ∙ d.reply)
     where
-      go : (q : Read Block) → answer ≡ q → answer ≡ refused n p
-      go (good i) e = let q = sym h ∙ (d.reply ∙ ap (decoded_of at) e) in let z : ◌≡◌ {A = ℕ} 0 1 = cc in absurd (omega arith)
-      go (refused m q) e = let q = sym h ∙ (d.reply ∙ ap (decoded_of at) e) in e ∙ cc
+      go : (q : Read Block) → ◌≡◌ {A = Answer Decoded} (refused (number_of e) (place_of e)) (decoded_of at q) → q ≡ refused (number_of e) (place_of e)
+      go (good i) k = absurd (clash _ _ _ k)
+      go (refused m q) k = cc
 
-  pub refused_left : (n p : ℕ) → r ≡ whole.Refused n p → after ≡ filled before no_block
-  refused_left n p h = d.runs ∙ ap (λ (a : Read Block). filled before (leaves no_block (item_of a))) (refused_answer n p h)
+  pub refused_left : (e : Refusal) → r ≡ Err e → after ≡ filled before no_block
+  refused_left e h = d.runs ∙ ap (λ (a : Read Block). filled before (leaves no_block (item_of a))) (refused_answer e h)
 
   -- ---- it took a block of k batches and n operations
 
@@ -41,12 +44,14 @@ module _ (t s : List ℕ) (at : ℕ) (before after : Arena) (r : Decoded) (d : D
     pub batches : length block.records ≡ k
     pub ops : length block.ops ≡ n
 
-  pub took : (k n u : ℕ) → r ≡ whole.Made k n u → Took k n
-  took k n u h = go answer refl
+  pub took : (m : Decoded) → r ≡ Ok m → Took m.batches m.operations
+  took m h = go answer refl (ap told (sym h) ∙ d.reply)
     where
-      go : (q : Read Block) → answer ≡ q → Took k n
-      go (good i) e = let q = sym h ∙ (d.reply ∙ ap (decoded_of at) e) in record { block = i.item; next = i.next; is = e; batches = cc; ops = cc }
-      go (refused m q) e = let q = sym h ∙ (d.reply ∙ ap (decoded_of at) e) in let z : ◌≡◌ {A = ℕ} 0 1 = cc in absurd (omega arith)
+      go : (q : Read Block) → answer ≡ q → ◌≡◌ {A = Answer Decoded} (good m) (decoded_of at q) → Took m.batches m.operations
+      go (good i) e k =
+          let v = value _ _ k in
+          record { block = i.item; next = i.next; is = e; batches = sym (ap (λ (x : Decoded). x.batches) v); ops = sym (ap (λ (x : Decoded). x.operations) v) }
+      go (refused n q) e k = absurd (clash _ _ _ (sym k))
 
   module _ (k n : ℕ) (x : Took k n) where
     abbrev b : Block

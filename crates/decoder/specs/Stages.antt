@@ -1,5 +1,5 @@
 -- What the decoder's stages answer and leave: cited by the contracts of private functions only.
-use Rattle.std.specs.Prelude.{◌≡◌, List, [], ◌∷◌, ℕ, zero, suc, ◌+◌, ◌*◌, length, get_or, take, ltb}
+use Rattle.std.specs.Prelude.{◌≡◌, List, [], ◌∷◌, ℕ, zero, suc, ◌+◌, ◌*◌, length, get_or, take, ltb, Result}
 use Rattle.rules.specs.Lists.{fitted}
 use Rattle.rules.specs.Digits.{digits, le_at}
 use Rattle.rules.specs.Answer.{Read, found, refuse, ◌then◌}
@@ -9,11 +9,10 @@ use Rattle.rules.specs.Record.{Record, Block, record_size, records_bytes}
 use Rattle.rules.specs.Bytes.{ops_at, batch_count_at}
 use Rattle.rules.specs.Block.{Head, layout_at, batches_by}
 use Rattle.rules.specs.Functions.{Arena, arena}
-use Rattle.wire.specs.declared.CountRead.{CountRead}
-use Rattle.wire.specs.declared.CountRead.TheVariants as count
+use Rattle.refusal.specs.declared.Refusal.{Refusal}
+use Rattle.refusal.specs.Told.{told}
 use Rattle.wire.specs.Stages.{IfFound}
 use Rattle.decoder.specs.declared.Decoded.{Decoded}
-use Rattle.decoder.specs.declared.Decoded.TheVariants as whole
 use Rattle.decoder.specs.Replies.{decoded_of}
 
 -- two runs that begin with the operations
@@ -25,14 +24,9 @@ abbrev pub RecordsIn : List ℕ → List Record → Type 0
 RecordsIn s rs = (take (length (records_bytes rs)) s ≡ records_bytes rs) × (length (records_bytes rs) ≡ record_size * length rs)
 
 -- the block's answer, and runs that begin with the block
-pub record Reading (at : ℕ) (d : Read Block) (after : Arena) (r : Decoded) : Type 0 where
-  pub reply : r ≡ decoded_of at d
+pub record Reading (at : ℕ) (d : Read Block) (after : Arena) (r : Result Decoded Refusal) : Type 0 where
+  pub reply : told r ≡ decoded_of at d
   pub left : IfFound (λ (b : Block) (end : ℕ). OpsIn after.codes after.values b.ops × RecordsIn after.records b.records) d
-
--- a refused count
-abbrev pub hand_count : CountRead → Decoded
-hand_count (count.Found v next) = whole.Refused 0 0
-hand_count (count.Refused n p) = whole.Refused n p
 
 -- ---- the stages of a block
 

@@ -8,121 +8,83 @@ ghost use Rattle.rules.specs.Record.{Record, record_size};
 ghost use Rattle.rules.specs.Bytes.{ops_at, nibbles_at};
 ghost use Rattle.rules.specs.Block.{Head, batches_at, block_at};
 ghost use Rattle.rules.specs.Functions.{arena, room_in, decoded};
-ghost use Rattle.wire.specs.Stages.{counted, Staged};
+ghost use Rattle.refusal.specs.Told.{told};
+ghost use Rattle.wire.specs.Stages.{after, Staged, Passed};
 ghost use Rattle.unpacker.specs.Groups.{Coded, RightSizes};
 ghost use Rattle.decoder.specs.Replies.{Decodes};
-ghost use Rattle.decoder.specs.Stages.{Reading, hand_count, tailless};
+ghost use Rattle.decoder.specs.Stages.{Reading, tailless};
 ghost use Rattle.decoder.specs.Stages.{OpsIn, RecordsIn, items_at, records_at, sizes_from, flags_from};
 
-use wire::{CountRead, OpRead};
+use refusal::Refusal;
+use wire::Item;
 
-// A block: how many batches and padded operations, and how many bytes it took; or a refusal's number and place.
-#[derive(Clone, Copy)]
-pub enum Decoded {
-    Made {
-        batches: usize,
-        operations: usize,
-        used: usize,
-    },
-    Refused {
-        number: u8,
-        place: usize,
-    },
-}
-
-// A refused count, handed on.
-fn not_counted(r: CountRead) -> Decoded
-    ensures { result ≡ hand_count r }
-{
-    match r {
-        CountRead::Refused { number, place } => Decoded::Refused { number, place },
-        CountRead::Found { value: _, next: _ } => Decoded::Refused {
-            number: 0,
-            place: 0,
-        },
-    }
+// A block: how many batches and padded operations, and how many bytes it took.
+#[derive(Clone, Copy, Debug, Default, PartialEq, Eq)]
+pub struct Decoded {
+    pub batches: usize,
+    pub operations: usize,
+    pub used: usize,
 }
 
 // ---- items 2 and 3: operations and batch count
 
 // n operations from `at` on, into the first places of two lent runs. What a refusal leaves in them is not said, here and below.
 fn read_ops(
-    table: &[u8],
+    table: &[u8; 128],
     s: &[u8],
     at: usize,
     n: usize,
     out_codes: &mut [u8],
     out_values: &mut [u64],
-) -> CountRead
-    requires { (length table.now ≡ 128) × (n ≤ length out_codes.old) × (n ≤ length out_values.old) }
-    ensures { Staged length (λ (xs : List Op) (next : ℕ). OpsIn out_codes.new out_values.new xs) (ops_at table.now s.now n at 0) result }
+) -> Result<usize, Refusal>
+    requires { (n ≤ length out_codes.old) × (n ≤ length out_values.old) }
+    ensures { Passed (λ (xs : List Op) (next : ℕ). OpsIn out_codes.new out_values.new xs) (ops_at table.now s.now n at 0) result }
 {
-    let mut from = at;
+    let mut next = at;
     for i in 0..n {
-        let r = wire::read_op(table, s, from, i);
-        let OpRead::Found { code, value, next } = r else {
-            return wire::not_read(r);
-        };
-        out_codes[i] = code;
-        out_values[i] = value;
-        from = next;
+        let op = wire::read_op(table, s, next, i)?;
+        out_codes[i] = op.item.code;
+        out_values[i] = op.item.value;
+        next = op.next;
     }
-    CountRead::Found {
-        value: n as u64,
-        next: from,
-    }
+    Ok(next)
 }
 
 // n operations from `at` on, and the batch count after them, where there is room for so many records.
 fn read_items(
-    table: &[u8],
+    table: &[u8; 128],
     s: &[u8],
     at: usize,
     n: usize,
     room: usize,
     out_codes: &mut [u8],
     out_values: &mut [u64],
-) -> CountRead
-    requires { (length table.now ≡ 128) × (n ≤ length out_codes.old) × (n ≤ length out_values.old) }
+) -> Result<Item<u64>, Refusal>
+    requires { (n ≤ length out_codes.old) × (n ≤ length out_values.old) }
     ensures { Staged (λ (h : Head). h.batches) (λ (h : Head) (next : ℕ). OpsIn out_codes.new out_values.new h.ops) (items_at table.now s.now n at room) result }
 {
-    let r = read_ops(table, s, at, n, out_codes, out_values);
-    let CountRead::Found { value: _, next } = r else {
-        return r;
-    };
-    let c = wire::read_batch_count(s, next);
-    let CountRead::Found { value, next: _ } = c else {
-        return c;
-    };
-    if (room as u64) < value {
-        return CountRead::Refused {
-            number: 13,
-            place: 0,
-        };
+    let next = read_ops(table, s, at, n, out_codes, out_values)?;
+    let batches = wire::read_batch_count(s, next)?;
+    if (room as u64) < batches.item {
+        return Err(Refusal::NoRoom);
     }
-    c
+    Ok(batches)
 }
 
 // ---- item 4: all nibbles. At width 8 no nibble is refused for its place, and no flag byte at all: what looks at these bytes, here and in `decode_batches`, is
 // for that width.
 
 // Whether none of the sizes of k batches, four bytes each from `at` on, is over 9.
-fn nibbles_right(s: &[u8], at: usize, k: usize) -> CountRead
+fn nibbles_right(s: &[u8], at: usize, k: usize) -> Result<usize, Refusal>
     requires { at + 4 * k ≤ length s.now }
-    ensures { result ≡ counted length (nibbles_at 8 s.now k at 0) }
+    ensures { told result ≡ after (nibbles_at 8 s.now k at 0) }
 {
     for b in 0..k {
         if !wire::deltas_right(word::le4(s, at + 4 * b)) {
-            return CountRead::Refused {
-                number: 6,
-                place: b,
-            };
+            return Err(Refusal::BadNibble { batch: b });
         }
     }
-    CountRead::Found {
-        value: k as u64,
-        next: at + 4 * k,
-    }
+    Ok(at + 4 * k)
 }
 
 // ---- the batches
@@ -130,7 +92,7 @@ fn nibbles_right(s: &[u8], at: usize, k: usize) -> CountRead
 // The batches in these operations, one after the other: k batches, their sizes from `sizes` on and their flags from `flags` on.
 fn decode_each(
     width: usize,
-    table: &[u8],
+    table: &[u8; 128],
     codes: &[u8],
     values: &[u64],
     s: &[u8],
@@ -138,15 +100,15 @@ fn decode_each(
     flags: usize,
     k: usize,
     records: &mut [u8],
-) -> CountRead
-    requires table_len { (length table.now ≡ 128) × (length codes.now ≡ length values.now) × Coded codes.now }
+) -> Result<usize, Refusal>
+    requires operations { (length codes.now ≡ length values.now) × Coded codes.now }
     requires k_in_bounds { (sizes + 4 * k ≤ length s.now) × (flags + k ≤ length s.now) × (record_size * k ≤ length records.old) }
     requires width_bound { (width ≤ 8) × ((b : ℕ) → b < k → RightSizes width (le_at 4 s.now (sizes + 4 * b))) }
-    ensures { Staged length (λ (rs : List Record) (end : ℕ). RecordsIn records.new rs) (batches_at width table.now (operations codes.now values.now) (sizes_from k s.now sizes) (flags_from k s.now flags)) result }
+    ensures { Passed (λ (rs : List Record) (end : ℕ). (length rs ≡ k) × RecordsIn records.new rs) (batches_at width table.now (operations codes.now values.now) (sizes_from k s.now sizes) (flags_from k s.now flags)) result }
 {
-    let mut from: usize = 0;
+    let mut next = 0;
     for b in 0..k {
-        let r = unpacker::decode_batch(
+        let batch = unpacker::decode_batch(
             width,
             table,
             codes,
@@ -154,119 +116,74 @@ fn decode_each(
             word::le4(s, sizes + 4 * b),
             s[flags + b],
             b,
-            from,
+            next,
             records,
-        );
-        let CountRead::Found { value: _, next } = r else {
-            return r;
-        };
-        from = next;
+        )?;
+        next = batch.next;
     }
-    CountRead::Found {
-        value: k as u64,
-        next: from,
-    }
+    Ok(next)
 }
 
 // Items 4 and 5 from `at` on, all nibbles first, and the batches that they say, which take all operations.
 fn decode_batches(
     width: usize,
-    table: &[u8],
+    table: &[u8; 128],
     codes: &[u8],
     values: &[u64],
     s: &[u8],
     at: usize,
     k: usize,
     records: &mut [u8],
-) -> CountRead
-    requires table_len { (length table.now ≡ 128) × (length codes.now ≡ length values.now) × Coded codes.now }
+) -> Result<usize, Refusal>
+    requires operations { (length codes.now ≡ length values.now) × Coded codes.now }
     requires width_value { (width ≡ 8) × (at + 5 * k ≤ length s.now) × (record_size * k ≤ length records.old) }
-    ensures { Staged length (λ (rs : List Record) (end : ℕ). RecordsIn records.new rs × (at ≤ end)) (records_at width table.now s.now (operations codes.now values.now) k at) result }
+    ensures { Passed (λ (rs : List Record) (end : ℕ). (length rs ≡ k) × RecordsIn records.new rs × (at ≤ end)) (records_at width table.now s.now (operations codes.now values.now) k at) result }
 {
-    let n = nibbles_right(s, at, k);
-    let CountRead::Found { value: _, next } = n else {
-        return n;
-    };
-    let r = decode_each(width, table, codes, values, s, at, next, k, records);
-    let CountRead::Found { value, next: end } = r else {
-        return r;
-    };
+    let flags = nibbles_right(s, at, k)?;
+    let end = decode_each(width, table, codes, values, s, at, flags, k, records)?;
     if end < codes.len() {
-        return CountRead::Refused {
-            number: 11,
-            place: 0,
-        };
+        return Err(Refusal::LeftOver);
     }
-    CountRead::Found {
-        value,
-        next: next + k,
-    }
+    Ok(flags + k)
 }
 
 // ---- the block
 
 fn decode_block(
     width: usize,
-    table: &[u8],
+    table: &[u8; 128],
     s: &[u8],
     at: usize,
     out_codes: &mut [u8],
     out_values: &mut [u64],
     records: &mut [u8],
-) -> Decoded
-    requires { (length table.now ≡ 128) × (width ≡ 8) }
+) -> Result<Decoded, Refusal>
+    requires { width ≡ 8 }
     ensures { Reading at (block_at width table.now s.now at (room_in (arena out_codes.old out_values.old records.old))) (arena out_codes.new out_values.new records.new) result }
 {
-    let c = wire::read_count(s, at);
-    let CountRead::Found { value, next } = c else {
-        return not_counted(c);
-    };
-    let n = value as usize;
-    if out_codes.len() < n {
-        return Decoded::Refused {
-            number: 13,
-            place: 0,
-        };
-    }
-    if out_values.len() < n {
-        return Decoded::Refused {
-            number: 13,
-            place: 0,
-        };
+    let count = wire::read_count(s, at)?;
+    let n = count.item as usize;
+    if out_codes.len() < n || out_values.len() < n {
+        return Err(Refusal::NoRoom);
     }
     let room = records.len() / op_batch::RECORD;
-    let i = read_items(table, s, next, n, room, out_codes, out_values);
-    let CountRead::Found {
-        value: batches,
-        next: sizes,
-    } = i
-    else {
-        return not_counted(i);
-    };
-    let k = batches as usize;
-    let r = decode_batches(
+    let batches = read_items(table, s, count.next, n, room, out_codes, out_values)?;
+    let k = batches.item as usize;
+    let end = decode_batches(
         width,
         table,
         &out_codes[..n],
         &out_values[..n],
         s,
-        sizes,
+        batches.next,
         k,
         records,
-    );
-    let CountRead::Found {
-        value: made,
-        next: end,
-    } = r
-    else {
-        return not_counted(r);
-    };
-    let used = end - at;
-    Decoded::Made {
-        batches: made as usize,
+    )?;
+    Ok(Decoded {
+        batches: k,
         operations: n,
-        used,
-    }
+        used: end - at,
+    })
 }
 
 // What is looked at first: 3, 14 and 1.
@@ -278,27 +195,16 @@ fn decode_checked(
     out_codes: &mut [u8],
     out_values: &mut [u64],
     records: &mut [u8],
-) -> Decoded
+) -> Result<Decoded, Refusal>
     requires { width ≡ 8 }
     ensures { Reading at (decoded width table.now s.now at (room_in (arena out_codes.old out_values.old records.old))) (arena out_codes.new out_values.new records.new) result }
 {
     if 1048576 < s.len() {
-        return Decoded::Refused {
-            number: 3,
-            place: 0,
-        };
+        return Err(Refusal::OverLimit);
     }
-    if !operation::good_table(table) {
-        return Decoded::Refused {
-            number: 14,
-            place: 0,
-        };
-    }
+    let table = operation::checked(table)?;
     if s.len() < at {
-        return Decoded::Refused {
-            number: 1,
-            place: 0,
-        };
+        return Err(Refusal::PastEnd);
     }
     decode_block(width, table, s, at, out_codes, out_values, records)
 }
@@ -326,7 +232,7 @@ pub fn decode(
     out_codes: &mut [u8],
     out_values: &mut [u64],
     records: &mut [u8],
-) -> Decoded
+) -> Result<Decoded, Refusal>
     ensures { Decodes table.now s.now at (arena out_codes.old out_values.old records.old) (arena out_codes.new out_values.new records.new) result }
 {
     let r = decode_checked(
@@ -338,21 +244,13 @@ pub fn decode(
         out_values,
         records,
     );
-    let Decoded::Made {
-        batches,
-        operations,
-        used: _,
-    } = r
-    else {
-        clear_after(out_codes, out_values, records, 0, 0);
-        return r;
-    };
+    let made = r.unwrap_or_default();
     clear_after(
         out_codes,
         out_values,
         records,
-        operations,
-        op_batch::RECORD * batches,
+        made.operations,
+        op_batch::RECORD * made.batches,
     );
     r
 }

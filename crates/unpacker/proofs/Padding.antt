@@ -7,11 +7,13 @@ use native.Mathlib.Omega.{arith}
 use lib.ListN.{length, get_or, take, drop}
 use Rattle.rules.specs.Lists.{total}
 use Rattle.rules.specs.Digits.{digits}
-use Rattle.rules.specs.Answer.{found}
+use Rattle.rules.specs.Answer.{Answer, good, refused, found}
+use Rattle.rules.specs.Refusals.{bad_padding₁₀}
 use Rattle.rules.specs.Operations.{operations}
 use Rattle.rules.specs.Record.{Record, NineAndEight, record_by, record_size, record_at, cut}
 use Rattle.rules.specs.Checks.{record_right, padding_right, padding_fault}
 use Rattle.rules.specs.Functions.{arena}
+use Rattle.rules.proofs.Answer.{clash}
 use Rattle.rules.proofs.Digits.{length_digits}
 use Rattle.rules.proofs.Runs.{fitted_length}
 use Rattle.rules.proofs.Sizes.{length_starts}
@@ -21,6 +23,7 @@ use Rattle.claims.proofs.ReadThenChecked.{Laid, laid, laid_front, Sizes, record_
 use Rattle.claims.proofs.WrittenThenRead.{differences_starts}
 use Rattle.op_batch.specs.Stores.{record_set}
 use Rattle.op_batch.proofs.Stores.{stored_length, parts_after}
+use Rattle.operation.specs.Verdict.{one_fault}
 use Rattle.checks.specs.Batch.{held_at, Lies}
 use Rattle.unpacker.specs.Groups.{RightSizes}
 use Rattle.unpacker.proofs.Batch.{made, take_digits}
@@ -66,16 +69,16 @@ module _ (w : ℕ) (t cs vals : List ℕ) (at b v f : ℕ) (m : w ≤ 8) (z : Ri
   unfolding padding_fault record_by
   fault = rw (alike.starts, alike.flags, alike.count, differences_starts 0 ns)
 
-  pub wrong : (k : ℕ) → k ≡ padding_fault (held_at (arena cs vals out) b at) → (k ≡ 0 → ⊥) → (right ≡ false) × (k ≡ 10)
-  wrong k h n = go right (h ∙ fault)
+  pub wrong : (n p : ℕ) → ◌≡◌ {A = Answer Unit} (refused n p) (one_fault (padding_fault (held_at (arena cs vals out) b at)) b) → (right ≡ false) × (n ≡ bad_padding₁₀) × (p ≡ b)
+  wrong n p h = go right (rw fault at h)
     where
-      go : (x : Bool) → k ≡ cond x 0 10 → (x ≡ false) × (k ≡ 10)
-      go true g = absurd (n g)
-      go false g = (refl, g)
+      go : (x : Bool) → ◌≡◌ {A = Answer Unit} (refused n p) (one_fault (cond x 0 10) b) → (x ≡ false) × (n ≡ bad_padding₁₀) × (p ≡ b)
+      go true g = absurd (clash n p tt g)
+      go false g = (refl, cc, cc)
 
-  pub passes : (k : ℕ) → k ≡ padding_fault (held_at (arena cs vals out) b at) → k ≡ 0 → right ≡ true
-  passes k h n = go right (sym n ∙ h ∙ fault)
+  pub passes : ◌≡◌ {A = Answer Unit} (good tt) (one_fault (padding_fault (held_at (arena cs vals out) b at)) b) → right ≡ true
+  passes h = go right (rw fault at h)
     where
-      go : (x : Bool) → ◌≡◌ {A = ℕ} 0 (cond x 0 10) → x ≡ true
+      go : (x : Bool) → ◌≡◌ {A = Answer Unit} (good tt) (one_fault (cond x 0 10) b) → x ≡ true
       go true g = refl
-      go false g = absurd (omega arith)
+      go false g = absurd (clash 10 b tt (sym g))

@@ -1,13 +1,14 @@
 -- What the walks over one batch find and leave: cited by the contracts of private functions, and `Coded` and `RightSizes` by that of `decode_batch`.
-use Rattle.std.specs.Prelude.{◌≡◌, true, List, [], ◌∷◌, ◌++◌, ℕ, ◌-◌, ◌≤◌, ◌<◌, length, get_or, take, drop}
+use Rattle.std.specs.Prelude.{Result, Ok, Err, ◌≡◌, true, List, [], ◌∷◌, ◌++◌, ℕ, ◌-◌, ◌≤◌, ◌<◌, length, get_or, take, drop}
 use Rattle.rules.specs.Lists.{fitted, total}
 use Rattle.rules.specs.Digits.{digits}
 use Rattle.rules.specs.Answer.{good, refused, Read, found}
 use Rattle.rules.specs.Operations.{Op}
 use Rattle.rules.specs.Bytes.{up_to}
 use Rattle.rules.proofs.Slots.{slots}
-use Rattle.wire.specs.declared.CountRead.{CountRead}
-use Rattle.wire.specs.declared.CountRead.TheVariants as count
+use Rattle.refusal.specs.declared.Refusal.{Refusal}
+use Rattle.refusal.specs.Told.{number_of, place_of}
+use Rattle.wire.specs.declared.Item.{Item}
 
 -- opcodes
 abbrev pub Coded : List ℕ → Type 0
@@ -42,7 +43,7 @@ pub record Placed (w : ℕ) (t : List ℕ) (b : ℕ) (due gs : List ℕ) (g delt
   pub sizes : total (digits 16 (w - g) deltas) ≡ total (digits 16 (w - h) left)
   pub small : up_to 9 (digits 16 (w - g) deltas) ≡ up_to 9 (digits 16 (w - h) left)
 
--- all are placed, or one is refused
-abbrev pub Placing : ℕ → List ℕ → ℕ → List ℕ → List ℕ → ℕ → ℕ → List ℕ → CountRead → Type 0
-Placing w t b due gs g deltas hs (count.Found left h) = Placed w t b due gs g deltas [] hs h left
-Placing w t b due gs g deltas hs (count.Refused n p) = (xs : List Op) (end : ℕ) → onward w t b xs end gs g deltas due ≡ refused n p
+-- all are placed, and the reply has the sizes left and the group that the walk goes on at; or one is refused
+abbrev pub Placing : ℕ → List ℕ → ℕ → List ℕ → List ℕ → ℕ → ℕ → List ℕ → Result (Item ℕ) Refusal → Type 0
+Placing w t b due gs g deltas hs (Ok i) = Placed w t b due gs g deltas [] hs i.next i.item
+Placing w t b due gs g deltas hs (Err r) = (xs : List Op) (end : ℕ) → onward w t b xs end gs g deltas due ≡ refused (number_of r) (place_of r)

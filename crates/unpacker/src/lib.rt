@@ -13,21 +13,22 @@ ghost use Rattle.op_batch.specs.Stores.{record_set};
 ghost use Rattle.wire.specs.Stages.{Staged};
 ghost use Rattle.unpacker.specs.Groups.{Coded, RightSizes, Placing};
 
-use wire::CountRead;
+use refusal::Refusal;
+use wire::Item;
 
 // The immediates of a group's operations, each into the next slot, which must be an empty group under the width; `deltas` has the sizes from the slot on.
 // The answer's value has the sizes from the next slot on.
 fn place_immediates(
     width: usize,
-    table: &[u8],
+    table: &[u8; 128],
     codes: &[u8],
     values: &[u64],
     b: usize,
     deltas: u64,
     slot: usize,
     groups: &mut [u64; 8],
-) -> CountRead
-    requires table_len { (length table.now ≡ 128) × (length codes.now ≡ length values.now) × Coded codes.now }
+) -> Result<Item<u64>, Refusal>
+    requires operations { (length codes.now ≡ length values.now) × Coded codes.now }
     requires width_bound { (width ≤ 8) × (slot ≤ width) × (groups.old ≡ fitted 8 (take slot groups.old)) }
     ensures { Placing width table.now b (immediates table.now (operations codes.now values.now)) groups.old slot deltas groups.new result }
 {
@@ -38,37 +39,31 @@ fn place_immediates(
             continue;
         }
         if width <= next {
-            return CountRead::Refused {
-                number: 8,
-                place: b,
-            };
+            return Err(Refusal::NoSlot { batch: b });
         }
         if left % 16 != 0 {
-            return CountRead::Refused {
-                number: 9,
-                place: b,
-            };
+            return Err(Refusal::SlotTaken { batch: b });
         }
         groups[next] = values[i];
-        left = left / 16;
+        left /= 16;
         next += 1;
     }
-    CountRead::Found { value: left, next }
+    Ok(Item { item: left, next })
 }
 
 // The group numbers of a batch whose operations start at `at`: each non-empty group's number, and its immediates in the slots right after it.
 // The answer's value is the group count.
 fn decode_groups(
     width: usize,
-    table: &[u8],
+    table: &[u8; 128],
     codes: &[u8],
     values: &[u64],
     b: usize,
     at: usize,
     deltas: u64,
     groups: &mut [u64; 8],
-) -> CountRead
-    requires table_len { (length table.now ≡ 128) × (length codes.now ≡ length values.now) × Coded codes.now }
+) -> Result<Item<u64>, Refusal>
+    requires operations { (length codes.now ≡ length values.now) × Coded codes.now }
     requires width_bound { (width ≤ 8) × (groups.old ≡ fitted 8 []) × (at + total (digits 16 width deltas) ≤ length codes.now) × (up_to 9 (digits 16 width deltas) ≡ true) }
     ensures { Staged length (λ (vs : List ℕ) (end : ℕ). (groups.new ≡ fitted 8 vs) × (length vs ≤ width) × (end ≤ length codes.now)) (slots table.now b (digits 16 width deltas) [] (operations codes.now values.now) at) result }
 {
@@ -79,7 +74,7 @@ fn decode_groups(
     // no `for`: a group is followed by the slots of its immediates
     while g < width {
         let n = (left % 16) as usize;
-        left = left / 16;
+        left /= 16;
         if n == 0 {
             g += 1;
             continue;
@@ -87,7 +82,7 @@ fn decode_groups(
         let end = from + n;
         let slot = g + 1;
         groups[g] = op_batch::group_number(&codes[from..end]);
-        let r = place_immediates(
+        let placed = place_immediates(
             width,
             table,
             &codes[from..end],
@@ -96,19 +91,16 @@ fn decode_groups(
             left,
             slot,
             groups,
-        );
-        let CountRead::Found { value, next } = r else {
-            return r;
-        };
-        left = value;
+        )?;
+        left = placed.item;
         from = end;
-        count = next;
-        g = next;
+        count = placed.next;
+        g = placed.next;
     }
-    CountRead::Found {
-        value: count as u64,
+    Ok(Item {
+        item: count as u64,
         next: from,
-    }
+    })
 }
 
 // How many operations a batch has, by its eight sizes.
@@ -127,7 +119,7 @@ fn operations_in(deltas: u64) -> usize
 // The b-th batch, of these sizes and flags, in the operations from `at` on; its record goes to the b-th place of the records.
 pub fn decode_batch(
     width: usize,
-    table: &[u8],
+    table: &[u8; 128],
     codes: &[u8],
     values: &[u64],
     deltas: u64,
@@ -135,27 +127,18 @@ pub fn decode_batch(
     b: usize,
     at: usize,
     records: &mut [u8],
-) -> CountRead
-    requires table_len { (length table.now ≡ 128) × (length codes.now ≡ length values.now) × Coded codes.now }
+) -> Result<Item<u64>, Refusal>
+    requires operations { (length codes.now ≡ length values.now) × Coded codes.now }
     requires at_in_bounds { (at ≤ length codes.now) × (record_size * b + record_size ≤ length records.old) }
     requires width_bound { (width ≤ 8) × RightSizes width deltas }
     ensures { Staged (λ (r : Record). r.count) (λ (r : Record) (end : ℕ). (records.new ≡ record_set b r records.old) × (length (record_bytes r) ≡ record_size) × (end ≤ length codes.now)) (batch_at width table.now (operations codes.now values.now) at b (digits 16 8 deltas) (digits 2 8 flags)) result }
 {
     if codes.len() - at < operations_in(deltas) {
-        return CountRead::Refused {
-            number: 7,
-            place: b,
-        };
+        return Err(Refusal::PastOperations { batch: b });
     }
-    let mut groups: [u64; 8] = [0; 8];
-    let r = decode_groups(width, table, codes, values, b, at, deltas, &mut groups);
-    let CountRead::Found { value, next: _ } = r else {
-        return r;
-    };
-    op_batch::store_packed(deltas, flags, &groups, value as u8, records, b);
-    let number = checks::batch_padding(codes, values, records, b, at);
-    if number != 0 {
-        return CountRead::Refused { number, place: b };
-    }
-    r
+    let mut groups = [0; 8];
+    let count = decode_groups(width, table, codes, values, b, at, deltas, &mut groups)?;
+    op_batch::store_packed(deltas, flags, &groups, count.item as u8, records, b);
+    checks::batch_padding(codes, values, records, b, at)?;
+    Ok(count)
 }

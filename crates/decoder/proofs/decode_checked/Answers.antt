@@ -1,6 +1,6 @@
-use mathlib.Core.Path.{refl, sym, ◌∙◌}
+use mathlib.Core.Path.{refl, ◌∙◌}
 use native.Mathlib.Omega.{arith}
-use Rattle.rules.proofs.Operations.{table_128}
+use Rattle.refusal.proofs.Told.{handed}
 use Rattle.decoder.proofs.Blocks as B
 use Rattle.decoder.proofs.decode_checked.Goals as goal
 
@@ -9,20 +9,17 @@ returns-then-s-gt1048576 c =
     let a = c.args in
     rw (B.decoded_3 a.width a.table.now a.s.now a.at _ (omega arith)) (record { reply = refl; left = tt })
 
-pub returns-then-not-good_table : goal.returns-then-not-good_table
-returns-then-not-good_table c =
+pub returns-in_err-table : goal.returns-in_err-table
+returns-in_err-table c =
     let a = c.args in
-    rw (B.decoded_14 a.width a.table.now a.s.now a.at _ (omega arith) (sym c.good_table.ensures ∙ c.if-not-good_table.true)) (record { reply = refl; left = tt })
+    rw (B.decoded_14 a.width a.table.now a.s.now a.at _ (omega arith) c.in_err-table.ensures.err.1) (record { reply = handed _ _ c.from_residual.ensures.1 ∙ rw c.in_err-table.ensures.err.0; left = tt })
 
 pub returns-then-s-at : goal.returns-then-s-at
 returns-then-s-at c =
     let a = c.args in
-    rw (B.decoded_1 a.width a.table.now a.s.now a.at _ (omega arith) (sym c.good_table.ensures ∙ c.if-not-good_table.false) (omega arith)) (record { reply = refl; left = tt })
-
-pub decode_block-requires : goal.decode_block-requires
-decode_block-requires c = (table_128 _ (sym c.good_table.ensures ∙ c.if-not-good_table.false), c.requires)
+    rw (B.decoded_1 a.width a.table.now a.s.now a.at _ (omega arith) c.in_ok-table.ensures.ok.1 (omega arith)) (record { reply = refl; left = tt })
 
 pub returns : goal.returns
 returns c =
     let a = c.args in
-    rw (B.decoded_block a.width a.table.now a.s.now a.at _ (omega arith) (sym c.good_table.ensures ∙ c.if-not-good_table.false) (omega arith)) c.decode_block.ensures
+    rw (B.decoded_block a.width a.table.now a.s.now a.at _ (omega arith) c.in_ok-table.ensures.ok.1 (omega arith)) (rw c.in_ok-table.ensures.ok.0 at c.decode_block.ensures)

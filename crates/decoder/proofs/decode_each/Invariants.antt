@@ -7,4 +7,4 @@ use Rattle.decoder.proofs.decode_each.Given as goal
 
 abbrev pub invariant-loop-b : goal.invariant-loop-b
 invariant-loop-b l =
-    (l.from ≤ length l.codes) × (length l.records ≡ length l.initial.records) × B.Going l.width l.table (operations l.codes l.values) l.s l.sizes l.flags l.k l.records l.b l.from
+    (l.next ≤ length l.codes) × (length l.records ≡ length l.initial.records) × B.Going l.width l.table (operations l.codes l.values) l.s l.sizes l.flags l.k l.records l.b l.next

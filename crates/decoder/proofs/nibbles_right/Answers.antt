@@ -1,34 +1,30 @@
-use mathlib.Core.Path.{◌≡◌, sym, ap, ◌∙◌}
-use Prim.Native.Nat.{ℕ, ◌+◌, ◌*◌}
-use native.Mathlib.Nat.{sub-zero, zero-add, add-zero}
+use mathlib.Core.Path.{◌≡◌, sym, ◌∙◌}
+use native.Mathlib.Nat.{sub-zero, add-zero}
 use native.Mathlib.Omega.{arith}
 use Rattle.rules.specs.Digits.{digits}
 use Rattle.rules.specs.Bytes.{up_to}
-use Rattle.wire.specs.declared.CountRead.TheVariants.{Found}
 use Rattle.decoder.proofs.Sizes.{turn, stop, done}
 use Rattle.decoder.proofs.nibbles_right.Goals as goal
 
 pub loop-b-init : goal.loop-b-init
-loop-b-init c = simp (sub-zero, zero-add, add-zero)
+loop-b-init c = simp (sub-zero, add-zero)
 
 pub returns-then-not-deltas_right : goal.returns-then-not-deltas_right
 returns-then-not-deltas_right c =
     let a = c.args in
     let l = c.loop-b in
     let w : up_to 9 (digits 16 8 c.le4.result) ≡ _ = sym c.deltas_right.ensures ∙ c.if-not-deltas_right.true in
-    sym (stop a.s.now a.k (a.at + 4 * l.b) l.b _ (omega arith) (rw c.le4.ensures.0 at w)) ∙ l.invariant
+    sym (stop a.s.now a.at a.k l.b (omega arith) (rw c.le4.ensures.0 at w)) ∙ l.invariant
 
 pub loop-b-preserved : goal.loop-b-preserved
 loop-b-preserved c =
     let a = c.args in
     let l = c.loop-b in
     let w : up_to 9 (digits 16 8 c.le4.result) ≡ _ = sym c.deltas_right.ensures ∙ c.if-not-deltas_right.false in
-    let e : a.at + 4 * (l.b + 1) ≡ a.at + 4 * l.b + 4 = omega arith in
-    rw e (turn a.s.now a.k (a.at + 4 * l.b) l.b (omega arith) (rw c.le4.ensures.0 at w) ∙ l.invariant)
+    turn a.s.now a.at a.k l.b (omega arith) (rw c.le4.ensures.0 at w) ∙ l.invariant
 
 pub returns : goal.returns
 returns c =
     let a = c.args in
     let l = c.loop-b in
-    let e : a.k ≡ l.b = omega arith in
-    ap (λ (n : ℕ). Found n (a.at + 4 * n)) e ∙ sym (done a.s.now a.k (a.at + 4 * l.b) l.b (omega arith)) ∙ l.invariant
+    sym (done a.s.now a.at a.k l.b (omega arith)) ∙ l.invariant
