@@ -195,6 +195,11 @@ in_batch r x g left e l =
     let up = rise w r x.sound x.starts g h in
     (h, up.0, omega (arith, below_ninth w r x.sound x.starts (g + 1) (omega arith), ninth_small w r x.sound x.starts))
 
+-- and past the last group none is
+pub none_ahead : (r : Record) → Laid r → (g left : ℕ) → left ≡ number 256 (drop g r.flags) → 8 ≤ g → left ≡ 0
+none_ahead r x g zero e h = refl
+none_ahead r x g (suc n) e h = absurd (omega (arith, in_batch r x g (suc n) e (omega arith)))
+
 -- ---- batch by batch
 
 pub marks_next : (n : ℕ) (s : List ℕ) (b : ℕ) → b < n → marks (records_from (n - b) s b) ≡ marks_at (record_at s b) 0 ++ marks (records_from (n - (b + 1)) s (b + 1))

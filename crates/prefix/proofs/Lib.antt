@@ -1,2 +1,3 @@
+pub mod Fills
 pub mod Entries
 pub mod Claims

@@ -1,26 +1,25 @@
 -- What the replies say of the definitions' answers; and words for the contracts of private functions.
 use Rattle.std.specs.Prelude.{◌≡◌, Bool, true, false, cond, List, ◌++◌, ℕ, zero, suc, ◌+◌, ◌-◌, length, drop, replicate, leb, eqb}
+use Rattle.std.specs.Prelude as std
 use Rattle.std.proofs.Math.Option.{Option, none, some}
 use Rattle.std.proofs.lemmas.List.Edits.{sets}
 use Rattle.rules.specs.Answer.{Answer, good, refused}
 use Rattle.rules.specs.Record.{Record, Block, differences}
 use Rattle.rules.specs.Lookups.{marks_of, raw_entries, padded_entries, raw_table, padded_table, Raw, raw_at, Padded, padded_at, largest}
 use Rattle.rules.specs.Functions.{table_left}
-use Rattle.prefix.specs.declared.PaddedFound.{PaddedFound}
-use Rattle.prefix.specs.declared.PaddedFound.TheVariants as at-padded
-use Rattle.prefix.specs.declared.RawFound.{RawFound}
-use Rattle.prefix.specs.declared.RawFound.TheVariants as at_raw
+use Rattle.prefix.specs.declared.PaddedIndex.{PaddedIndex}
+use Rattle.prefix.specs.declared.RawIndex.{RawIndex}
 use Rattle.prefix.specs.declared.Tabled.{Tabled}
 use Rattle.prefix.specs.declared.Tabled.TheVariants.{Made, Refused}
 use Rattle.prefix.specs.declared.Filled.{Filled}
 
-abbrev pub padded_found : Option Padded → PaddedFound
-padded_found none = at-padded.Nothing
-padded_found (some (padded_at i)) = at-padded.At (record { 0 = i })
+abbrev pub padded_found : Option Padded → std.Option PaddedIndex
+padded_found none = std.None
+padded_found (some (padded_at i)) = std.Some (record { 0 = i })
 
-abbrev pub raw_found : Option Raw → RawFound
-raw_found none = at_raw.Nothing
-raw_found (some (raw_at i)) = at_raw.At (record { 0 = i })
+abbrev pub raw_found : Option Raw → std.Option RawIndex
+raw_found none = std.None
+raw_found (some (raw_at i)) = std.Some (record { 0 = i })
 
 -- where an index leads, by its entry: the second half of `padded_index` and of `raw_index`
 abbrev pub padded_by : ℕ → Raw → Option Padded

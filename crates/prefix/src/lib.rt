@@ -13,23 +13,11 @@ use op_batch::RECORD;
 use operation::Verdict;
 
 // An index of an operation among those without flagged paddings, and among all.
-#[derive(Clone, Copy)]
+#[derive(Clone, Copy, Debug, PartialEq, Eq)]
 pub struct RawIndex(pub usize);
 
-#[derive(Clone, Copy)]
+#[derive(Clone, Copy, Debug, PartialEq, Eq)]
 pub struct PaddedIndex(pub usize);
-
-#[derive(Clone, Copy)]
-pub enum PaddedFound {
-    At(PaddedIndex),
-    Nothing,
-}
-
-#[derive(Clone, Copy)]
-pub enum RawFound {
-    At(RawIndex),
-    Nothing,
-}
 
 #[derive(Clone, Copy)]
 pub enum Tabled {
@@ -39,50 +27,34 @@ pub enum Tabled {
 
 // ---- lookups
 
-const LARGEST: usize = 18446744073709551615;
-
 // Where the entry of a raw index leads.
-pub fn padded_by(entry: u64, i: RawIndex) -> PaddedFound
+pub fn padded_by(entry: u64, i: RawIndex) -> Option<PaddedIndex>
     ensures { result ≡ padded_found (padded_by entry (raw_at i.0)) }
 {
-    let raw = i.0;
-    let paddings = entry as usize;
-    if LARGEST - raw < paddings {
-        return PaddedFound::Nothing;
-    }
-    PaddedFound::At(PaddedIndex(raw + paddings))
+    i.0.checked_add(entry as usize).map(PaddedIndex)
 }
 
-pub fn raw_to_padded_index(table: &[u64], i: RawIndex) -> PaddedFound
+#[tactic(auto, unfolding(rules::specs::Lookups::padded_index))]
+pub fn raw_to_padded_index(table: &[u64], i: RawIndex) -> Option<PaddedIndex>
     ensures { result ≡ padded_found (padded_index table.now (raw_at i.0)) }
 {
-    let raw = i.0;
-    if table.len() <= raw {
-        return PaddedFound::Nothing;
-    }
-    padded_by(table[raw], i)
+    let entry = table.get(i.0)?;
+    padded_by(*entry, i)
 }
 
 // Where the entry of a padded index leads.
-pub fn raw_by(entry: u64, i: PaddedIndex) -> RawFound
+pub fn raw_by(entry: u64, i: PaddedIndex) -> Option<RawIndex>
     ensures { result ≡ raw_found (raw_by entry (padded_at i.0)) }
 {
-    let padded = i.0;
-    let paddings = entry as usize;
-    if padded < paddings {
-        return RawFound::Nothing;
-    }
-    RawFound::At(RawIndex(padded - paddings))
+    i.0.checked_sub(entry as usize).map(RawIndex)
 }
 
-pub fn padded_to_raw_index(table: &[u64], i: PaddedIndex) -> RawFound
+#[tactic(auto, unfolding(rules::specs::Lookups::raw_index))]
+pub fn padded_to_raw_index(table: &[u64], i: PaddedIndex) -> Option<RawIndex>
     ensures { result ≡ raw_found (raw_index table.now (padded_at i.0)) }
 {
-    let padded = i.0;
-    if table.len() <= padded {
-        return RawFound::Nothing;
-    }
-    raw_by(table[padded], i)
+    let entry = table.get(i.0)?;
+    raw_by(*entry, i)
 }
 
 // ---- tables: `padded` says which of the two, and is all they differ in
@@ -95,52 +67,22 @@ struct Filled {
     paddings: usize,
 }
 
-// n copies of a value, where there is room for them: no test in the loop.
-fn fill_room(out: &mut [u64], at: usize, n: usize, v: u64)
-    requires { at + n ≤ length out.old }
-    ensures { out.new ≡ sets out.old at (replicate n v) }
-{
-    let mut i: usize = 0;
-    while i < n {
-        out[at + i] = v;
-        i += 1;
-    }
-}
-
-fn fill_some(out: &mut [u64], at: usize, n: usize, v: u64)
-    requires { at + n < 2 ^ 63 }
-    ensures { out.new ≡ sets out.old at (replicate n v) }
-{
-    let mut i: usize = 0;
-    while i < n {
-        word::store64(out, at + i, v);
-        i += 1;
-    }
-}
-
 // n copies of a value, those past the end left out.
 fn fill64(out: &mut [u64], at: usize, n: usize, v: u64)
     requires { at + n < 2 ^ 63 }
     ensures { out.new ≡ sets out.old at (replicate n v) }
 {
-    if at + n <= out.len() {
-        fill_room(out, at, n, v);
-        return;
+    let end = out.len().min(at + n);
+    if at < end {
+        out[at..end].fill(v);
     }
-    fill_some(out, at, n, v);
 }
 
 // The flagged paddings of a group, 0 or 1.
 fn pads_in(size: usize, flag: u8) -> usize
     ensures { (result ≡ pads_in size flag) × (result ≤ 1) × (result ≤ size) }
 {
-    if size == 0 {
-        return 0;
-    }
-    if flag == 1 {
-        return 1;
-    }
-    0
+    if size != 0 && flag == 1 { 1 } else { 0 }
 }
 
 // The entries of a group: the raw table has none for a padding.
@@ -148,10 +90,7 @@ fn kept_in(padded: bool, size: usize, pads: usize) -> usize
     requires { pads ≤ size }
     ensures { (result ≡ kept_in padded size pads) × (result ≤ size) }
 {
-    if padded {
-        return size;
-    }
-    size - pads
+    if padded { size } else { size - pads }
 }
 
 // The entries of one batch, group by group as far as flags are set.
@@ -165,27 +104,27 @@ fn batch_entries(records: &[u8], b: usize, padded: bool, from: Filled, out: &mut
     let mut waiting = from.waiting;
     let mut paddings = from.paddings;
     let mut left = op_batch::flags(records, b); // those from the g-th on
-    let mut g: usize = 0;
-    while 0 < left {
-        left /= 256;
-        let size = op_batch::start(records, b, g + 1) - op_batch::start(records, b, g);
-        let pads = pads_in(size, op_batch::flag(records, b, g));
-        let n = waiting + kept_in(padded, size, pads);
-        if pads == 0 {
-            waiting = n;
-            g += 1;
-            continue;
+    let mut start = 0;
+    for g in 0..8 {
+        if left == 0 {
+            break;
         }
-        fill64(out, entries, n, paddings as u64);
-        entries += n;
-        waiting = 0;
-        paddings += 1;
-        g += 1;
+        left /= 256;
+        let end = op_batch::start(records, b, g + 1);
+        let pads = pads_in(end - start, op_batch::flag(records, b, g));
+        waiting += kept_in(padded, end - start, pads);
+        start = end;
+        if pads == 1 {
+            fill64(out, entries, waiting, paddings as u64);
+            entries += waiting;
+            waiting = 0;
+            paddings += 1;
+        }
     }
-    let more = op_batch::start(records, b, 8) - op_batch::start(records, b, g);
+    waiting += op_batch::start(records, b, 8) - start;
     Filled {
         entries,
-        waiting: waiting + more,
+        waiting,
         paddings,
     }
 }
@@ -195,16 +134,13 @@ fn fill(records: &[u8], padded: bool, out: &mut [u64]) -> usize
     requires { (length records.now / record_size ≤ 16384) × AllFit records.now }
     ensures { Filling (table_from padded 0 (marks (records_in records.now))) result out.old out.new }
 {
-    let n = records.len() / RECORD;
     let mut done = Filled {
         entries: 0,
         waiting: 0,
         paddings: 0,
     };
-    let mut b: usize = 0;
-    while b < n {
+    for b in 0..records.len() / RECORD {
         done = batch_entries(records, b, padded, done, out);
-        b += 1;
     }
     let last = done.waiting + 1;
     fill64(out, done.entries, last, done.paddings as u64);

@@ -9,13 +9,13 @@ use Rattle.prefix.proofs.fill.Given as goal
 
 abbrev pub invariant-loop-b : goal.invariant-loop-b
 invariant-loop-b l =
-    (l.n ≡ length l.records / record_size)
-    × (l.b ≤ l.n)
-    × (length l.out ≡ length l.initial.out)
-    × (l.done.entries + l.done.waiting ≤ 72 * l.b)
-    × (l.done.paddings ≤ 8 * l.b)
-    × (sets l.out l.done.entries (ahead l.padded l.done.waiting l.done.paddings (marks (records_from (length l.records / record_size - l.b) l.records l.b))) ≡ sets l.initial.out 0 (table_from l.padded 0 (marks (records_from (length l.records / record_size) l.records 0))))
-    × (l.done.entries + length (ahead l.padded l.done.waiting l.done.paddings (marks (records_from (length l.records / record_size - l.b) l.records l.b))) ≡ length (table_from l.padded 0 (marks (records_from (length l.records / record_size) l.records 0))))
-
-abbrev pub decreases-loop-b : goal.decreases-loop-b
-decreases-loop-b l = l.n - l.b
+    record {
+      waiting : l.done.entries + l.done.waiting ≤ 72 * l.b;
+      paddings : l.done.paddings ≤ 8 * l.b;
+      run :
+          sets l.out l.done.entries (ahead l.padded l.done.waiting l.done.paddings (marks (records_from (length l.records / record_size - l.b) l.records l.b)))
+          ≡ sets l.initial.out 0 (table_from l.padded 0 (marks (records_from (length l.records / record_size) l.records 0)));
+      entries :
+          l.done.entries + length (ahead l.padded l.done.waiting l.done.paddings (marks (records_from (length l.records / record_size - l.b) l.records l.b)))
+          ≡ length (table_from l.padded 0 (marks (records_from (length l.records / record_size) l.records 0)));
+    }
