@@ -25,8 +25,8 @@ use Rattle.checks.specs.Batch.{Fits}
 use Rattle.checks.proofs.Groups.{Laid, laid}
 use Rattle.checks.proofs.Walk.{equal_lengths, few_codes}
 use Rattle.checks.proofs.Passed.{checked, all_fit}
+use Rattle.std.specs.Prelude.{Ok}
 use Rattle.prefix.specs.Tables.{marks_at, tabled_of, Answered}
-use Rattle.prefix.specs.declared.Tabled.TheVariants.{Made}
 use Rattle.prefix.specs.Claims.{raws, place_of, TablesLead, AllMarked, TablesLeft}
 use Rattle.prefix.proofs.Entries.{marks_turn, marks_end}
 
@@ -189,9 +189,9 @@ record WasMade (d : Answer (List ℕ)) (n : ℕ) : Type 0 where
   answer : d ≡ good entries
   many : n ≡ length entries
 
-was_made : (d : Answer (List ℕ)) (n : ℕ) → Made n ≡ tabled_of d → WasMade d n
+was_made : (d : Answer (List ℕ)) (n : ℕ) → good n ≡ tabled_of d → WasMade d n
 was_made (good es) n e = record { entries = es; answer = refl; many = cc }
-was_made (refused k p) n e = absurd (let z : ◌≡◌ {A = ℕ} 0 1 = cc in omega arith)
+was_made (refused k p) n e = cc
 
 module _ (table : Block → List ℕ) (w : ℕ) (a : Arena) (room : ℕ) (es : List ℕ) (h : table_of table w a room ≡ good es) where
   record Passed : Type 0 where
@@ -217,7 +217,7 @@ left_front : (out out' es : List ℕ) (n : ℕ) → n ≡ length es → length e
 left_front out out' es n e l h = rw (e, h) (fitted_front (length out) es l)
 
 -- the table, in the front of the run that was lent for it
-was_left : (table : Block → List ℕ) (w : ℕ) (a : Arena) (out out' : List ℕ) (n : ℕ) → Answered (table_of table w a (length out)) (Made n) out out' → (structure_checked w a ≡ good tt) × (take n out' ≡ table (block_in a))
+was_left : (table : Block → List ℕ) (w : ℕ) (a : Arena) (out out' : List ℕ) (n : ℕ) → Answered (table_of table w a (length out)) (Ok n) out out' → (structure_checked w a ≡ good tt) × (take n out' ≡ table (block_in a))
 unfolding table_left
 was_left table w a out out' n h =
     let m = was_made (table_of table w a (length out)) n h.reply in

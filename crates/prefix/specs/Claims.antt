@@ -1,11 +1,10 @@
 -- What the two tables are for, as statements about the definitions: proved in proofs/Claims.antt.
-use Rattle.std.specs.Prelude.{◌≡◌, Bool, true, false, List, [], ◌∷◌, ℕ, zero, suc, ◌≤◌, ◌<◌, length, get_or, take}
+use Rattle.std.specs.Prelude.{◌≡◌, Ok, Bool, true, false, List, [], ◌∷◌, ℕ, zero, suc, ◌≤◌, ◌<◌, length, get_or, take}
 use Rattle.std.proofs.Math.Option.{none, some}
 use Rattle.rules.specs.Answer.{good}
 use Rattle.rules.specs.Record.{Block}
 use Rattle.rules.specs.Lookups.{marks, raw_table, padded_table, raw_at, padded_at, largest, padded_index, raw_index}
 use Rattle.rules.specs.Functions.{Arena, block_in, structure_checked, raw_tabled, padded_tabled}
-use Rattle.prefix.specs.declared.Tabled.TheVariants.{Made}
 use Rattle.prefix.specs.Tables.{Answered}
 
 -- how many operations are raw, that is no flagged paddings
@@ -52,5 +51,5 @@ AllMarked = (w : ℕ) → w ≤ 8 → (a : Arena) → structure_checked w a ≡ 
 -- that they replied, leads there and back.
 abbrev pub TablesLeft : Type 0
 TablesLeft = (a : Arena) (rawRun rawRun' paddedRun paddedRun' : List ℕ) (n m : ℕ)
-    → Answered (raw_tabled 8 a (length rawRun)) (Made n) rawRun rawRun' → Answered (padded_tabled 8 a (length paddedRun)) (Made m) paddedRun paddedRun'
+    → Answered (raw_tabled 8 a (length rawRun)) (Ok n) rawRun rawRun' → Answered (padded_tabled 8 a (length paddedRun)) (Ok m) paddedRun paddedRun'
     → Leads (block_in a) (take n rawRun') (take m paddedRun')

@@ -10,7 +10,7 @@ ghost use Rattle.checks.specs.Batch.{Fits, AllFit};
 ghost use Rattle.prefix.specs.Tables.{padded_found, raw_found, padded_by, raw_by, table_by, table_from, pads_in, kept_in, marks_at, Goes, Filling, Answered};
 
 use op_batch::RECORD;
-use operation::Verdict;
+use refusal::Refusal;
 
 // An index of an operation among those without flagged paddings, and among all.
 #[derive(Clone, Copy, Debug, PartialEq, Eq)]
@@ -19,10 +19,11 @@ pub struct RawIndex(pub usize);
 #[derive(Clone, Copy, Debug, PartialEq, Eq)]
 pub struct PaddedIndex(pub usize);
 
-#[derive(Clone, Copy)]
-pub enum Tabled {
-    Made { entries: usize },
-    Refused { number: u8, place: usize },
+// The two tables by name: they differ in no more than the entries of a padding.
+#[derive(Clone, Copy, Debug, PartialEq, Eq)]
+pub enum Prefix {
+    RawToPadded,
+    PaddedToRaw,
 }
 
 // ---- lookups
@@ -57,7 +58,7 @@ pub fn padded_to_raw_index(table: &[u64], i: PaddedIndex) -> Option<RawIndex>
     raw_by(*entry, i)
 }
 
-// ---- tables: `padded` says which of the two, and is all they differ in
+// ---- tables
 
 // How far a table is: entries written, entries after them that wait until the next padding since their value is the same, paddings counted.
 #[derive(Clone, Copy)]
@@ -86,18 +87,21 @@ fn pads_in(size: usize, flag: u8) -> usize
 }
 
 // The entries of a group: the raw table has none for a padding.
-fn kept_in(padded: bool, size: usize, pads: usize) -> usize
+fn kept_in(which: Prefix, size: usize, pads: usize) -> usize
     requires { pads ≤ size }
-    ensures { (result ≡ kept_in padded size pads) × (result ≤ size) }
+    ensures { (result ≡ kept_in which size pads) × (result ≤ size) }
 {
-    if padded { size } else { size - pads }
+    match which {
+        Prefix::RawToPadded => size - pads,
+        Prefix::PaddedToRaw => size,
+    }
 }
 
 // The entries of one batch, group by group as far as flags are set.
-fn batch_entries(records: &[u8], b: usize, padded: bool, from: Filled, out: &mut [u64]) -> Filled
+fn batch_entries(records: &[u8], b: usize, which: Prefix, from: Filled, out: &mut [u64]) -> Filled
     requires record_in_bounds { (record_size * b + record_size ≤ length records.now) × Fits (record_at records.now b) × (b < 16384) }
     requires waiting_bound { (from.entries + from.waiting ≤ 72 * b) × (from.paddings ≤ 8 * b) }
-    ensures goes { Goes padded (marks_at (record_at records.now b) 0) from result out.old out.new }
+    ensures goes { Goes which (marks_at (record_at records.now b) 0) from result out.old out.new }
     ensures waiting_bound_2 { (result.entries + result.waiting ≤ 72 * (b + 1)) × (result.paddings ≤ 8 * (b + 1)) }
 {
     let mut entries = from.entries;
@@ -112,7 +116,7 @@ fn batch_entries(records: &[u8], b: usize, padded: bool, from: Filled, out: &mut
         left /= 256;
         let end = op_batch::start(records, b, g + 1);
         let pads = pads_in(end - start, op_batch::flag(records, b, g));
-        waiting += kept_in(padded, end - start, pads);
+        waiting += kept_in(which, end - start, pads);
         start = end;
         if pads == 1 {
             fill64(out, entries, waiting, paddings as u64);
@@ -130,9 +134,9 @@ fn batch_entries(records: &[u8], b: usize, padded: bool, from: Filled, out: &mut
 }
 
 // A whole table, and how many entries it has; those past the end of the lent run are left out.
-fn fill(records: &[u8], padded: bool, out: &mut [u64]) -> usize
+fn fill(records: &[u8], which: Prefix, out: &mut [u64]) -> usize
     requires { (length records.now / record_size ≤ 16384) × AllFit records.now }
-    ensures { Filling (table_from padded 0 (marks (records_in records.now))) result out.old out.new }
+    ensures { Filling (table_from which 0 (marks (records_in records.now))) result out.old out.new }
 {
     let mut done = Filled {
         entries: 0,
@@ -140,44 +144,56 @@ fn fill(records: &[u8], padded: bool, out: &mut [u64]) -> usize
         paddings: 0,
     };
     for b in 0..records.len() / RECORD {
-        done = batch_entries(records, b, padded, done, out);
+        done = batch_entries(records, b, which, done, out);
     }
     let last = done.waiting + 1;
     fill64(out, done.entries, last, done.paddings as u64);
     done.entries + last
 }
 
-// Both tables, for callers that tell them apart by a value.
-pub fn table(codes: &[u8], values: &[u64], records: &[u8], padded: bool, out: &mut [u64]) -> Tabled
-    ensures { Answered (table_of (table_by padded) 8 (arena codes.now values.now records.now) (length out.old)) result out.old out.new }
+// Either table, for callers that tell them apart by a value: how many entries it has.
+pub fn table(
+    codes: &[u8],
+    values: &[u64],
+    records: &[u8],
+    which: Prefix,
+    out: &mut [u64],
+) -> Result<usize, Refusal>
+    ensures { Answered (table_of (table_by which) 8 (arena codes.now values.now records.now) (length out.old)) result out.old out.new }
 {
-    let v = checks::padding(codes, values, records);
-    if let Verdict::Refused { number, place } = v {
+    if let Err(refusal) = checks::padding(codes, values, records) {
         word::zero_words(out, 0);
-        return Tabled::Refused { number, place };
+        return Err(refusal);
     }
-    let entries = fill(records, padded, out);
+    let entries = fill(records, which, out);
     if out.len() < entries {
         word::zero_words(out, 0);
-        return Tabled::Refused {
-            number: 13,
-            place: 0,
-        };
+        return Err(Refusal::NoRoom);
     }
     word::zero_words(out, entries);
-    Tabled::Made { entries }
+    Ok(entries)
 }
 
 // RawToPaddedPrefix: for each raw operation the flagged paddings before it, then all. Refusals 3, 15, 10, 13.
-pub fn raw_to_padded(codes: &[u8], values: &[u64], records: &[u8], out: &mut [u64]) -> Tabled
+pub fn raw_to_padded(
+    codes: &[u8],
+    values: &[u64],
+    records: &[u8],
+    out: &mut [u64],
+) -> Result<usize, Refusal>
     ensures { Answered (raw_tabled 8 (arena codes.now values.now records.now) (length out.old)) result out.old out.new }
 {
-    table(codes, values, records, false, out)
+    table(codes, values, records, Prefix::RawToPadded, out)
 }
 
 // PaddedToRawPrefix: the same for each padded operation.
-pub fn padded_to_raw(codes: &[u8], values: &[u64], records: &[u8], out: &mut [u64]) -> Tabled
+pub fn padded_to_raw(
+    codes: &[u8],
+    values: &[u64],
+    records: &[u8],
+    out: &mut [u64],
+) -> Result<usize, Refusal>
     ensures { Answered (padded_tabled 8 (arena codes.now values.now records.now) (length out.old)) result out.old out.new }
 {
-    table(codes, values, records, true, out)
+    table(codes, values, records, Prefix::PaddedToRaw, out)
 }

@@ -13,5 +13,5 @@ invariant-loop-g l =
       entries : l.entries + l.waiting ≤ 72 * l.b + l.start;
       paddings : l.paddings ≤ 8 * l.b + l.g;
       left : l.left ≡ number 256 (drop l.g (record_at l.records l.b).flags);
-      on : On l.padded (record_at l.records l.b) l.initial.out l.initial.entries l.initial.waiting l.initial.paddings l.g l.out l.entries l.waiting l.paddings;
+      on : On l.which (record_at l.records l.b) l.initial.out l.initial.entries l.initial.waiting l.initial.paddings l.g l.out l.entries l.waiting l.paddings;
     }

@@ -13,9 +13,9 @@ invariant-loop-b l =
       waiting : l.done.entries + l.done.waiting ≤ 72 * l.b;
       paddings : l.done.paddings ≤ 8 * l.b;
       run :
-          sets l.out l.done.entries (ahead l.padded l.done.waiting l.done.paddings (marks (records_from (length l.records / record_size - l.b) l.records l.b)))
-          ≡ sets l.initial.out 0 (table_from l.padded 0 (marks (records_from (length l.records / record_size) l.records 0)));
+          sets l.out l.done.entries (ahead l.which l.done.waiting l.done.paddings (marks (records_from (length l.records / record_size - l.b) l.records l.b)))
+          ≡ sets l.initial.out 0 (table_from l.which 0 (marks (records_from (length l.records / record_size) l.records 0)));
       entries :
-          l.done.entries + length (ahead l.padded l.done.waiting l.done.paddings (marks (records_from (length l.records / record_size - l.b) l.records l.b)))
-          ≡ length (table_from l.padded 0 (marks (records_from (length l.records / record_size) l.records 0)));
+          l.done.entries + length (ahead l.which l.done.waiting l.done.paddings (marks (records_from (length l.records / record_size - l.b) l.records l.b)))
+          ≡ length (table_from l.which 0 (marks (records_from (length l.records / record_size) l.records 0)));
     }
