@@ -204,7 +204,7 @@ impl OpBatchAccumulator {
         requires code_bound { (code < 128) × (self.inside < 9) }
         ensures { result ≡ self.number + code * self.unit }
     {
-        self.number + word::wide(code) * self.unit
+        self.number + u64::from(code) * self.unit
     }
 
     // Whether the current group cannot take the operation: no immediate is ninth.

@@ -177,8 +177,8 @@ fn store(code: u8, value: u64, count: usize, codes: &mut [u8], values: &mut [u64
     if codes.len() <= count {
         return Taken { count, fault: MANY };
     }
-    word::store8(codes, count, code);
-    word::store64(values, count, value);
+    word::store(codes, count, code);
+    word::store(values, count, value);
     Taken {
         count: count + 1,
         fault: 0,

@@ -71,8 +71,8 @@ fn step(
     let r = make_room(width, work, imm, records);
     let acc = r.acc.add_op(code, imm, v, r.batches, records);
     let at = r.base + acc.total as usize - 1;
-    word::store8(codes, at, code);
-    word::store64(values, at, v);
+    word::store(codes, at, code);
+    word::store(values, at, v);
     Work { acc, ..r }
 }
 
@@ -109,7 +109,7 @@ fn slots(
     let kind = table[code as usize];
     let k = kind as usize;
     // the greatest value, 0 for kind 0 and below the field's size for kind 1, by a product where `value_right` has a branch
-    if 1 < kind || word::wide(kind) * (operation::FIELD - 1) < v {
+    if 1 < kind || u64::from(kind) * (operation::FIELD - 1) < v {
         return None;
     }
     if left <= k || width < next + k {
@@ -226,7 +226,7 @@ fn join_ops(
         keep(v, b, next, records);
         out_codes[from + n] = code;
         out_values[from + n] = v;
-        number += word::wide(code) * unit;
+        number += u64::from(code) * unit;
         unit *= 128;
         next += k;
     }

@@ -87,7 +87,7 @@ fn items8(s: &[u8], from: usize, n: usize, out: &mut [u8]) -> Read {
             return lost();
         }
         last = x.value;
-        word::store8(out, i, (last % 256) as u8);
+        word::store(out, i, (last % 256) as u8);
         at = x.at;
         i += 1;
     }
@@ -101,7 +101,7 @@ fn items64(s: &[u8], from: usize, n: usize, out: &mut [u64]) -> Read {
     while i < n {
         let x = number(s, at);
         last = x.value;
-        word::store64(out, i, last);
+        word::store(out, i, last);
         at = x.at;
         i += 1;
     }
@@ -111,7 +111,7 @@ fn items64(s: &[u8], from: usize, n: usize, out: &mut [u64]) -> Read {
 fn fill8(out: &mut [u8], from: usize, to: usize, v: u8) {
     let mut i = from;
     while i < to {
-        word::store8(out, i, v);
+        word::store(out, i, v);
         i += 1;
     }
 }
@@ -119,7 +119,7 @@ fn fill8(out: &mut [u8], from: usize, to: usize, v: u8) {
 pub fn fill64(out: &mut [u64], from: usize, to: usize, v: u64) {
     let mut i = from;
     while i < to {
-        word::store64(out, i, v);
+        word::store(out, i, v);
         i += 1;
     }
 }
@@ -325,7 +325,7 @@ fn differs8(s: &[u8], from: usize, given: usize, ours: &[u8]) -> usize {
     let mut i: usize = 0;
     while i < ours.len() {
         x = item(s, x, i < given);
-        if x.value != word::wide(ours[i]) {
+        if x.value != u64::from(ours[i]) {
             return i;
         }
         i += 1;

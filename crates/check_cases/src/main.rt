@@ -66,7 +66,7 @@ fn bytes(s: &[u8], from: usize, n: usize, out: &mut [u8]) -> usize
     let mut i: usize = 0;
     while i < n {
         let x = number(s, at);
-        word::store8(out, i, (x.value % 256) as u8);
+        word::store(out, i, (x.value % 256) as u8);
         at = x.at;
         i += 1;
     }
@@ -81,7 +81,7 @@ fn words(s: &[u8], from: usize, n: usize, out: &mut [u64]) -> usize
     let mut i: usize = 0;
     while i < n {
         let x = number(s, at);
-        word::store64(out, i, x.value);
+        word::store(out, i, x.value);
         at = x.at;
         i += 1;
     }
@@ -168,7 +168,7 @@ fn line(rt: HostRuntime, text: &[u8]) {
 
 fn refused(rt: HostRuntime, number: u8, place: usize) {
     let _ = rt.write_all(b"refused ");
-    show(rt, word::wide(number));
+    show(rt, u64::from(number));
     show(rt, place as u64);
     line(rt, b"");
 }
@@ -370,11 +370,11 @@ fn read_table(s: &[u8], from: usize, out: &mut [u8]) -> Front
     let lent = number(s, from);
     let kind = number(s, lent.at);
     word::fill8(out, 0, 128, 3);
-    word::store8(out, 0, 0);
-    word::store8(out, 1, 1);
-    word::store8(out, 2, 0);
-    word::store8(out, 3, 2);
-    word::store8(out, 4, (kind.value % 256) as u8);
+    word::store(out, 0, 0);
+    word::store(out, 1, 1);
+    word::store(out, 2, 0);
+    word::store(out, 3, 2);
+    word::store(out, 4, (kind.value % 256) as u8);
     Front {
         lent: most(lent.value, out.len()),
         at: kind.at,
@@ -387,7 +387,7 @@ fn read_codes(s: &[u8], from: usize, out: &mut [u8]) -> Front
 {
     let lent = number(s, from);
     let listed = number(s, lent.at);
-    word::zero_bytes(out, 0);
+    word::zero_after(out, 0);
     let at = bytes(s, listed.at, most(listed.value, 1000), out);
     Front {
         lent: most(lent.value, out.len()),
@@ -401,7 +401,7 @@ fn read_values(s: &[u8], from: usize, out: &mut [u64]) -> Front
 {
     let lent = number(s, from);
     let listed = number(s, lent.at);
-    word::zero_words(out, 0);
+    word::zero_after(out, 0);
     let at = words(s, listed.at, most(listed.value, 1000), out);
     Front {
         lent: most(lent.value, out.len()),
@@ -415,7 +415,7 @@ fn read_records(s: &[u8], from: usize, out: &mut [u8]) -> Front
 {
     let lent = number(s, from);
     let listed = number(s, lent.at);
-    word::zero_bytes(out, 0);
+    word::zero_after(out, 0);
     let at = records(s, listed.at, most(listed.value, 1000), out);
     Front {
         lent: most(lent.value, out.len()),

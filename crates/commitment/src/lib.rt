@@ -287,7 +287,7 @@ fn walk_group(
         if 8 < next {
             return Walked { number, next: 9 };
         }
-        number += word::wide(code) * unit;
+        number += u64::from(code) * unit;
         unit *= 128;
         i += 1;
     }

@@ -67,7 +67,7 @@ fn group_number(records: &[u8], b: usize, g: usize) -> u64 {
 fn group_flag(records: &[u8], b: usize, g: usize) -> u64 {
     let batch = listing::record(records, b);
     if g < 8 {
-        return word::wide(batch.flags[g]);
+        return u64::from(batch.flags[g]);
     }
     0
 }
@@ -84,7 +84,7 @@ fn group_size(records: &[u8], b: usize, g: usize) -> u64 {
 
 fn group_count(records: &[u8], b: usize) -> u64 {
     let batch = listing::record(records, b);
-    word::wide(batch.count)
+    u64::from(batch.count)
 }
 
 fn value_of(records: &[u8], e: Entry) -> u64 {

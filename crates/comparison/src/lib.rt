@@ -187,10 +187,10 @@ fn put(report: &mut [i32], n: usize, kind: usize, batch: usize, place: usize, di
     ensures { report.new ≡ sets report.old (entry_size * n) (entry_numbers (record { kind = kind; batch = batch; place = place; difference = difference })) }
 {
     let at = 4 * n;
-    word::store32(report, at, kind as i32);
-    word::store32(report, at + 1, batch as i32);
-    word::store32(report, at + 2, place as i32);
-    word::store32(report, at + 3, difference);
+    word::store(report, at, kind as i32);
+    word::store(report, at + 1, batch as i32);
+    word::store(report, at + 2, place as i32);
+    word::store(report, at + 3, difference);
 }
 
 // A place before the end, where two differ.
@@ -382,14 +382,14 @@ fn settle(report: &mut [i32], n: usize) -> Compared
     ensures report_after { report.new ≡ zeroed report.old (cond (ltb (room_for report.old) n) 0 (entry_size * n)) }
 {
     if report.len() / 4 < n {
-        word::zero_numbers(report, 0);
+        word::zero_after(report, 0);
         return Compared::Refused {
             mark: 0,
             number: 13,
             place: 0,
         };
     }
-    word::zero_numbers(report, 4 * n);
+    word::zero_after(report, 4 * n);
     Compared::Reported { entries: n }
 }
 
@@ -427,7 +427,7 @@ fn compare_rooms(
 fn not_compared(report: &mut [i32], mark: u8, r: Decoded) -> Compared
     ensures { (result ≡ handed mark r) × (report.new ≡ zeroed report.old 0) }
 {
-    word::zero_numbers(report, 0);
+    word::zero_after(report, 0);
     match r {
         Decoded::Refused { number, place } => Compared::Refused {
             mark,
@@ -451,9 +451,9 @@ fn empty(out_codes: &mut [u8], out_values: &mut [u64], records: &mut [u8], n: us
     requires { (n ≤ length out_codes.old) × (n ≤ length out_values.old) × (record_size * k ≤ length records.old) }
     ensures { arena out_codes.new out_values.new records.new ≡ headless n k (arena out_codes.old out_values.old records.old) }
 {
-    word::zero_bytes(&mut out_codes[..n], 0);
-    word::zero_words(&mut out_values[..n], 0);
-    word::zero_bytes(&mut records[..RECORD * k], 0);
+    word::zero_after(&mut out_codes[..n], 0);
+    word::zero_after(&mut out_values[..n], 0);
+    word::zero_after(&mut records[..RECORD * k], 0);
 }
 
 // The second block against the first, which is taken: n operations and k batches.

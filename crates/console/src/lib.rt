@@ -121,7 +121,7 @@ fn page(to: u8) -> [u8; 65546]
     ensures { 65546 ≡ length result }
 {
     let mut page = blank();
-    word::store8(&mut page, TO, to);
+    word::store(&mut page, TO, to);
     page
 }
 
@@ -144,7 +144,7 @@ pub fn byte(s: &[u8], at: usize) -> usize
     ensures { result < 256 }
 {
     if at < s.len() {
-        return word::wide(s[at]) as usize;
+        return usize::from(s[at]);
     }
     0
 }
@@ -152,7 +152,7 @@ pub fn byte(s: &[u8], at: usize) -> usize
 pub fn long(s: &[u8], at: usize) -> u64 {
     if at < s.len() {
         if 8 <= s.len() - at {
-            return word::le8(s, at);
+            return word::le::<8>(s, at);
         }
     }
     0
@@ -196,7 +196,7 @@ pub fn flush(rt: HostRuntime, page: &mut [u8]) -> bool {
         return true;
     };
     tell_failed(rt, b"standard output", error);
-    word::store8(page, FAILED, 1);
+    word::store(page, FAILED, 1);
     false
 }
 
@@ -211,7 +211,7 @@ pub fn copy(page: &mut [u8], at: usize, text: &[u8]) -> usize
         if text.len() <= i {
             return to;
         }
-        word::store8(page, to, text[i]);
+        word::store(page, to, text[i]);
         to += 1;
         i += 1;
     }
@@ -251,7 +251,7 @@ pub fn counted(rt: HostRuntime, page: &mut [u8], n: usize, one: &[u8], several: 
 // A byte in hex.
 pub fn hex(rt: HostRuntime, page: &mut [u8], b: u8) {
     let mut digits = [0u8; 16];
-    let k = io::hex(word::wide(b), 2, &mut digits);
+    let k = io::hex(u64::from(b), 2, &mut digits);
     say(rt, page, &digits[..k]);
 }
 

@@ -37,7 +37,7 @@ pub fn read_words(s: &[u8], work: &mut [u64])
     ensures { take (length s.now / 8) work.new ≡ words_in s.now }
 {
     for i in 0..s.len() / 8 {
-        work[i] = word::le8(s, 8 * i);
+        work[i] = word::le::<8>(s, 8 * i);
     }
 }
 
@@ -55,7 +55,7 @@ fn put_words(words: &[u64], out: &mut [u8])
     ensures { out.new ≡ sets out.old 0 (word_bytes words.now) }
 {
     for (i, number) in words.iter().enumerate() {
-        word::put8(out, 8 * i, *number);
+        word::put::<8>(out, 8 * i, *number);
     }
 }
 
@@ -65,5 +65,5 @@ pub fn bytes_out(words: &[u64], out: &mut [u8])
     ensures { out.new ≡ fitted (length out.old) (word_bytes words.now) }
 {
     put_words(words, out);
-    word::zero_bytes(out, 8 * words.len());
+    word::zero_after(out, 8 * words.len());
 }

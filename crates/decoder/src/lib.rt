@@ -80,7 +80,7 @@ fn nibbles_right(s: &[u8], at: usize, k: usize) -> Result<usize, Refusal>
     ensures { told result ≡ after (nibbles_at 8 s.now k at 0) }
 {
     for b in 0..k {
-        if !wire::deltas_right(word::le4(s, at + 4 * b)) {
+        if !wire::deltas_right(word::le::<4>(s, at + 4 * b)) {
             return Err(Refusal::BadNibble { batch: b });
         }
     }
@@ -113,7 +113,7 @@ fn decode_each(
             table,
             codes,
             values,
-            word::le4(s, sizes + 4 * b),
+            word::le::<4>(s, sizes + 4 * b),
             s[flags + b],
             b,
             next,
@@ -219,9 +219,9 @@ pub fn clear_after(
 )
     ensures { arena out_codes.new out_values.new records.new ≡ tailless n m (arena out_codes.old out_values.old records.old) }
 {
-    word::zero_bytes(out_codes, n);
-    word::zero_words(out_values, n);
-    word::zero_bytes(records, m);
+    word::zero_after(out_codes, n);
+    word::zero_after(out_values, n);
+    word::zero_after(records, m);
 }
 
 // The block in `s` from `at` on, into lent runs for opcodes, values and records: content, then zeros; zeros alone where it is refused.

@@ -136,7 +136,7 @@ fn write_deltas(records: &[u8], out: &mut [u8], at: usize) -> usize
     let n = records.len() / RECORD;
     let mut b: usize = 0;
     while b < n {
-        word::put4(out, at + 4 * b, op_batch::pack_indptr_deltas(records, b));
+        word::put::<4>(out, at + 4 * b, op_batch::pack_indptr_deltas(records, b));
         b += 1;
     }
     at + 4 * n
@@ -170,7 +170,7 @@ fn encode_basic_block(
 {
     let ops = wire::write_count(out, at, codes.len() as u64);
     let batches = write_ops(table, codes, values, out, ops);
-    word::put4(out, batches, (records.len() / RECORD) as u64);
+    word::put::<4>(out, batches, (records.len() / RECORD) as u64);
     let flags = write_deltas(records, out, batches + 4);
     write_padding(records, out, flags);
 }

@@ -529,9 +529,9 @@ pub fn oli_next_group(run: &[u8], group: usize) -> NextReply
 fn clear(out_codes: &mut [u8], out_values: &mut [u8], records: &mut [u8])
     ensures { arena out_codes.new out_values.new records.new ≡ filled_bytes (arena out_codes.old out_values.old records.old) no_block }
 {
-    word::zero_bytes(out_codes, 0);
-    word::zero_bytes(out_values, 0);
-    word::zero_bytes(records, 0);
+    word::zero_after(out_codes, 0);
+    word::zero_after(out_values, 0);
+    word::zero_after(records, 0);
 }
 
 // The values go through `numbers`, and those that build fills in through `work`, as long as what the lent bytes have room for.
@@ -1040,7 +1040,7 @@ fn table_le(codes: &[u8], values: &[u8], records: &[u8], padded: bool, out: &mut
     ensures { TablesBytes (whole_words values.now (table_of (table_by padded) 8 (arena codes.now (words_in values.now) records.now) (length out.old / 8))) result out.old out.new }
 {
     if !crossing::few_words(values) {
-        word::zero_bytes(out, 0);
+        word::zero_after(out, 0);
         return TableReply {
             number: 3,
             place: 0,
@@ -1075,7 +1075,7 @@ pub fn oli_padded_index_le(table: &[u8], raw: usize) -> IndexReply
     if !crossing::has_word(table, raw) {
         return IndexReply { found: 0, index: 0 };
     }
-    let entry = word::le8(table, 8 * raw);
+    let entry = word::le::<8>(table, 8 * raw);
     let r = prefix::padded_by(entry, RawIndex(raw));
     flat_padded(r)
 }
@@ -1086,7 +1086,7 @@ pub fn oli_raw_index_le(table: &[u8], padded: usize) -> IndexReply
     if !crossing::has_word(table, padded) {
         return IndexReply { found: 0, index: 0 };
     }
-    let entry = word::le8(table, 8 * padded);
+    let entry = word::le::<8>(table, 8 * padded);
     let r = prefix::raw_by(entry, PaddedIndex(padded));
     flat_raw(r)
 }

@@ -75,8 +75,8 @@ fn put_ops(
     let mut i: usize = 0;
     while i < n {
         let at = plus(from, i);
-        word::store8(out_codes, plus(to, i), console::byte(codes, at) as u8);
-        word::store64(out_values, plus(to, i), value(values, at));
+        word::store(out_codes, plus(to, i), console::byte(codes, at) as u8);
+        word::store(out_values, plus(to, i), value(values, at));
         i += 1;
     }
 }

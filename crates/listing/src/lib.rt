@@ -36,7 +36,7 @@ fn print_name(rt: HostRuntime, page: &mut [u8], code: u8) {
         Some(name) => say(rt, page, name.as_bytes()),
         None => {
             say(rt, page, b"op ");
-            number(rt, page, word::wide(code));
+            number(rt, page, u64::from(code));
         }
     }
 }
@@ -508,7 +508,7 @@ pub fn print_words(rt: HostRuntime, page: &mut [u8], refusal: u8, place: usize) 
 // The same after its number.
 pub fn print_refusal(rt: HostRuntime, page: &mut [u8], refusal: u8, place: usize) {
     say(rt, page, b"refusal ");
-    number(rt, page, word::wide(refusal));
+    number(rt, page, u64::from(refusal));
     say(rt, page, b": ");
     print_words(rt, page, refusal, place);
 }
@@ -522,7 +522,7 @@ pub fn print_numbered(
     refusal: u8,
     place: usize,
 ) {
-    number(rt, page, word::wide(refusal));
+    number(rt, page, u64::from(refusal));
     match refusal {
         2..=10 | 17 => print_at(rt, page, b" at byte ", place_byte(s, from, refusal, place)),
         _ => {}

@@ -147,7 +147,7 @@ pub fn flags(records: &[u8], b: usize) -> u64
     requires { record_size * b + record_size ≤ length records.now }
     ensures { result ≡ number 256 (record_at records.now b).flags }
 {
-    word::le8(records, RECORD * b + FLAGS)
+    word::le::<8>(records, RECORD * b + FLAGS)
 }
 
 // All eight sizes, each start i+1 minus start i, in the same way: where starts never fall, no byte borrows from the next.
@@ -156,14 +156,14 @@ pub fn sizes(records: &[u8], b: usize) -> u64
     ensures { result ≡ number 256 (differences (record_at records.now b).starts) }
 {
     let at = RECORD * b;
-    word::le8(records, at + 1) - word::le8(records, at)
+    word::le::<8>(records, at + 1) - word::le::<8>(records, at)
 }
 
 pub fn number(records: &[u8], b: usize, g: usize) -> u64
     requires { (record_size * b + record_size ≤ length records.now) × (g < 8) }
     ensures { result ≡ slice_index (record_at records.now b).numbers g }
 {
-    word::le8(records, RECORD * b + NUMBERS + 8 * g)
+    word::le::<8>(records, RECORD * b + NUMBERS + 8 * g)
 }
 
 pub fn count(records: &[u8], b: usize) -> usize
@@ -181,7 +181,7 @@ pub fn set_start(records: &mut [u8], b: usize, g: usize, v: u8)
     requires { (b < 2 ^ 20) × (g < 9) }
     ensures { records.new ≡ start_set b g v records.old }
 {
-    word::store8(records, RECORD * b + g, v);
+    word::store(records, RECORD * b + g, v);
 }
 
 // All starts from the g-th on. The first is 0 in every record that is written, so that it is never stored.
@@ -196,7 +196,7 @@ pub fn set_flag(records: &mut [u8], b: usize, g: usize, v: u8)
     requires { (b < 2 ^ 20) × (g < 8) }
     ensures { records.new ≡ flag_set b g v records.old }
 {
-    word::store8(records, RECORD * b + FLAGS + g, v);
+    word::store(records, RECORD * b + FLAGS + g, v);
 }
 
 pub fn set_number(records: &mut [u8], b: usize, g: usize, v: u64)
@@ -211,14 +211,14 @@ pub fn put_number(records: &mut [u8], b: usize, g: usize, v: u64)
     requires { (record_size * b + record_size ≤ length records.old) × (g < 8) }
     ensures { records.new ≡ number_set b g v records.old }
 {
-    word::put8(records, RECORD * b + NUMBERS + 8 * g, v);
+    word::put::<8>(records, RECORD * b + NUMBERS + 8 * g, v);
 }
 
 pub fn set_count(records: &mut [u8], b: usize, v: u8)
     requires { b < 2 ^ 20 }
     ensures { records.new ≡ count_set b v records.old }
 {
-    word::store8(records, RECORD * b + COUNT, v);
+    word::store(records, RECORD * b + COUNT, v);
 }
 
 // ---- a record's packed forms: eight sizes in four bits each and eight flags in one bit each, the first lowest
@@ -261,7 +261,7 @@ fn put_groups(groups: &[u64; 8], out: &mut [u8], at: usize)
 {
     let mut i: usize = 0;
     while i < 8 {
-        word::put8(out, at + 8 * i, groups[i]);
+        word::put::<8>(out, at + 8 * i, groups[i]);
         i += 1;
     }
 }
@@ -295,7 +295,7 @@ pub fn pack_indptr_deltas(records: &[u8], b: usize) -> u64
     let mut i: usize = 8;
     while 0 < i {
         i = i - 1;
-        v = v * 16 + word::wide(records[at + i + 1] - records[at + i]);
+        v = v * 16 + u64::from(records[at + i + 1] - records[at + i]);
     }
     v
 }
@@ -324,7 +324,7 @@ pub fn group_number(codes: &[u8]) -> u64
     let mut i = codes.len();
     while 0 < i {
         i = i - 1;
-        v = v * 128 + word::wide(codes[i]);
+        v = v * 128 + u64::from(codes[i]);
     }
     v
 }
@@ -364,7 +364,7 @@ fn load_words(s: &[u8], at: usize) -> [u64; 8]
     let mut out = [0u64; 8];
     let mut i: usize = 0;
     while i < 8 {
-        out[i] = word::le8(s, at + 8 * i);
+        out[i] = word::le::<8>(s, at + 8 * i);
         i += 1;
     }
     out

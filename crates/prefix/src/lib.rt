@@ -162,15 +162,15 @@ pub fn table(
     ensures { Answered (table_of (table_by which) 8 (arena codes.now values.now records.now) (length out.old)) result out.old out.new }
 {
     if let Err(refusal) = checks::padding(codes, values, records) {
-        word::zero_words(out, 0);
+        word::zero_after(out, 0);
         return Err(refusal);
     }
     let entries = fill(records, which, out);
     if out.len() < entries {
-        word::zero_words(out, 0);
+        word::zero_after(out, 0);
         return Err(Refusal::NoRoom);
     }
-    word::zero_words(out, entries);
+    word::zero_after(out, entries);
     Ok(entries)
 }
 

@@ -66,7 +66,7 @@ fn close(draft: Draft) -> Draft
     ensures { result ≡ closed_draft draft }
 {
     let a = draft.acc;
-    let pad = word::wide(a.padding());
+    let pad = u64::from(a.padding());
     let u = unit(a.cur);
     let size = a.inside as u64 + pad;
     let acc = a.turn();

@@ -32,9 +32,9 @@ fn number_in(s: &[u8], at: usize, t: u32) -> u64
     ensures { result ≡ le_at (t + 1) s.now at / 2 ^ (t + 1) }
 {
     match t {
-        0 => word::wide(s[at]) / 2,
-        1 => word::le2(s, at) / 4,
-        _ => (word::le2(s, at) + 65536 * word::wide(s[at + 2])) / 8,
+        0 => u64::from(s[at]) / 2,
+        1 => word::le::<2>(s, at) / 4,
+        _ => (word::le::<2>(s, at) + 65536 * u64::from(s[at + 2])) / 8,
     }
 }
 
@@ -101,10 +101,10 @@ pub fn write_count(out: &mut [u8], at: usize, v: u64) -> usize
         return at + 1;
     }
     if v < 16384 {
-        word::put2(out, at, v * 4 + 2);
+        word::put::<2>(out, at, v * 4 + 2);
         return at + 2;
     }
-    word::put2(out, at, v * 8 + 4);
+    word::put::<2>(out, at, v * 8 + 4);
     out[at + 2] = ((v * 8 + 4) / 65536) as u8;
     at + 3
 }
@@ -135,7 +135,7 @@ pub fn read_op(table: &[u8; 128], s: &[u8], at: usize, i: usize) -> Result<Item<
     if s.len() - at < 9 {
         return Err(Refusal::CutShort { byte: at });
     }
-    let value = word::le8(s, at + 1);
+    let value = word::le::<8>(s, at + 1);
     if operation::FIELD <= value {
         return Err(Refusal::BadValue { operation: i });
     }
@@ -154,7 +154,7 @@ pub fn write_op(table: &[u8; 128], out: &mut [u8], at: usize, code: u8, v: u64) 
     if table[code as usize] == 0 {
         return at + 1;
     }
-    word::put8(out, at + 1, v);
+    word::put::<8>(out, at + 1, v);
     at + 9
 }
 
@@ -166,7 +166,7 @@ pub fn read_batch_count(s: &[u8], at: usize) -> Result<Item<u64>, Refusal>
     if s.len() <= at || s.len() - at < 4 {
         return Err(Refusal::CutShort { byte: at });
     }
-    let value = word::le4(s, at);
+    let value = word::le::<4>(s, at);
     let room = (s.len() - (at + 4)) / 5;
     if (room as u64) < value {
         return Err(Refusal::TooManyBatches);

@@ -1,2 +1,3 @@
+mod Bytes
 pub mod Fill
-pub mod Numbers
+mod Zeros

@@ -1,104 +1,39 @@
 // Bytes and words in lent runs: little-endian numbers, stores that fall away past the end, zeroed tails.
 #![tactic(auto)]
 
-ghost use Rattle.std.specs.Prelude.{◌≡◌, ◌+◌, ◌≤◌, ◌<◌, ◌^◌, length, take, set, replicate};
+ghost use Rattle.std.specs.Prelude.{◌≡◌, ◌+◌, ◌-◌, ◌*◌, ◌≤◌, ◌<◌, ◌^◌, ◌++◌, ℕ, List, length, take, set, replicate, pos};
 ghost use Rattle.std.proofs.lemmas.List.Edits.{sets};
 ghost use Rattle.rules.specs.Digits.{le_at, le_bytes};
 ghost use Rattle.rules.specs.Lists.{fitted};
-ghost use Rattle.word.specs.Numbers.{zeroed};
-
-// A byte, widened.
-pub fn wide(x: u8) -> u64
-    ensures { (result ≡ x) × (result < 256) }
-{
-    x as u64
-}
+ghost use Rattle.word.specs.Numbers.{zeroed, fitted_after, zeroed_after};
 
 // ---- little-endian numbers
 
-// The two bytes from `at`.
-pub fn le2(s: &[u8], at: usize) -> u64
-    requires { at + 2 ≤ length s.now }
-    ensures { (result ≡ le_at 2 s.now at) × (result < 65536) }
+// The number that the N bytes from `at` make.
+pub fn le<const N: usize>(s: &[u8], at: usize) -> u64
+    requires { (N ≤ 8) × (at + N ≤ length s.now) }
+    ensures { (result ≡ le_at N s.now at) × (result < 256 ^ N) }
 {
-    wide(s[at]) + 256 * wide(s[at + 1])
+    let mut bytes = [0; 8];
+    bytes[..N].copy_from_slice(&s[at..at + N]);
+    u64::from_le_bytes(bytes)
 }
 
-pub fn le4(s: &[u8], at: usize) -> u64
-    requires { at + 4 ≤ length s.now }
-    ensures { (result ≡ le_at 4 s.now at) × (result < 2 ^ 32) }
+// The N lowest bytes of v, stored from `at` on.
+pub fn put<const N: usize>(out: &mut [u8], at: usize, v: u64)
+    requires { (N ≤ 8) × (at + N ≤ length out.old) }
+    ensures { out.new ≡ sets out.old at (le_bytes N v) }
 {
-    le2(s, at) + 65536 * le2(s, at + 2)
-}
-
-pub fn le8(s: &[u8], at: usize) -> u64
-    requires { at + 8 ≤ length s.now }
-    ensures { result ≡ le_at 8 s.now at }
-{
-    le4(s, at) + 4294967296 * le4(s, at + 4)
-}
-
-// The two lowest bytes of v, stored from `at` on.
-pub fn put2(out: &mut [u8], at: usize, v: u64)
-    requires { at + 2 ≤ length out.old }
-    ensures { out.new ≡ sets out.old at (le_bytes 2 v) }
-{
-    out[at] = (v % 256) as u8;
-    out[at + 1] = (v / 256 % 256) as u8;
-}
-
-pub fn put4(out: &mut [u8], at: usize, v: u64)
-    requires { at + 4 ≤ length out.old }
-    ensures { out.new ≡ sets out.old at (le_bytes 4 v) }
-{
-    put2(out, at, v);
-    put2(out, at + 2, v / 65536);
-}
-
-pub fn put8(out: &mut [u8], at: usize, v: u64)
-    requires { at + 8 ≤ length out.old }
-    ensures { out.new ≡ sets out.old at (le_bytes 8 v) }
-{
-    put4(out, at, v);
-    put4(out, at + 4, v / 4294967296);
+    out[at..at + N].copy_from_slice(&v.to_le_bytes()[..N]);
 }
 
 // ---- stores that fall away past the end, as `set` and `sets` do on lists
 
-pub fn store8(out: &mut [u8], at: usize, v: u8)
+pub fn store<T: Copy>(out: &mut [T], at: usize, v: T)
     ensures { out.new ≡ set out.old at v }
 {
     if at < out.len() {
         out[at] = v;
-    }
-}
-
-pub fn store64(out: &mut [u64], at: usize, v: u64)
-    ensures { out.new ≡ set out.old at v }
-{
-    if at < out.len() {
-        out[at] = v;
-    }
-}
-
-pub fn store32(out: &mut [i32], at: usize, v: i32)
-    ensures { out.new ≡ set out.old at v }
-{
-    if at < out.len() {
-        out[at] = v;
-    }
-}
-
-fn put_some(out: &mut [u8], at: usize, v: u64)
-    requires { at < 2 ^ 62 }
-    ensures { out.new ≡ sets out.old at (le_bytes 8 v) }
-{
-    let mut left = v;
-    let mut i: usize = 0;
-    while i < 8 {
-        store8(out, at + i, (left % 256) as u8);
-        left = left / 256;
-        i += 1;
     }
 }
 
@@ -108,10 +43,21 @@ pub fn store_le8(out: &mut [u8], at: usize, v: u64)
     ensures { out.new ≡ sets out.old at (le_bytes 8 v) }
 {
     if at + 8 <= out.len() {
-        put8(out, at, v);
-        return;
+        put::<8>(out, at, v);
+    } else {
+        put_some(out, at, v);
     }
-    put_some(out, at, v);
+}
+
+fn put_some(out: &mut [u8], at: usize, v: u64)
+    requires { at < 2 ^ 62 }
+    ensures { out.new ≡ sets out.old at (le_bytes 8 v) }
+{
+    let mut left = v;
+    for i in 0..8 {
+        store(out, at + i, (left % 256) as u8);
+        left /= 256;
+    }
 }
 
 // n copies of a byte.
@@ -119,10 +65,8 @@ pub fn fill8(out: &mut [u8], at: usize, n: usize, v: u8)
     requires { (at < 2 ^ 62) × (n < 2 ^ 62) }
     ensures { out.new ≡ sets out.old at (replicate n v) }
 {
-    let mut i: usize = 0;
-    while i < n {
-        store8(out, at + i, v);
-        i += 1;
+    for i in 0..n {
+        store(out, at + i, v);
     }
 }
 
@@ -133,53 +77,66 @@ pub fn fill_few(out: &mut [u8], at: usize, n: usize, v: u8)
 {
     if out.len() < at + n {
         fill8(out, at, n, v);
-        return;
-    }
-    if 4 <= n {
-        let same = wide(v) * 16843009;
-        put4(out, at, same);
-        put4(out, at + n - 4, same);
-        return;
-    }
-    if 2 <= n {
-        let same = wide(v) * 257;
-        put2(out, at, same);
-        put2(out, at + n - 2, same);
-        return;
-    }
-    if n == 1 {
+    } else if 4 <= n {
+        let same = u64::from(v) * 0x0101_0101;
+        put::<4>(out, at, same);
+        put::<4>(out, at + n - 4, same);
+    } else if 2 <= n {
+        let same = u64::from(v) * 0x0101;
+        put::<2>(out, at, same);
+        put::<2>(out, at + n - 2, same);
+    } else if n == 1 {
         out[at] = v;
     }
 }
 
 // ---- zeroed tails: what the run begins with stays, up to index k
 
-pub fn zero_bytes(out: &mut [u8], k: usize)
-    ensures { out.new ≡ fitted (length out.old) (take k out.old) }
-{
-    let mut i = k;
-    while i < out.len() {
-        out[i] = 0;
-        i += 1;
-    }
+// A number, and how a run of such is said to be zeroed after its first k.
+pub trait Number: Copy {
+    const ZERO: Self;
+
+    ghost ZERO: { Self };
+
+    ghost zeroed: { List Self → ℕ → List Self };
+
+    ghost kept_then_zeros: { (s : List Self) (k : ℕ) → zeroed s k ≡ take k s ++ replicate (length s - k) ZERO };
 }
 
-pub fn zero_words(out: &mut [u64], k: usize)
-    ensures { out.new ≡ fitted (length out.old) (take k out.old) }
-{
-    let mut i = k;
-    while i < out.len() {
-        out[i] = 0;
-        i += 1;
-    }
+impl Number for u8 {
+    const ZERO: u8 = 0;
+
+    ghost ZERO = { 0 };
+
+    ghost zeroed = { λ s k. fitted (length s) (take k s) };
+
+    ghost kept_then_zeros = { fitted_after };
 }
 
-pub fn zero_numbers(out: &mut [i32], k: usize)
-    ensures { out.new ≡ zeroed out.old k }
+impl Number for u64 {
+    const ZERO: u64 = 0;
+
+    ghost ZERO = { 0 };
+
+    ghost zeroed = { λ s k. fitted (length s) (take k s) };
+
+    ghost kept_then_zeros = { fitted_after };
+}
+
+impl Number for i32 {
+    const ZERO: i32 = 0;
+
+    ghost ZERO = { pos 0 };
+
+    ghost zeroed = { zeroed };
+
+    ghost kept_then_zeros = { zeroed_after };
+}
+
+pub fn zero_after<T: Number>(out: &mut [T], k: usize)
+    ensures { out.new ≡ T.zeroed out.old k }
 {
-    let mut i = k;
-    while i < out.len() {
-        out[i] = 0;
-        i += 1;
+    for i in k..out.len() {
+        out[i] = T::ZERO;
     }
 }

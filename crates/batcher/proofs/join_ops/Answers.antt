@@ -8,11 +8,11 @@ use Rattle.batcher.proofs.join_ops.Goals as goal
 
 pub overflow_mul-number : goal.overflow_mul-number
 overflow_mul-number c =
-    rw c.wide.ensures.0 (omega (arith, joined_fits _ _ (joins_small c.in-Some.ensures.1) (going_good c.loop-n.invariant.1) (omega (arith, c.most-end.ensures, c.loop-n-test.true))))
+    rw c.from.ensures (omega (arith, joined_fits _ _ (joins_small c.in-Some.ensures.1) (going_good c.loop-n.invariant.1) (omega (arith, c.most-end.ensures, c.loop-n-test.true))))
 
 pub overflow_add-number : goal.overflow_add-number
 overflow_add-number c =
-    rw c.wide.ensures.0 (omega (arith, joined_fits _ _ (joins_small c.in-Some.ensures.1) (going_good c.loop-n.invariant.1) (omega (arith, c.most-end.ensures, c.loop-n-test.true))))
+    rw c.from.ensures (omega (arith, joined_fits _ _ (joins_small c.in-Some.ensures.1) (going_good c.loop-n.invariant.1) (omega (arith, c.most-end.ensures, c.loop-n-test.true))))
 
 pub overflow_mul-unit : goal.overflow_mul-unit
 overflow_mul-unit c = omega (arith, joined_fits _ _ (joins_small c.in-Some.ensures.1) (going_good c.loop-n.invariant.1) (omega (arith, c.most-end.ensures, c.loop-n-test.true)))
@@ -24,6 +24,6 @@ loop-n-preserved c =
     let j = c.in-Some.ensures.1 in
     let e : a.i + (l.n + 1) - 1 ≡ a.i + l.n = omega arith in (
       λ h. rw e (joins_small j),
-      rw c.wide.ensures.0
+      rw c.from.ensures
           (going_more a.work a.i l.n l.next l.number l.unit l.invariant.1 c.requires.sizes.3 c.requires.sizes.4 (omega arith) j c.in-Some.ensures.0 (omega (arith, c.most-end.ensures, c.loop-n-test.true)) (omega (arith, c.most-end.ensures, c.loop-n-test.true)) (omega (arith, c.requires.sizes, c.most-end.ensures, c.loop-n-test.true)) c.keep.ensures),
     )

@@ -6,4 +6,4 @@ use Rattle.batcher.proofs.slots.Goals as goal
 pub returns : goal.returns
 returns c =
     let a = c.args in
-    (omega arith, record { kind = refl; fine = fine a.table.now a.code a.v (omega arith) (omega arith) (omega arith) (rw c.wide.ensures.0 at c.if-wide-v.false); slot = omega arith; here = omega arith })
+    (omega arith, record { kind = refl; fine = fine a.table.now a.code a.v (omega arith) (omega arith) (omega arith) (rw c.from.ensures at c.if-from-v.false); slot = omega arith; here = omega arith })

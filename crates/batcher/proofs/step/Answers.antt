@@ -30,4 +30,4 @@ pub returns : goal.returns
 unfolding stepped_work stepped_run
 returns c =
     let m = c.make_room-r.ensures in
-    let e = c.add_op-acc.ensures in record { work = rw (e.acc, m.work); codes = c.store8.ensures ∙ rw (e.acc, m.work); values = c.store64.ensures ∙ rw (e.acc, m.work); run = e.run ∙ rw (m.work, m.run) }
+    let e = c.add_op-acc.ensures in record { work = rw (e.acc, m.work); codes = c.store.ensures ∙ rw (e.acc, m.work); values = c.store-2.ensures ∙ rw (e.acc, m.work); run = e.run ∙ rw (m.work, m.run) }

@@ -31,22 +31,22 @@ returns-then-next-gt8 c =
 pub overflow_mul-number : goal.overflow_mul-number
 overflow_mul-number c =
     let l = c.loop-i in
-    omega (arith, walk_room _ _ _ _ _ _ _ _ _ _ _ l.invariant.0 (omega arith) c.wide.result (omega arith))
+    omega (arith, walk_room _ _ _ _ _ _ _ _ _ _ _ l.invariant.0 (omega arith) c.from.result (omega arith))
 
 pub overflow_add-number : goal.overflow_add-number
 overflow_add-number c =
     let l = c.loop-i in
-    omega (arith, walk_room _ _ _ _ _ _ _ _ _ _ _ l.invariant.0 (omega arith) c.wide.result (omega arith))
+    omega (arith, walk_room _ _ _ _ _ _ _ _ _ _ _ l.invariant.0 (omega arith) c.from.result (omega arith))
 
 pub overflow_mul-unit : goal.overflow_mul-unit
 overflow_mul-unit c =
     let l = c.loop-i in
-    omega (arith, walk_room _ _ _ _ _ _ _ _ _ _ _ l.invariant.0 (omega arith) c.wide.result (omega arith))
+    omega (arith, walk_room _ _ _ _ _ _ _ _ _ _ _ l.invariant.0 (omega arith) c.from.result (omega arith))
 
 pub loop-i-preserved : goal.loop-i-preserved
 loop-i-preserved c =
     let l = c.loop-i in
-    (walk_next _ _ _ _ _ _ _ _ _ _ _ l.invariant.0 (omega arith) c.if-code-ge128.false _ c.slot_after-next.ensures (omega (arith, c.if-next-gt8.false)) _ c.wide.ensures.0, l.invariant.1)
+    (walk_next _ _ _ _ _ _ _ _ _ _ _ l.invariant.0 (omega arith) c.if-code-ge128.false _ c.slot_after-next.ensures (omega (arith, c.if-next-gt8.false)) _ c.from.ensures, l.invariant.1)
 
 pub returns : goal.returns
 returns c =

@@ -9,6 +9,6 @@ use Rattle.crossing.proofs.bytes_out.Goals as goal
 pub returns : goal.returns
 returns c =
     let a = c.args in
-    c.zero_bytes.ensures
+    c.zero_after.ensures
     ∙ ap (λ (d : List ℕ). fitted (length d) (take (8 * length a.words.now) d)) c.put_words.ensures
     ∙ bytes_left a.out.now a.words.now c.requires

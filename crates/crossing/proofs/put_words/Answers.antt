@@ -13,7 +13,7 @@ pub loop-i-preserved : goal.loop-i-preserved
 loop-i-preserved c =
     let l = c.loop-i in
     let w = c.args.words.now in
-    ap (λ (d : List ℕ). sets d (8 * (l.i + 1)) (word_bytes (drop (l.i + 1) w))) c.put8.ensures ∙ out_turn l.out w l.i (omega arith) ∙ l.invariant
+    ap (λ (d : List ℕ). sets d (8 * (l.i + 1)) (word_bytes (drop (l.i + 1) w))) c.put.ensures ∙ out_turn l.out w l.i (omega arith) ∙ l.invariant
 
 pub returns : goal.returns
 returns c = let l = c.loop-i in let w = c.args.words.now in sym (stored_end w l.i l.out (8 * l.i) (omega arith)) ∙ l.invariant

@@ -13,7 +13,7 @@ pub loop-i-preserved : goal.loop-i-preserved
 loop-i-preserved c =
     let l = c.loop-i in
     let s = c.args.s.now in
-    ap (λ (v : ℕ). sets (set l.work l.i v) (l.i + 1) (left s (l.i + 1))) c.le8.ensures ∙ in_turn l.work s l.i (omega arith) ∙ l.invariant
+    ap (λ (v : ℕ). sets (set l.work l.i v) (l.i + 1) (left s (l.i + 1))) c.le.ensures.0 ∙ in_turn l.work s l.i (omega arith) ∙ l.invariant
 
 pub returns : goal.returns
 returns c =

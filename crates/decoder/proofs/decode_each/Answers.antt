@@ -11,7 +11,7 @@ loop-b-init c = (omega arith, refl, B.start _ _ _ _ _ _ _ _)
 pub returns-in_err-batch : goal.returns-in_err-batch
 returns-in_err-batch c =
     let l = c.loop-b in
-    rw (B.stop _ _ _ _ _ _ _ _ _ _ l.invariant.2 (omega arith) _ c.le4.ensures.0 _ _ (refused_by_lem c.in_err-batch.ensures refl)) (record { reply = handed _ _ c.from_residual.ensures.1; left = tt })
+    rw (B.stop _ _ _ _ _ _ _ _ _ _ l.invariant.2 (omega arith) _ c.le.ensures.0 _ _ (refused_by_lem c.in_err-batch.ensures refl)) (record { reply = handed _ _ c.from_residual.ensures.1; left = tt })
 
 pub loop-b-preserved : goal.loop-b-preserved
 loop-b-preserved c =
@@ -20,7 +20,7 @@ loop-b-preserved c =
     let q = r.holds in (
       q.2,
       c.decode_batch.auto.records ∙ l.invariant.1,
-      rw q.0 (B.turn _ _ _ _ _ _ _ _ _ _ l.invariant.2 (omega arith) _ c.le4.ensures.0 _ _ r.is q.1 (omega (arith, c.requires.k_in_bounds.2))),
+      rw q.0 (B.turn _ _ _ _ _ _ _ _ _ _ l.invariant.2 (omega arith) _ c.le.ensures.0 _ _ r.is q.1 (omega (arith, c.requires.k_in_bounds.2))),
     )
 
 pub returns : goal.returns

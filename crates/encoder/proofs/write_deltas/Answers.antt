@@ -16,7 +16,7 @@ pub loop-b-preserved : goal.loop-b-preserved
 loop-b-preserved c =
     let l = c.loop-b in
     let a = c.args in
-    let w = c.put4 in
+    let w = c.put in
     (omega arith, w.auto.out ∙ l.invariant.1, rw (w.ensures, c.pack_indptr_deltas.ensures) (deltas_turn a.records.now _ l.b l.out a.at (omega arith)) ∙ l.invariant.2)
 
 pub shape_of-out : goal.shape_of-out

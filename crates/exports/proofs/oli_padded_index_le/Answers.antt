@@ -20,8 +20,8 @@ overflow_mul-raw c =
     let h = inside _ c.args.raw (sym c.has_word.ensures ∙ c.if-not-has_word.false) in
     search rules
 
-pub le8-entry-requires : goal.le8-entry-requires
-le8-entry-requires c =
+pub le-entry-requires : goal.le-entry-requires
+le-entry-requires c =
     let h = inside _ c.args.raw (sym c.has_word.ensures ∙ c.if-not-has_word.false) in
     search rules
 
@@ -30,5 +30,5 @@ returns c =
     let a = c.args in
     let h = sym c.has_word.ensures ∙ c.if-not-has_word.false in
     c.flat_padded.ensures
-    ∙ ap flat_padded (c.padded_by-r.ensures ∙ ap (λ (e : ℕ). padded_found (padded_by e (raw_at a.raw))) c.le8-entry.ensures ∙ ap padded_found (sym (padded_found_lem a.table.now a.raw h)))
+    ∙ ap flat_padded (c.padded_by-r.ensures ∙ ap (λ (e : ℕ). padded_found (padded_by e (raw_at a.raw))) c.le-entry.ensures.0 ∙ ap padded_found (sym (padded_found_lem a.table.now a.raw h)))
     ∙ cross_padded (in_whole a.table.now (padded_index (words_in a.table.now) (raw_at a.raw)))

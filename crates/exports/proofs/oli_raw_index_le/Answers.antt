@@ -20,8 +20,8 @@ overflow_mul-padded c =
     let h = inside _ c.args.padded (sym c.has_word.ensures ∙ c.if-not-has_word.false) in
     search rules
 
-pub le8-entry-requires : goal.le8-entry-requires
-le8-entry-requires c =
+pub le-entry-requires : goal.le-entry-requires
+le-entry-requires c =
     let h = inside _ c.args.padded (sym c.has_word.ensures ∙ c.if-not-has_word.false) in
     search rules
 
@@ -30,5 +30,5 @@ returns c =
     let a = c.args in
     let h = sym c.has_word.ensures ∙ c.if-not-has_word.false in
     c.flat_raw.ensures
-    ∙ ap flat_raw (c.raw_by-r.ensures ∙ ap (λ (e : ℕ). raw_found (raw_by e (padded_at a.padded))) c.le8-entry.ensures ∙ ap raw_found (sym (raw_found_lem a.table.now a.padded h)))
+    ∙ ap flat_raw (c.raw_by-r.ensures ∙ ap (λ (e : ℕ). raw_found (raw_by e (padded_at a.padded))) c.le-entry.ensures.0 ∙ ap raw_found (sym (raw_found_lem a.table.now a.padded h)))
     ∙ cross_raw (in_whole a.table.now (raw_index (words_in a.table.now) (padded_at a.padded)))

@@ -6,4 +6,4 @@ use Rattle.exports.proofs.table_le.Goals as goal
 
 pub returns-then-not-few_words : goal.returns-then-not-few_words
 unfolding table_of in_row
-returns-then-not-few_words c = let a = c.args in rw (checked_broken a.values.now a.codes.now a.records.now (sym c.few_words.ensures ∙ c.if-not-few_words.true)) (record { reply = refl; left = c.zero_bytes.ensures })
+returns-then-not-few_words c = let a = c.args in rw (checked_broken a.values.now a.codes.now a.records.now (sym c.few_words.ensures ∙ c.if-not-few_words.true)) (record { reply = refl; left = c.zero_after.ensures })

@@ -3,4 +3,4 @@ use Rattle.op_batch.proofs.Right.{number_at}
 use Rattle.op_batch.proofs.number.Goals as goal
 
 pub returns : goal.returns
-returns c = let a = c.args in c.le8.ensures ∙ sym (number_at a.records.now a.b a.g (omega arith))
+returns c = let a = c.args in c.le.ensures.0 ∙ sym (number_at a.records.now a.b a.g (omega arith))

@@ -9,7 +9,7 @@ pub loop-i-preserved : goal.loop-i-preserved
 loop-i-preserved c =
     let a = c.args in
     let l = c.loop-i in
-    let w = c.put8 in
+    let w = c.put in
     (omega arith, w.auto.out ∙ l.invariant.1, rw w.ensures (stored_turn a.groups.now l.i l.out a.at (omega arith) ∙ l.invariant.2))
 
 pub shape_of-out : goal.shape_of-out

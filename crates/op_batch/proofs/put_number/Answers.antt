@@ -3,4 +3,4 @@ use Rattle.op_batch.proofs.put_number.Goals as goal
 
 pub returns : goal.returns
 unfolding number_set
-returns c = c.put8.ensures
+returns c = c.put.ensures

@@ -3,4 +3,4 @@ use Rattle.op_batch.proofs.set_flag.Goals as goal
 
 pub returns : goal.returns
 unfolding flag_set
-returns c = c.store8.ensures
+returns c = c.store.ensures

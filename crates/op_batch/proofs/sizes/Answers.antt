@@ -5,8 +5,8 @@ use Rattle.op_batch.proofs.sizes.Goals as goal
 
 pub overflow_sub-result : goal.overflow_sub-result
 unfolding record_at
-overflow_sub-result c = omega (arith, c.le8-2.ensures, c.le8.ensures, sizes_at_lem 8 _ _ c.requires.1)
+overflow_sub-result c = omega (arith, c.le-2.ensures.0, c.le.ensures.0, sizes_at_lem 8 _ _ c.requires.1)
 
 pub returns : goal.returns
 unfolding record_at
-returns c = omega (arith, c.le8-2.ensures, c.le8.ensures, sizes_at_lem 8 _ _ c.requires.1)
+returns c = omega (arith, c.le-2.ensures.0, c.le.ensures.0, sizes_at_lem 8 _ _ c.requires.1)

@@ -6,7 +6,7 @@ use Rattle.prefix.proofs.Entries.{refused_way, no_room, made}
 use Rattle.prefix.proofs.table.Goals as goal
 
 pub returns-in-Err : goal.returns-in-Err
-returns-in-Err c = let a = c.args in refused_way a.which _ _ a.out.now _ _ c.in-Err.ensures c.zero_words.ensures
+returns-in-Err c = let a = c.args in refused_way a.which _ _ a.out.now _ _ c.in-Err.ensures c.zero_after.ensures
 
 pub fill-entries-requires : goal.fill-entries-requires
 fill-entries-requires c =
@@ -16,9 +16,9 @@ fill-entries-requires c =
 pub returns-then-out-entries : goal.returns-then-out-entries
 returns-then-out-entries c =
     let a = c.args in
-    no_room a.which _ _ a.out.now (sym c.in_default.ensures) _ _ c.fill-entries.ensures _ (omega (arith, c.if-out-entries.true)) c.fill-entries.auto.out c.zero_words-then-out-entries.ensures
+    no_room a.which _ _ a.out.now (sym c.in_default.ensures) _ _ c.fill-entries.ensures _ (omega (arith, c.if-out-entries.true)) c.fill-entries.auto.out c.zero_after-then-out-entries.ensures
 
 pub returns : goal.returns
 returns c =
     let a = c.args in
-    made a.which _ _ a.out.now (sym c.in_default.ensures) _ _ c.fill-entries.ensures _ (omega (arith, c.if-out-entries.false)) c.fill-entries.auto.out c.zero_words-2.ensures
+    made a.which _ _ a.out.now (sym c.in_default.ensures) _ _ c.fill-entries.ensures _ (omega (arith, c.if-out-entries.false)) c.fill-entries.auto.out c.zero_after-2.ensures

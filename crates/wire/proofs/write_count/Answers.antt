@@ -15,8 +15,8 @@ returns-then-v-lt128 c =
     let a = c.args in
     rw (more_0 a.v (omega arith)) (omega arith, ap (λ (x : ℕ). set a.out.now a.at x) (omega arith))
 
-pub put2-requires : goal.put2-requires
-put2-requires c =
+pub put-requires : goal.put-requires
+put-requires c =
     let a = c.args in
     omega (arith, more_1 a.v (omega arith) (omega arith))
 
@@ -25,17 +25,17 @@ unfolding count_bytes
 returns-then-v-lt16384 c =
     let a = c.args in
     rw (more_1 a.v (omega arith) (omega arith))
-    (omega arith, c.put2.ensures ∙ ap (λ (x : ℕ). sets a.out.now a.at (le_bytes 2 x)) (omega arith))
+    (omega arith, c.put.ensures ∙ ap (λ (x : ℕ). sets a.out.now a.at (le_bytes 2 x)) (omega arith))
 
-pub put2-requires-2 : goal.put2-requires-2
-put2-requires-2 c =
+pub put-requires-2 : goal.put-requires-2
+put-requires-2 c =
     let a = c.args in
     omega (arith, more_2 a.v (omega arith))
 
 pub bounds-out-at-2 : goal.bounds-out-at-2
 bounds-out-at-2 c =
     let a = c.args in
-    omega (arith, more_2 a.v (omega arith), c.put2-2.auto.out)
+    omega (arith, more_2 a.v (omega arith), c.put-2.auto.out)
 
 pub returns : goal.returns
 unfolding count_bytes digits
@@ -46,4 +46,4 @@ returns c =
     let h : x / 65536 ≡ x / 256 / 256 % 256 = omega arith in
     let f : a.at + 2 ≡ suc (suc a.at) = omega arith in
     rw (more_2 a.v (omega arith), e)
-    (omega arith, ap (λ (l : List ℕ). set l (a.at + 2) (x / 65536)) c.put2-2.ensures ∙ rw (h, f))
+    (omega arith, ap (λ (l : List ℕ). set l (a.at + 2) (x / 65536)) c.put-2.ensures ∙ rw (h, f))

@@ -17,19 +17,19 @@ returns-then-table-code-eq0 c =
     let a = c.args in
     rw (op_plain a.table.now a.code a.v (omega arith) c.if-table-code-eq0.true) (refl, refl)
 
-pub put8-requires : goal.put8-requires
+pub put-requires : goal.put-requires
 unfolding digits
-put8-requires c =
+put-requires c =
     let a = c.args in
     simp length-set (omega (arith, ap length (op_valued a.table.now a.code a.v (omega arith) c.if-table-code-eq0.false)))
 
 pub shape_of-out : goal.shape_of-out
 shape_of-out c =
     let a = c.args in
-    c.put8.auto.out ∙ length-set a.out.now a.at a.code
+    c.put.auto.out ∙ length-set a.out.now a.at a.code
 
 pub returns : goal.returns
 returns c =
     let a = c.args in
     rw (op_valued a.table.now a.code a.v (omega arith) (omega arith))
-    (rw length_le_bytes (omega arith), c.put8.ensures ∙ rw add-one)
+    (rw length_le_bytes (omega arith), c.put.ensures ∙ rw add-one)

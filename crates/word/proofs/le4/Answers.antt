@@ -1,8 +1,0 @@
-use native.Mathlib.Omega.{arith}
-use Rattle.rules.proofs.Digits.{le_at_split}
-use Rattle.word.proofs.le4.Goals as goal
-
-pub returns : goal.returns
-returns c =
-    let a = c.args in
-    omega (arith, le_at_split 2 2 a.s.now a.at)
