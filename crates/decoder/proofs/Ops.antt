@@ -21,7 +21,7 @@ use Rattle.rules.proofs.Operations.{op, true_left, codes_back, op_guards, value_
 use Rattle.std.specs.Prelude.{Ok}
 use Rattle.wire.specs.declared.Item.{Item}
 use Rattle.wire.specs.Stages.{IfFound, Staged}
-use Rattle.unpacker.specs.Groups.{Coded}
+use Rattle.unpacker.specs.Coded.{Coded}
 use Rattle.decoder.specs.Stages.{OpsIn, items_at}
 use Rattle.wire.proofs.Stages.{onto, onto_then, onto_found, if_then, if_refuse, held, found_by}
 use Rattle.rules.proofs.Sizes.{length_codes, length_values}

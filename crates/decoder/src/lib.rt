@@ -3,19 +3,21 @@
 
 ghost use Rattle.std.specs.Prelude.{◌≡◌, List, ℕ, ◌+◌, ◌*◌, ◌≤◌, ◌<◌, length};
 ghost use Rattle.rules.specs.Digits.{le_at};
-ghost use Rattle.rules.specs.Operations.{Op, operations};
+ghost use Rattle.rules.specs.Operations.{Op};
 ghost use Rattle.rules.specs.Record.{Record, record_size};
 ghost use Rattle.rules.specs.Bytes.{ops_at, nibbles_at};
 ghost use Rattle.rules.specs.Block.{Head, batches_at, block_at};
 ghost use Rattle.rules.specs.Functions.{arena, room_in, decoded};
 ghost use Rattle.refusal.specs.Told.{told};
 ghost use Rattle.wire.specs.Stages.{after, Staged, Passed};
-ghost use Rattle.unpacker.specs.Groups.{Coded, RightSizes};
+ghost use Rattle.unpacker.specs.Groups.{RightSizes};
+ghost use Rattle.unpacker.specs.Ops.{ops_in};
 ghost use Rattle.decoder.specs.Replies.{Decodes};
 ghost use Rattle.decoder.specs.Stages.{Reading, tailless};
 ghost use Rattle.decoder.specs.Stages.{OpsIn, RecordsIn, items_at, records_at, sizes_from, flags_from};
 
 use refusal::Refusal;
+use unpacker::Ops;
 use wire::Item;
 
 // A block: how many batches and padded operations, and how many bytes it took.
@@ -93,26 +95,23 @@ fn nibbles_right(s: &[u8], at: usize, k: usize) -> Result<usize, Refusal>
 fn decode_each(
     width: usize,
     table: &[u8; 128],
-    codes: &[u8],
-    values: &[u64],
+    ops: Ops<'_>,
     s: &[u8],
     sizes: usize,
     flags: usize,
     k: usize,
     records: &mut [u8],
 ) -> Result<usize, Refusal>
-    requires operations { (length codes.now ≡ length values.now) × Coded codes.now }
     requires k_in_bounds { (sizes + 4 * k ≤ length s.now) × (flags + k ≤ length s.now) × (record_size * k ≤ length records.old) }
     requires width_bound { (width ≤ 8) × ((b : ℕ) → b < k → RightSizes width (le_at 4 s.now (sizes + 4 * b))) }
-    ensures { Passed (λ (rs : List Record) (end : ℕ). (length rs ≡ k) × RecordsIn records.new rs) (batches_at width table.now (operations codes.now values.now) (sizes_from k s.now sizes) (flags_from k s.now flags)) result }
+    ensures { Passed (λ (rs : List Record) (end : ℕ). (length rs ≡ k) × RecordsIn records.new rs) (batches_at width table.now (ops_in ops.entry) (sizes_from k s.now sizes) (flags_from k s.now flags)) result }
 {
     let mut next = 0;
     for b in 0..k {
         let batch = unpacker::decode_batch(
             width,
             table,
-            codes,
-            values,
+            ops,
             word::le::<4>(s, sizes + 4 * b),
             s[flags + b],
             b,
@@ -128,20 +127,18 @@ fn decode_each(
 fn decode_batches(
     width: usize,
     table: &[u8; 128],
-    codes: &[u8],
-    values: &[u64],
+    ops: Ops<'_>,
     s: &[u8],
     at: usize,
     k: usize,
     records: &mut [u8],
 ) -> Result<usize, Refusal>
-    requires operations { (length codes.now ≡ length values.now) × Coded codes.now }
-    requires width_value { (width ≡ 8) × (at + 5 * k ≤ length s.now) × (record_size * k ≤ length records.old) }
-    ensures { Passed (λ (rs : List Record) (end : ℕ). (length rs ≡ k) × RecordsIn records.new rs × (at ≤ end)) (records_at width table.now s.now (operations codes.now values.now) k at) result }
+    requires { (width ≡ 8) × (at + 5 * k ≤ length s.now) × (record_size * k ≤ length records.old) }
+    ensures { Passed (λ (rs : List Record) (end : ℕ). (length rs ≡ k) × RecordsIn records.new rs × (at ≤ end)) (records_at width table.now s.now (ops_in ops.entry) k at) result }
 {
     let flags = nibbles_right(s, at, k)?;
-    let end = decode_each(width, table, codes, values, s, at, flags, k, records)?;
-    if end < codes.len() {
+    let end = decode_each(width, table, ops, s, at, flags, k, records)?;
+    if end < ops.codes.len() {
         return Err(Refusal::LeftOver);
     }
     Ok(flags + k)
@@ -169,16 +166,11 @@ fn decode_block(
     let room = records.len() / op_batch::RECORD;
     let batches = read_items(table, s, count.next, n, room, out_codes, out_values)?;
     let k = batches.item as usize;
-    let end = decode_batches(
-        width,
-        table,
-        &out_codes[..n],
-        &out_values[..n],
-        s,
-        batches.next,
-        k,
-        records,
-    )?;
+    let ops = Ops {
+        codes: &out_codes[..n],
+        values: &out_values[..n],
+    };
+    let end = decode_batches(width, table, ops, s, batches.next, k, records)?;
     Ok(Decoded {
         batches: k,
         operations: n,

@@ -21,7 +21,8 @@ use Rattle.rules.proofs.Slots.{empty_before, slots}
 use Rattle.rules.proofs.Operations.{kind_at, operations_turn, operations_end, true_left, true_right, codes_operations, part_operations}
 use Rattle.rules.proofs.Runs.{fitted_set, fitted_length}
 use Rattle.rules.proofs.Digits.{digits_turn, digits_end}
-use Rattle.unpacker.specs.Groups.{Coded, glue, behind, onward, Placed}
+use Rattle.unpacker.specs.Coded.{Coded}
+use Rattle.unpacker.specs.Groups.{glue, behind, onward, Placed}
 
 -- ---- immediates of the operations of two runs, from the i-th on
 

@@ -1,5 +1,5 @@
 -- What the walks over one batch find and leave: cited by the contracts of private functions, and `Coded` and `RightSizes` by that of `decode_batch`.
-use Rattle.std.specs.Prelude.{Result, Ok, Err, ◌≡◌, true, List, [], ◌∷◌, ◌++◌, ℕ, ◌-◌, ◌≤◌, ◌<◌, length, get_or, take, drop}
+use Rattle.std.specs.Prelude.{Result, Ok, Err, ◌≡◌, true, List, [], ◌∷◌, ◌++◌, ℕ, ◌-◌, ◌≤◌, take, drop}
 use Rattle.rules.specs.Lists.{fitted, total}
 use Rattle.rules.specs.Digits.{digits}
 use Rattle.rules.specs.Answer.{good, refused, Read, found}
@@ -9,10 +9,6 @@ use Rattle.rules.proofs.Slots.{slots}
 use Rattle.refusal.specs.declared.Refusal.{Refusal}
 use Rattle.refusal.specs.Told.{number_of, place_of}
 use Rattle.wire.specs.declared.Item.{Item}
-
--- opcodes
-abbrev pub Coded : List ℕ → Type 0
-Coded cs = (i : ℕ) → i < length cs → get_or cs i 0 < 128
 
 -- sizes that are not refused: none is over 9, and groups from the width on have no operations
 abbrev pub RightSizes : ℕ → ℕ → Type 0

@@ -1,1 +1,3 @@
+pub mod Coded
 pub mod Groups
+pub mod Ops

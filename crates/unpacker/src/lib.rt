@@ -4,37 +4,39 @@
 ghost use Rattle.std.specs.Prelude.{◌≡◌, true, List, [], ℕ, ◌+◌, ◌*◌, ◌≤◌, ◌<◌, length, take};
 ghost use Rattle.rules.specs.Lists.{fitted, total};
 ghost use Rattle.rules.specs.Digits.{digits};
-ghost use Rattle.rules.specs.Operations.{operations};
 ghost use Rattle.rules.specs.Record.{Record, record_size, record_bytes, immediates};
 ghost use Rattle.rules.specs.Bytes.{up_to};
 ghost use Rattle.rules.specs.Block.{batch_at};
 ghost use Rattle.rules.proofs.Slots.{slots};
 ghost use Rattle.op_batch.specs.Stores.{record_set};
 ghost use Rattle.wire.specs.Stages.{Staged};
-ghost use Rattle.unpacker.specs.Groups.{Coded, RightSizes, Placing};
+ghost use Rattle.unpacker.specs.Groups.{RightSizes, Placing};
+ghost use Rattle.unpacker.specs.Ops.{ops_in};
 
 use refusal::Refusal;
 use wire::Item;
+
+mod ops;
+
+pub use ops::Ops;
 
 // The immediates of a group's operations, each into the next slot, which must be an empty group under the width; `deltas` has the sizes from the slot on.
 // The answer's value has the sizes from the next slot on.
 fn place_immediates(
     width: usize,
     table: &[u8; 128],
-    codes: &[u8],
-    values: &[u64],
+    ops: Ops<'_>,
     b: usize,
     deltas: u64,
     slot: usize,
     groups: &mut [u64; 8],
 ) -> Result<Item<u64>, Refusal>
-    requires operations { (length codes.now ≡ length values.now) × Coded codes.now }
-    requires width_bound { (width ≤ 8) × (slot ≤ width) × (groups.old ≡ fitted 8 (take slot groups.old)) }
-    ensures { Placing width table.now b (immediates table.now (operations codes.now values.now)) groups.old slot deltas groups.new result }
+    requires { (width ≤ 8) × (slot ≤ width) × (groups.old ≡ fitted 8 (take slot groups.old)) }
+    ensures { Placing width table.now b (immediates table.now (ops_in ops.entry)) groups.old slot deltas groups.new result }
 {
     let mut left = deltas;
     let mut next = slot;
-    for (i, code) in codes.iter().enumerate() {
+    for (i, code) in ops.codes.iter().enumerate() {
         if table[*code as usize] != 1 {
             continue;
         }
@@ -44,7 +46,7 @@ fn place_immediates(
         if left % 16 != 0 {
             return Err(Refusal::SlotTaken { batch: b });
         }
-        groups[next] = values[i];
+        groups[next] = ops.values[i];
         left /= 16;
         next += 1;
     }
@@ -56,16 +58,14 @@ fn place_immediates(
 fn decode_groups(
     width: usize,
     table: &[u8; 128],
-    codes: &[u8],
-    values: &[u64],
+    ops: Ops<'_>,
     b: usize,
     at: usize,
     deltas: u64,
     groups: &mut [u64; 8],
 ) -> Result<Item<u64>, Refusal>
-    requires operations { (length codes.now ≡ length values.now) × Coded codes.now }
-    requires width_bound { (width ≤ 8) × (groups.old ≡ fitted 8 []) × (at + total (digits 16 width deltas) ≤ length codes.now) × (up_to 9 (digits 16 width deltas) ≡ true) }
-    ensures { Staged length (λ (vs : List ℕ) (end : ℕ). (groups.new ≡ fitted 8 vs) × (length vs ≤ width) × (end ≤ length codes.now)) (slots table.now b (digits 16 width deltas) [] (operations codes.now values.now) at) result }
+    requires { (width ≤ 8) × (groups.old ≡ fitted 8 []) × (at + total (digits 16 width deltas) ≤ length ops.codes.now) × (up_to 9 (digits 16 width deltas) ≡ true) }
+    ensures { Staged length (λ (vs : List ℕ) (end : ℕ). (groups.new ≡ fitted 8 vs) × (length vs ≤ width) × (end ≤ length ops.entry.codes.now)) (slots table.now b (digits 16 width deltas) [] (ops_in ops.entry) at) result }
 {
     let mut left = deltas;
     let mut from = at;
@@ -80,18 +80,12 @@ fn decode_groups(
             continue;
         }
         let end = from + n;
-        let slot = g + 1;
-        groups[g] = op_batch::group_number(&codes[from..end]);
-        let placed = place_immediates(
-            width,
-            table,
-            &codes[from..end],
-            &values[from..end],
-            b,
-            left,
-            slot,
-            groups,
-        )?;
+        let group = Ops {
+            codes: &ops.codes[from..end],
+            values: &ops.values[from..end],
+        };
+        groups[g] = op_batch::group_number(group.codes);
+        let placed = place_immediates(width, table, group, b, left, g + 1, groups)?;
         left = placed.item;
         from = end;
         count = placed.next;
@@ -120,25 +114,23 @@ fn operations_in(deltas: u64) -> usize
 pub fn decode_batch(
     width: usize,
     table: &[u8; 128],
-    codes: &[u8],
-    values: &[u64],
+    ops: Ops<'_>,
     deltas: u64,
     flags: u8,
     b: usize,
     at: usize,
     records: &mut [u8],
 ) -> Result<Item<u64>, Refusal>
-    requires operations { (length codes.now ≡ length values.now) × Coded codes.now }
-    requires at_in_bounds { (at ≤ length codes.now) × (record_size * b + record_size ≤ length records.old) }
+    requires at_in_bounds { (at ≤ length ops.codes.now) × (record_size * b + record_size ≤ length records.old) }
     requires width_bound { (width ≤ 8) × RightSizes width deltas }
-    ensures { Staged (λ (r : Record). r.count) (λ (r : Record) (end : ℕ). (records.new ≡ record_set b r records.old) × (length (record_bytes r) ≡ record_size) × (end ≤ length codes.now)) (batch_at width table.now (operations codes.now values.now) at b (digits 16 8 deltas) (digits 2 8 flags)) result }
+    ensures { Staged (λ (r : Record). r.count) (λ (r : Record) (end : ℕ). (records.new ≡ record_set b r records.old) × (length (record_bytes r) ≡ record_size) × (end ≤ length ops.entry.codes.now)) (batch_at width table.now (ops_in ops.entry) at b (digits 16 8 deltas) (digits 2 8 flags)) result }
 {
-    if codes.len() - at < operations_in(deltas) {
+    if ops.codes.len() - at < operations_in(deltas) {
         return Err(Refusal::PastOperations { batch: b });
     }
     let mut groups = [0; 8];
-    let count = decode_groups(width, table, codes, values, b, at, deltas, &mut groups)?;
+    let count = decode_groups(width, table, ops, b, at, deltas, &mut groups)?;
     op_batch::store_packed(deltas, flags, &groups, count.item as u8, records, b);
-    checks::batch_padding(codes, values, records, b, at)?;
+    checks::batch_padding(ops.codes, ops.values, records, b, at)?;
     Ok(count)
 }

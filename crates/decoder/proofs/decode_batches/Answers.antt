@@ -1,6 +1,6 @@
 use mathlib.Core.Path.{refl}
 use native.Mathlib.Omega.{arith}
-use Rattle.rules.specs.Operations.{operations}
+use Rattle.unpacker.specs.Ops.{ops_in}
 use Rattle.rules.proofs.Operations.{length_operations}
 use Rattle.refusal.proofs.Told.{handed}
 use Rattle.decoder.proofs.Sizes.{sized_by, flags_found}
@@ -11,41 +11,41 @@ use Rattle.decoder.proofs.decode_batches.Goals as goal
 pub returns-in_err-flags : goal.returns-in_err-flags
 returns-in_err-flags c =
     let a = c.args in
-    let e = c.requires.width_value.0 in
-    rw (B.records_6 a.width a.table.now a.s.now (operations a.codes.now a.values.now) a.k a.at _ _ (stuck_by (sized_by e c.in_err-flags.ensures) refl)) (record { reply = handed _ _ c.from_residual.ensures.1; left = tt })
+    let e = c.requires.0 in
+    rw (B.records_6 a.width a.table.now a.s.now (ops_in a.ops) a.k a.at _ _ (stuck_by (sized_by e c.in_err-flags.ensures) refl)) (record { reply = handed _ _ c.from_residual.ensures.1; left = tt })
 
 pub decode_each-requires : goal.decode_each-requires
 decode_each-requires c =
     let a = c.requires in
-    let z = (went_by (sized_by a.width_value.0 c.in_ok-flags.ensures) refl).holds in
-    record { operations = a.operations; k_in_bounds = (omega arith, omega (arith, z.to), omega arith); width_bound = (omega arith, z.right) }
+    let z = (went_by (sized_by a.0 c.in_ok-flags.ensures) refl).holds in
+    record { k_in_bounds = (omega arith, omega (arith, z.to), omega arith); width_bound = (omega arith, z.right) }
 
 pub returns-in_err-end : goal.returns-in_err-end
 returns-in_err-end c =
     let a = c.args in
-    let e = c.requires.width_value.0 in
+    let e = c.requires.0 in
     let g = went_by (sized_by e c.in_ok-flags.ensures) refl in
-    rw (B.records_lost a.width a.table.now a.s.now (operations a.codes.now a.values.now) a.k a.at _ _ g.is g.holds (flags_found e _ _ _) _ _ (stuck_by c.in_err-end.ensures refl))
+    rw (B.records_lost a.width a.table.now a.s.now (ops_in a.ops) a.k a.at _ _ g.is g.holds (flags_found e _ _ _) _ _ (stuck_by c.in_err-end.ensures refl))
     (record { reply = handed _ _ c.from_residual-in_err-end.ensures.1; left = tt })
 
-pub returns-then-end-codes : goal.returns-then-end-codes
-returns-then-end-codes c =
+pub returns-then-end-ops : goal.returns-then-end-ops
+returns-then-end-ops c =
     let a = c.args in
-    let e = c.requires.width_value.0 in
+    let e = c.requires.0 in
     let g = went_by (sized_by e c.in_ok-flags.ensures) refl in
     let r = went_by c.in_ok-end.ensures refl in
-    let n = length_operations a.codes.now a.values.now c.requires.operations.0 in
-    rw (B.records_11 a.width a.table.now a.s.now (operations a.codes.now a.values.now) a.k a.at _ _ g.is g.holds (flags_found e _ _ _) _ _ r.is (omega arith)) (record { reply = refl; left = tt })
+    let n = length_operations a.ops.codes.now a.ops.values.now a.ops.even in
+    rw (B.records_11 a.width a.table.now a.s.now (ops_in a.ops) a.k a.at _ _ g.is g.holds (flags_found e _ _ _) _ _ r.is (omega arith)) (record { reply = refl; left = tt })
 
 pub overflow_add-result : goal.overflow_add-result
-overflow_add-result c = omega (arith, (went_by (sized_by c.requires.width_value.0 c.in_ok-flags.ensures) refl).holds.to)
+overflow_add-result c = omega (arith, (went_by (sized_by c.requires.0 c.in_ok-flags.ensures) refl).holds.to)
 
 pub returns : goal.returns
 returns c =
     let a = c.args in
-    let e = c.requires.width_value.0 in
+    let e = c.requires.0 in
     let g = went_by (sized_by e c.in_ok-flags.ensures) refl in
     let r = went_by c.in_ok-end.ensures refl in
-    let n = length_operations a.codes.now a.values.now c.requires.operations.0 in
-    rw (B.records_good a.width a.table.now a.s.now (operations a.codes.now a.values.now) a.k a.at _ _ g.is g.holds (flags_found e _ _ _) _ _ r.is (omega arith))
+    let n = length_operations a.ops.codes.now a.ops.values.now a.ops.even in
+    rw (B.records_good a.width a.table.now a.s.now (ops_in a.ops) a.k a.at _ _ g.is g.holds (flags_found e _ _ _) _ _ r.is (omega arith))
     (record { reply = refl; left = (r.holds.0, r.holds.1, omega (arith, g.holds.to)) })

@@ -27,10 +27,15 @@ returns-in_err-batches c =
     rw (B.block_items a.width a.table.now a.s.now a.at (room_in (arena a.out_codes.now a.out_values.now a.records.now)) _ _ (sym c.in_ok-count.ensures) c.if-out_codes-n.false c.if-out_values-n.false _ _ (refused_by_lem c.in_err-batches.ensures refl))
     (record { reply = handed _ _ c.from_residual-in_err-batches.ensures.1; left = tt })
 
+pub invariant_of-ops : goal.invariant_of-ops
+invariant_of-ops c =
+    let i = items_in _ _ _ _ _ _ _ c.in_ok-batches.ensures in
+    record { even = i.even; coded = i.coded }
+
 pub decode_batches-requires : goal.decode_batches-requires
 decode_batches-requires c =
     let i = items_in _ _ _ _ _ _ _ c.in_ok-batches.ensures in
-    record { operations = (i.even, i.coded); width_value = (c.requires, i.bytes, omega (arith, i.records)) }
+    (c.requires, i.bytes, omega (arith, i.records))
 
 pub returns-in_err-end : goal.returns-in_err-end
 unfolding room_in

@@ -12,15 +12,15 @@ use Rattle.unpacker.proofs.Batch.{total_under, small_under, way_7, way_slots, wa
 use Rattle.unpacker.proofs.Padding.{lies, wrong, passes}
 use Rattle.unpacker.proofs.decode_batch.Goals as goal
 
-pub returns-then-codes-at : goal.returns-then-codes-at
-returns-then-codes-at c =
+pub returns-then-ops-at : goal.returns-then-ops-at
+returns-then-ops-at c =
     let a = c.args in
-    let xs = operations a.codes.now a.values.now in
-    let n = length_operations a.codes.now a.values.now c.requires.operations.0 in
+    let xs = operations a.ops.codes.now a.ops.values.now in
+    let n = length_operations a.ops.codes.now a.ops.values.now c.args.ops.even in
     rw (way_7 a.width a.table.now xs a.at a.b a.deltas a.flags (omega arith)) (record { reply = refl; left = tt })
 
-pub decode_groups-requires-clause-width_bound : goal.decode_groups-requires-clause-width_bound
-decode_groups-requires-clause-width_bound c =
+pub decode_groups-requires : goal.decode_groups-requires
+decode_groups-requires c =
     let q = c.requires.width_bound in
     (q.0, zeros_fitted 8, omega (arith, total_under _ _ q.0 q.1.1), small_under _ _ q.0 q.1.0)
 
@@ -28,8 +28,8 @@ pub returns-in_err-count : goal.returns-in_err-count
 returns-in_err-count c =
     let a = c.args in
     let q = c.requires in
-    let xs = operations a.codes.now a.values.now in
-    let n = length_operations a.codes.now a.values.now q.operations.0 in
+    let xs = operations a.ops.codes.now a.ops.values.now in
+    let n = length_operations a.ops.codes.now a.ops.values.now a.ops.even in
     rw (way_slots a.width a.table.now xs a.at a.b a.deltas a.flags q.width_bound.0 q.width_bound.1.1 (omega arith) _ _ (refused_by_lem c.in_err-count.ensures refl)) (record { reply = handed_by _ _ _ c.from_residual.ensures.1; left = tt })
 
 pub batch_padding-requires : goal.batch_padding-requires
@@ -38,17 +38,17 @@ batch_padding-requires c =
     let q = c.requires in
     let d = found_by c.in_ok-count.ensures refl in
     let o = made_stored a.deltas a.flags d.item _ _ _ _ _ d.holds.0 d.number c.store_packed.ensures in
-    lies a.width a.table.now a.codes.now a.values.now a.at a.b a.deltas a.flags q.width_bound.0 q.width_bound.1 d.item _ d.is d.holds.1 _ _ o q.at_in_bounds.1 q.operations.0 (omega arith)
+    lies a.width a.table.now a.ops.codes.now a.ops.values.now a.at a.b a.deltas a.flags q.width_bound.0 q.width_bound.1 d.item _ d.is d.holds.1 _ _ o q.at_in_bounds.1 a.ops.even (omega arith)
 
 pub returns-in_err-batch_padding : goal.returns-in_err-batch_padding
 returns-in_err-batch_padding c =
     let a = c.args in
     let q = c.requires in
-    let xs = operations a.codes.now a.values.now in
-    let n = length_operations a.codes.now a.values.now q.operations.0 in
+    let xs = operations a.ops.codes.now a.ops.values.now in
+    let n = length_operations a.ops.codes.now a.ops.values.now a.ops.even in
     let d = found_by c.in_ok-count.ensures refl in
     let o = made_stored a.deltas a.flags d.item _ _ _ _ _ d.holds.0 d.number c.store_packed.ensures in
-    let p = wrong a.width a.table.now a.codes.now a.values.now a.at a.b a.deltas a.flags q.width_bound.0 q.width_bound.1 d.item _ d.is d.holds.1 _ _ o q.at_in_bounds.1 _ _ c.in_err-batch_padding.ensures in
+    let p = wrong a.width a.table.now a.ops.codes.now a.ops.values.now a.at a.b a.deltas a.flags q.width_bound.0 q.width_bound.1 d.item _ d.is d.holds.1 _ _ o q.at_in_bounds.1 _ _ c.in_err-batch_padding.ensures in
     rw (way_10 a.width a.table.now xs a.at a.b a.deltas a.flags q.width_bound.0 q.width_bound.1.1 (omega arith) _ _ d.is p.0) (record { reply = handed_by _ _ _ c.from_residual-in_err-batch_padding.ensures.1 ∙ rw (p.1, p.2); left = tt })
 
 pub returns : goal.returns
@@ -56,10 +56,10 @@ unfolding record_by
 returns c =
     let a = c.args in
     let q = c.requires in
-    let xs = operations a.codes.now a.values.now in
-    let n = length_operations a.codes.now a.values.now q.operations.0 in
+    let xs = operations a.ops.codes.now a.ops.values.now in
+    let n = length_operations a.ops.codes.now a.ops.values.now a.ops.even in
     let d = found_by c.in_ok-count.ensures refl in
     let o = made_stored a.deltas a.flags d.item _ _ _ _ _ d.holds.0 d.number c.store_packed.ensures in
-    let p = passes a.width a.table.now a.codes.now a.values.now a.at a.b a.deltas a.flags q.width_bound.0 q.width_bound.1 d.item _ d.is d.holds.1 _ _ o q.at_in_bounds.1 c.in_ok-batch_padding.ensures in
+    let p = passes a.width a.table.now a.ops.codes.now a.ops.values.now a.at a.b a.deltas a.flags q.width_bound.0 q.width_bound.1 d.item _ d.is d.holds.1 _ _ o q.at_in_bounds.1 c.in_ok-batch_padding.ensures in
     rw (way_good a.width a.table.now xs a.at a.b a.deltas a.flags q.width_bound.0 q.width_bound.1.1 (omega arith) _ _ d.is p)
     (record { reply = ap (λ (m : ℕ). found m c.in_ok-count.count.next) (sym d.number); left = (o, made_size a.deltas a.flags d.item, d.holds.2) })

@@ -11,35 +11,38 @@ use Rattle.unpacker.proofs.decode_groups.Goals as goal
 pub loop-g-preserved-then-n-eq0 : goal.loop-g-preserved-then-n-eq0
 loop-g-preserved-then-n-eq0 c = G.walk_empty _ (omega arith) _ _ _ _ _ _ _ _ _ _ _ c.loop-g.invariant (omega arith) c.if-n-eq0.true
 
-pub slice_bounds-group_number-end : goal.slice_bounds-group_number-end
-slice_bounds-group_number-end c = omega (arith, G.group_fits _ (omega arith) _ _ _ _ _ _ _ _ _ _ _ c.loop-g.invariant (omega arith))
+pub slice_bounds-group-end : goal.slice_bounds-group-end
+slice_bounds-group-end c = omega (arith, G.group_fits _ (omega arith) _ _ _ _ _ _ _ _ _ _ _ c.loop-g.invariant (omega arith))
 
 pub group_number-requires : goal.group_number-requires
 group_number-requires c =
     let l = c.loop-g in
     let f = G.group_fits _ (omega arith) _ _ _ _ _ _ _ _ _ _ _ l.invariant (omega arith) in
     let s = G.group_small _ (omega arith) _ _ _ _ _ _ _ _ _ _ _ l.invariant (omega arith) in
-    (omega (arith, G.lent_length c.args.codes.now l.from (l.left % 16) f), G.lent_coded _ _ _ f c.requires.operations.1)
+    (omega (arith, G.lent_length c.args.ops.codes.now l.from (l.left % 16) f), G.lent_coded _ _ _ f c.args.ops.coded)
 
-pub place_immediates-requires : goal.place_immediates-requires
-place_immediates-requires c =
+pub invariant_of-group : goal.invariant_of-group
+invariant_of-group c =
     let l = c.loop-g in
     let f = G.group_fits _ (omega arith) _ _ _ _ _ _ _ _ _ _ _ l.invariant (omega arith) in
     record {
-      operations = (G.lent_length c.args.codes.now l.from (l.left % 16) f ∙ sym (G.lent_length c.args.values.now l.from (l.left % 16) (omega arith)), G.lent_coded _ _ _ f c.requires.operations.1);
-      width_bound = (omega arith, omega arith, G.group_stored _ (omega arith) _ _ _ _ _ _ _ _ _ _ _ l.invariant (omega arith) _);
+      even = G.lent_length c.args.ops.codes.now l.from (l.left % 16) f ∙ sym (G.lent_length c.args.ops.values.now l.from (l.left % 16) (omega arith));
+      coded = G.lent_coded _ _ _ f c.args.ops.coded;
     }
+
+pub place_immediates-requires : goal.place_immediates-requires
+place_immediates-requires c = (omega arith, omega arith, G.group_stored _ (omega arith) _ _ _ _ _ _ _ _ _ _ _ c.loop-g.invariant (omega arith) _)
 
 pub returns-in_err-placed : goal.returns-in_err-placed
 returns-in_err-placed c =
     let l = c.loop-g in
-    rw (G.walk_refused _ (omega arith) _ _ _ _ _ _ _ _ _ _ _ l.invariant (omega arith) _ c.group_number.ensures c.if-n-eq0.false c.requires.operations.0 _ _ c.in_err-placed.ensures)
+    rw (G.walk_refused _ (omega arith) _ _ _ _ _ _ _ _ _ _ _ l.invariant (omega arith) _ c.group_number.ensures c.if-n-eq0.false c.args.ops.even _ _ c.in_err-placed.ensures)
     (record { reply = handed_by _ _ _ c.from_residual.ensures.1; left = tt })
 
 pub loop-g-preserved : goal.loop-g-preserved
 loop-g-preserved c =
     let l = c.loop-g in
-    G.walk_group _ (omega arith) _ _ _ _ _ _ _ _ _ _ _ l.invariant (omega arith) _ c.group_number.ensures c.if-n-eq0.false c.requires.operations.0 _ _ _ c.in_ok-placed.ensures
+    G.walk_group _ (omega arith) _ _ _ _ _ _ _ _ _ _ _ l.invariant (omega arith) _ c.group_number.ensures c.if-n-eq0.false c.args.ops.even _ _ _ c.in_ok-placed.ensures
 
 pub returns : goal.returns
 returns c =

@@ -6,4 +6,4 @@ use Rattle.unpacker.proofs.place_immediates.Given as goal
 
 abbrev pub invariant-loop-i : goal.invariant-loop-i
 invariant-loop-i l =
-    Placed l.width l.table l.b (immediates l.table (operations l.codes l.values)) l.initial.groups l.slot l.deltas (G.due l.table l.codes l.values l.i) l.groups l.next l.left
+    Placed l.width l.table l.b (immediates l.table (operations l.ops.codes.now l.ops.values.now)) l.initial.groups l.slot l.deltas (G.due l.table l.ops.codes.now l.ops.values.now l.i) l.groups l.next l.left
