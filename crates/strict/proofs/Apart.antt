@@ -1,16 +1,17 @@
 -- A batch has a record's sizes and flags, as numbers, exactly where starts and flags are the same; so the first that has not is the first that differs. s is
 -- a run of k records. Assumes nothing.
 use mathlib.Core.Path.{◌≡◌, refl, sym, ap, ap₂, ◌∙◌}
-use mathlib.Core.Bool.{Bool, true, false, cond, ◌&&◌, ◌||◌}
+use mathlib.Core.Bool.{Bool, true, false, cond, ◌&&◌}
 use mathlib.Core.List.{List, [], ◌∷◌, map}
 use Prim.Native.Nat.{ℕ, zero, suc, ◌+◌, ◌-◌, ◌≤◌, ◌<◌}
 use native.Mathlib.Omega.{arith}
 use borrow.Author.Tests.{leb-true, lt-ltb, le-ltb, eqb-true, eq-eqb}
+use Rattle.std.specs.Prelude.{Result, Ok, Err}
 use lib.ListN.{length, get_or, replicate, length-map}
 use lib.Dec.{leb, ltb, eqb}
 use Rattle.rules.specs.Lists.{fitted, All}
 use Rattle.rules.specs.Digits.{number, digits}
-use Rattle.rules.specs.Answer.{Answer, refuse, refuse_first}
+use Rattle.rules.specs.Answer.{Answer, refuse_first}
 use Rattle.rules.specs.Refusals.{unfinished₁₈}
 use Rattle.rules.specs.Batching.{Group, ops, imm}
 use Rattle.rules.specs.Record.{Record, starts_from, differences, record_by, record_of, record_at, records_from, size_of, flag_of, ops_in}
@@ -25,10 +26,10 @@ use Rattle.claims.proofs.Shape.{RightGroup, RightBatch}
 use Rattle.claims.proofs.ItemsWrittenThenRead.{digits_number}
 use Rattle.claims.proofs.WrittenThenRead.{differences_starts, fitted_is}
 use Rattle.claims.proofs.Shapes.{same_shape, shapes_differing, same_is, same_self}
-use Rattle.strict.specs.Model.{Runs, is_record}
+use Rattle.strict.specs.Model.{Runs, is_record, held, batches_judged}
 use Rattle.strict.proofs.Records.{record_fits, laid_at}
-use Rattle.strict.proofs.Drafted.{number_append}
-use Rattle.strict.proofs.Judged.{Seen, next, seen}
+use Rattle.strict.proofs.Drafted.{number_append, shape_by}
+use Rattle.strict.proofs.Judged.{seen}
 
 -- two tests that follow from each other
 either_way : (a b : Bool) → (a ≡ true → b ≡ true) → (b ≡ true → a ≡ true) → a ≡ b
@@ -101,7 +102,7 @@ module _ (s : List ℕ) (k : ℕ) (runs : Runs s k) (w : ℕ) (wide : w ≤ 8) (
   abbrev Made : List Group → Type 0
   Made gs = RightBatch w t gs
 
-  same_record : (b : ℕ) (gs : List Group) → b < k → Made gs → is_record s k b (number 256 (map size_of gs)) (number 256 (map flag_of gs)) ≡ same_shape (record_at s b) (record_of gs)
+  same_record : (b : ℕ) (gs : List Group) → b < k → Made gs → is_record s k b (shape_by gs) ≡ same_shape (record_at s b) (record_of gs)
   unfolding is_record same_shape record_of record_by
   same_record b gs h m =
       let r = record_at s b in
@@ -119,46 +120,38 @@ module _ (s : List ℕ) (k : ℕ) (runs : Runs s k) (w : ℕ) (wide : w ≤ 8) (
       ap₂ (λ (p q : Bool). ltb b k && (p && q)) a c ∙ rw (lt-ltb b k h)
 
   -- once one is apart, it stays so
-  seen_apart : (m : ℕ) (bs : List (List Group)) → seen s k (record { batches = m; apart = true }) bs ≡ record { batches = m; apart = true }
-  unfolding seen next
+  seen_apart : (m : ℕ) (bs : List (List Group)) → seen s k (Err m) bs ≡ Err m
+  unfolding seen
   seen_apart m [] = refl
   seen_apart m (gs ∷ bs) = seen_apart m bs
 
-  abbrev held : ℕ → Bool → Seen
-  held b y = cond y (record { batches = b + 1; apart = false }) (record { batches = b; apart = true })
-
-  next_by : (b : ℕ) (gs : List Group) (y : Bool) → is_record s k b (number 256 (map size_of gs)) (number 256 (map flag_of gs)) ≡ y → next s k (record { batches = b; apart = false }) gs ≡ held b y
-  unfolding next
-  next_by b gs y e = rw e
-
   -- there is no such record
-  past : (b : ℕ) (gs : List Group) → k ≤ b → is_record s k b (number 256 (map size_of gs)) (number 256 (map flag_of gs)) ≡ false
+  past : (b : ℕ) (gs : List Group) → k ≤ b → is_record s k b (shape_by gs) ≡ false
   unfolding is_record
   past b gs l = rw (le-ltb b k l)
 
-  -- what the walk says of the batches that it saw
-  unfoldable pub said : {A : Type 0} → Seen → Answer A → Answer A
-  said e r = refuse (e.apart || ltb e.batches k) unfinished₁₈ e.batches r
-
-  pub said_is : {A : Type 0} (r : Answer A) (b : ℕ) (bs : List (List Group)) → All Made bs
-      → refuse_first b (shapes_differing (records_from (k - b) s b) (map record_of bs)) r ≡ said (seen s k (record { batches = b; apart = false }) bs) r
-  unfolding refuse_first shapes_differing seen said
+  pub said_is : (r : Answer Unit) (b : ℕ) (bs : List (List Group)) → All Made bs
+      → refuse_first b (shapes_differing (records_from (k - b) s b) (map record_of bs)) r ≡ batches_judged k (seen s k (Ok b) bs) r
+  unfolding refuse_first shapes_differing seen
   said_is r b [] h =
       split b k
       (λ l. rw (records_turn k s b l, lt-ltb b k l))
       (λ l. rw (records_end k s b l, le-ltb b k l))
-  said_is {A} r b (gs ∷ bs) h =
+  said_is r b (gs ∷ bs) h =
       split b k
       (λ l. ap compared (records_turn k s b l) ∙ go (same_shape (record_at s b) (record_of gs)) (said_is r (b + 1) bs h.1) ∙ onward (same_shape (record_at s b) (record_of gs)) (same_record b gs l h.0))
-      (λ l. ap compared (records_end k s b l) ∙ ap (λ (e : Seen). said e r) (sym (seen_apart b bs)) ∙ onward false (past b gs l))
+      (λ l. ap compared (records_end k s b l) ∙ ap (λ (e : Result ℕ ℕ). batches_judged k e r) (sym (seen_apart b bs)) ∙ onward false (past b gs l))
     where
-      go : (y : Bool) → refuse_first (b + 1) (shapes_differing (records_from (k - (b + 1)) s (b + 1)) (map record_of bs)) r ≡ said (seen s k (record { batches = b + 1; apart = false }) bs) r
-          → refuse_first b (cond y 0 unfinished₁₈ ∷ shapes_differing (records_from (k - (b + 1)) s (b + 1)) (map record_of bs)) r ≡ said (seen s k (held b y) bs) r
+      next : Bool → Result ℕ ℕ
+      next y = cond y (Ok (b + 1)) (Err b)
+
+      go : (y : Bool) → refuse_first (b + 1) (shapes_differing (records_from (k - (b + 1)) s (b + 1)) (map record_of bs)) r ≡ batches_judged k (seen s k (Ok (b + 1)) bs) r
+          → refuse_first b (cond y 0 unfinished₁₈ ∷ shapes_differing (records_from (k - (b + 1)) s (b + 1)) (map record_of bs)) r ≡ batches_judged k (seen s k (next y) bs) r
       go true ih = ih
       go false ih = rw (seen_apart b bs)
 
-      compared : List Record → Answer A
+      compared : List Record → Answer Unit
       compared rs = refuse_first b (shapes_differing rs (map record_of (gs ∷ bs))) r
 
-      onward : (y : Bool) → is_record s k b (number 256 (map size_of gs)) (number 256 (map flag_of gs)) ≡ y → said (seen s k (held b y) bs) r ≡ said (seen s k (next s k (record { batches = b; apart = false }) gs) bs) r
-      onward y e = ap (λ (u : Seen). said (seen s k u bs) r) (sym (next_by b gs y e))
+      onward : (y : Bool) → is_record s k b (shape_by gs) ≡ y → batches_judged k (seen s k (next y) bs) r ≡ batches_judged k (seen s k (held s k (shape_by gs) (Ok b)) bs) r
+      onward y e = ap (λ (u : Bool). batches_judged k (seen s k (next u) bs) r) (sym e)

@@ -1,13 +1,11 @@
 -- What is still to be added of a batch, group by group and batch by batch: runs of operations between flagged paddings. Assumes nothing.
 use mathlib.Core.Path.{◌≡◌, refl, sym, ap, ◌∙◌}
-use mathlib.Core.Bool.{true, false, ◌&&◌}
+use mathlib.Core.Bool.{Bool, true, false}
 use mathlib.Core.List.{List, [], ◌∷◌, ◌++◌, map, append_assoc, append-nil}
 use Prim.Native.Nat.{ℕ, zero, suc, ◌+◌, ◌-◌, ◌≤◌, ◌<◌}
 use native.Mathlib.Omega.{arith}
-use borrow.Author.Tests.{ltb-true, ltb-false, eqb-true, eq-eqb}
 use lib.ListN.{length, get_or, take, drop, length-append, length-take, length-drop, take-append-drop, drop_of_length-le}
 use lib.Seq.{take-add, drop-drop}
-use lib.Dec.{ltb, eqb}
 use Rattle.rules.specs.Lists.{total, but_last}
 use Rattle.rules.specs.Digits.{number}
 use Rattle.rules.specs.Record.{Record, record_at, records_from}
@@ -15,7 +13,6 @@ use Rattle.rules.specs.Checks.{ninth}
 use Rattle.rules.specs.Lookups.{marks_in, marks}
 use Rattle.rules.specs.Strict.{unmarked}
 use Rattle.rules.proofs.Sizes.{marks_in_lem}
-use Rattle.rules.proofs.Operations.{true_left, true_right}
 use Rattle.op_batch.proofs.Right.{rise, below_ninth, flags_ahead}
 use Rattle.checks.proofs.Groups.{Laid}
 use Rattle.checks.proofs.Walk.{records_turn, records_end}
@@ -35,7 +32,7 @@ part_glue from mid to cs h l =
     let i : from + (mid - from) ≡ mid = omega arith in
     rw (e, part_join (mid - from) (to - mid) cs from, i)
 
-part_length : (n : ℕ) (cs : List ℕ) (i : ℕ) → i + n ≤ length cs → length (codes_part n cs i) ≡ n
+pub part_length : (n : ℕ) (cs : List ℕ) (i : ℕ) → i + n ≤ length cs → length (codes_part n cs i) ≡ n
 part_length n cs i h = simp (length-take, length-drop) (omega arith)
 
 take_last : (m : ℕ) (xs : List ℕ) → suc m ≤ length xs → but_last (take (suc m) xs) ≡ take m xs
@@ -58,14 +55,6 @@ less_group (suc m) f cs i h e l =
     let k : suc m ≤ length (drop i cs) = simp length-drop (omega arith) in
     let z : suc m - 1 ≡ m = omega arith in
     rw (e, z) ((rw (part_length (suc m) cs i h) at (last_marked (codes_part (suc m) cs i))) ∙ take_last m (drop i cs) k)
-
--- what the code's test of a group says
-module _ (f start end : ℕ) where
-  pub a_padding : (eqb f 1 && ltb start end) ≡ true → (f ≡ 1) × (start < end)
-  a_padding h = (eqb-true f 1 (true_left (eqb f 1) (ltb start end) h), ltb-true start end (true_right (eqb f 1) (ltb start end) h))
-
-  pub no_padding : (eqb f 1 && ltb start end) ≡ false → f ≡ 1 → end ≤ start
-  no_padding h e = let k : ltb start end ≡ false = rw (eq-eqb f 1 e) at h in ltb-false start end k
 
 -- ---- a batch whose operations begin at a place
 
@@ -127,18 +116,22 @@ module _ (r : Record) (x : Laid r) (cs : List ℕ) (at : ℕ) (inside : at + nin
         rw z (ap (λ (l : List ℕ). front ++ l) (from_here ∙ ap (λ (l : List ℕ). l ++ more) flat) ∙ sym (append_assoc front here more) ∙ ap (λ (l : List ℕ). l ++ more) glued)
 
   -- no flag is ahead
-  pub rest : (d from g left : ℕ) → g + d ≡ 8 → from ≤ at + start g → left ≡ number 256 (drop g r.flags) → left ≡ 0 → ahead r cs at from g ≡ codes_part (at + ninth r - from) cs from
+  pub rest : (d from g : ℕ) → g + d ≡ 8 → from ≤ at + start g → number 256 (drop g r.flags) ≡ 0 → ahead r cs at from g ≡ codes_part (at + ninth r - from) cs from
   unfolding ahead
-  rest zero from g left e low n z =
+  rest zero from g e low z =
       let q : g ≡ 8 = omega arith in
       let s : start g ≡ ninth r = ap start q in
       let o : ninth r - ninth r ≡ 0 = omega arith in
       rw (marks_end r x g q, s, o) (append-nil (codes_part (at + ninth r - from) cs from))
-  rest (suc d) from g left e low n z =
+  rest (suc d) from g e low z =
       let h : g < 8 = omega arith in
       let a = flags_ahead x.width r x.sound x.flags g h in
       let up = (rise x.width r x.sound x.starts g h).0 in
-      sym (goes_on from g h low (λ f. absurd (omega arith))) ∙ rest d from (g + 1) (number 256 (drop (g + 1) r.flags)) (omega arith) (omega arith) refl (omega arith)
+      sym (goes_on from g h low (λ f. absurd (omega arith))) ∙ rest d from (g + 1) (omega arith) (omega arith) (omega arith)
+
+  pub none_ahead : (g : ℕ) → 8 ≤ g → number 256 (drop g r.flags) ≡ 0
+  unfolding number
+  none_ahead g h = rw (drop_of_length-le r.flags {i = g} (omega (arith, x.flags)))
 
   -- all of it
   pub first : ahead r cs at at 0 ≡ unmarked (marks_at r 0) (codes_part (ninth r) cs at)
@@ -162,6 +155,12 @@ module _ (r : Record) (x : Laid r) (cs : List ℕ) (at : ℕ) (inside : at + nin
 
   pub all_marked : length (marks_at r 0) ≡ length (codes_part (ninth r) cs at)
   all_marked = omega (arith, marks_many 8 0 refl, x.sound.first, part_length (ninth r) cs at inside)
+
+pub unmarked_few : (ms : List Bool) (xs : List ℕ) → length (unmarked ms xs) ≤ length xs
+unmarked_few [] xs = omega arith
+unmarked_few (m ∷ ms) [] = omega arith
+unmarked_few (true ∷ ms) (x ∷ xs) = omega (arith, unmarked_few ms xs)
+unmarked_few (false ∷ ms) (x ∷ xs) = omega (arith, unmarked_few ms xs)
 
 -- ---- batch by batch: what is still to be added, once the first b of k batches are, which have `at` operations
 

@@ -14,8 +14,8 @@ use Rattle.accumulator.specs.declared.OpBatchAccumulator.{OpBatchAccumulator}
 use Rattle.accumulator.specs.Model.{pad_of}
 use Rattle.accumulator.specs.View.{acc_of}
 use Rattle.accumulator.proofs.View.{acc_empty, acc_next, acc_pads, acc_turned, acc_added}
-use Rattle.strict.specs.declared.Draft.{Draft}
-use Rattle.strict.specs.Model.{new_draft, closed_draft, closed_times, ended_draft, ready_draft, added_draft}
+use Rattle.strict.specs.declared.Shape.{Shape}
+use Rattle.strict.specs.Draft.{Draft, shape_of, new_draft, closed_draft, closed_times, ended_draft, ready_draft, joined_draft, added_draft}
 use Rattle.strict.proofs.Drafts.{added_acc_lem}
 
 -- ---- a list of digits, one after another
@@ -102,7 +102,7 @@ draft_ready t x b = go (full t x b)
     go false = refl
 
 pub draft_added : (t : List ℕ) (x : Op) (b : Batch) → added_draft x.code (has_immediate t x) (draft_of t b) ≡ draft_of t (added t x b)
-unfolding added_draft added joined draft_of
+unfolding joined_draft added joined draft_of
 draft_added t x b =
     let a = added_acc_lem x.code (has_immediate t x) (draft_of t b) ∙ acc_added t x b in
     let r = draft_ready t x b in
@@ -121,7 +121,10 @@ last_is t b =
     ∙ ap closed_draft (draft_times (target (next_free b) - next_free b) t b)
     ∙ draft_turned t (turned_times (target (next_free b) - next_free b) t b)
 
--- a batch that has ended: the sizes and flags of its groups
-pub draft_ended : (t : List ℕ) (b : Batch) → ((ended_draft (draft_of t b)).sizes ≡ number 256 (map size_of (ended t b))) × ((ended_draft (draft_of t b)).flags ≡ number 256 (map flag_of (ended t b)))
+-- the shape of a batch that has ended: the sizes and flags of its groups
+abbrev pub shape_by : List Group → Shape
+shape_by gs = record { sizes = number 256 (map size_of gs); flags = number 256 (map flag_of gs) }
+
+pub draft_ended : (t : List ℕ) (b : Batch) → shape_of (ended_draft (draft_of t b)) ≡ shape_by (ended t b)
 unfolding ended draft_of turned
-draft_ended t b = let e = last_is t b in (ap (λ (d : Draft). d.sizes) e, ap (λ (d : Draft). d.flags) e)
+draft_ended t b = ap shape_of (last_is t b)

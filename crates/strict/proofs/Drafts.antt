@@ -5,12 +5,11 @@ use Prim.Native.Nat.{ℕ, zero, suc, ◌+◌, ◌-◌, ◌*◌, ◌%◌, ◌^◌
 use native.Mathlib.Nat.{add-zero, pow-suc, pow-le-pow_right, mul-le-mul_right}
 use native.Mathlib.Omega.{arith}
 use borrow.Author.Tests.{lt-leb, lt-ltb}
+use Rattle.std.specs.Int.{from_bool}
 use Rattle.accumulator.specs.declared.OpBatchAccumulator.{OpBatchAccumulator}
-use Rattle.accumulator.specs.Good.{Good}
 use Rattle.accumulator.specs.Model.{fits_in, pads, pad_of, turned_acc, slotted_acc, joined_acc, crosses, ready_acc, added_acc}
-use Rattle.accumulator.proofs.Good.{good_wider, turned_good, turned_next, ready, slot_free, slotted_ready, here_9, added_good, new_good}
-use Rattle.strict.specs.declared.Draft.{Draft}
-use Rattle.strict.specs.Model.{new_draft, closed_draft, closed_times, ready_draft, added_draft, Fine}
+use Rattle.accumulator.proofs.Good.{turned_good, turned_next, Ready, ready, added_good, new_good}
+use Rattle.strict.specs.Draft.{Draft, new_draft, closed_draft, closed_times, ready_draft, joined_draft, added_draft, Fine}
 
 -- ---- bytes of a number
 
@@ -92,10 +91,19 @@ ready_acc_lem imm d = go (crosses imm d.acc)
     go false = refl
 
 pub added_acc_lem : (c : ℕ) (imm : Bool) (d : Draft) → (added_draft c imm d).acc ≡ added_acc c imm d.acc
-unfolding added_draft added_acc
+unfolding joined_draft added_acc
 added_acc_lem c imm d = ap (λ (a : OpBatchAccumulator). joined_acc c imm (cond imm (slotted_acc a) a)) (ready_acc_lem imm d)
 
+with_room : {w : ℕ} (imm : Bool) (a : OpBatchAccumulator) → Ready w imm a → (a.inside + from_bool imm < 9) × (a.next + from_bool imm ≤ w)
+with_room true a r = (omega (arith, r.here), r.slot)
+with_room false a r = (omega (arith, r.here), r.slot)
+
 module _ {w : ℕ} (imm : Bool) (d : Draft) (f : Fine w d) (fits : fits_in w imm d.acc ≡ true) where
+  -- where the group must close, there is a next one
+  pub next_free : crosses imm d.acc ≡ true → d.acc.next < w
+  unfolding ready_acc
+  next_free h = let r = rw h at (ready imm d.acc f.good fits).good.high in omega (arith, r, turned_next d.acc)
+
   ready_fine : Fine w (ready_draft imm d)
   unfolding ready_draft ready_acc
   ready_fine = go (crosses imm d.acc) (ready imm d.acc f.good fits).good.high
@@ -105,7 +113,7 @@ module _ {w : ℕ} (imm : Bool) (d : Draft) (f : Fine w d) (fits : fits_in w imm
       go false h = f
 
   added_cur : (c : ℕ) → (added_draft c imm d).acc.cur ≡ (ready_draft imm d).acc.cur
-  unfolding added_draft joined_acc slotted_acc
+  unfolding joined_draft joined_acc slotted_acc
   added_cur c = go imm (ready_draft imm d).acc
     where
       go : (b : Bool) (a : OpBatchAccumulator) → (cond b (slotted_acc a) a).cur ≡ a.cur
@@ -113,7 +121,7 @@ module _ {w : ℕ} (imm : Bool) (d : Draft) (f : Fine w d) (fits : fits_in w imm
       go false a = refl
 
   pub added_fine : (c : ℕ) → c < 128 → Fine w (added_draft c imm d)
-  unfolding added_draft
+  unfolding joined_draft
   added_fine c h =
       record {
         good = rw (added_acc_lem c imm d) (added_good c imm d.acc h f.good fits);
@@ -121,46 +129,41 @@ module _ {w : ℕ} (imm : Bool) (d : Draft) (f : Fine w d) (fits : fits_in w imm
         flags = rw (added_cur c) ready_fine.flags;
       }
 
-  -- what the accumulator's methods ask for, where there is an immediate and where there is none
-  pub with_slot : imm ≡ true → ((ready_draft imm d).acc.next < w) × Good w (slotted_acc (ready_draft imm d).acc) × ((slotted_acc (ready_draft imm d).acc).inside < 9)
-  with_slot e =
-      let r = ready imm d.acc f.good fits in
-      let s = slotted_ready imm (ready_acc imm d.acc) e r in
-      rw (ready_acc_lem imm d) (slot_free imm (ready_acc imm d.acc) r e, s.0, omega (arith, s.1))
+  -- then it joins
+  pub ready_joins : ((ready_draft imm d).acc.inside + from_bool imm < 9) × ((ready_draft imm d).acc.next + from_bool imm ≤ w)
+  ready_joins = rw (ready_acc_lem imm d) (with_room imm (ready_acc imm d.acc) (ready imm d.acc f.good fits))
 
-  pub without : Good w (ready_draft imm d).acc × ((ready_draft imm d).acc.inside < 9)
-  without =
-      let r = ready imm d.acc f.good fits in
-      rw (ready_acc_lem imm d) (r.good, here_9 imm (ready_acc imm d.acc).inside r.here)
+-- ---- an operation that joins as it is
 
--- ---- an operation that joins as it is, by how many slots it takes
+stays : (imm : Bool) (a : OpBatchAccumulator) → a.inside + from_bool imm < 9 → crosses imm a ≡ false
+stays true a h = lt-leb 8 a.inside (omega arith)
+stays false a h = lt-leb 9 a.inside (omega arith)
 
-stays : (imm : Bool) (a : OpBatchAccumulator) (k : ℕ) → k ≡ cond imm 1 0 → a.inside + k < 9 → crosses imm a ≡ false
-stays true a k e h = lt-leb 8 a.inside (omega arith)
-stays false a k e h = lt-leb 9 a.inside (omega arith)
+pub join_fits : (w : ℕ) (imm : Bool) (a : OpBatchAccumulator) → a.inside + from_bool imm < 9 → a.next + from_bool imm ≤ w → fits_in w imm a ≡ true
+join_fits w true a h l = rw (lt-ltb a.inside 8 (omega arith)) (lt-ltb a.next w (omega arith))
+join_fits w false a h l = rw (lt-ltb a.inside 9 (omega arith))
 
-pub join_fits : (w : ℕ) (imm : Bool) (a : OpBatchAccumulator) (k : ℕ) → k ≡ cond imm 1 0 → a.inside + k < 9 → a.next + k ≤ w → fits_in w imm a ≡ true
-join_fits w true a k e h l = rw (lt-ltb a.inside 8 (omega arith)) (lt-ltb a.next w (omega arith))
-join_fits w false a k e h l = rw (lt-ltb a.inside 9 (omega arith))
+-- an operation that joins is added
+pub join_is : (c : ℕ) (imm : Bool) (d : Draft) → d.acc.inside + from_bool imm < 9 → joined_draft c imm d ≡ added_draft c imm d
+unfolding ready_draft
+join_is c imm d h = rw (stays imm d.acc h)
 
--- the joined numbers, with k slots taken
-abbrev with_slots : ℕ → OpBatchAccumulator → OpBatchAccumulator
-with_slots k p = record { cur = p.cur; next = p.next + k; inside = p.inside; number = p.number; unit = p.unit; total = p.total; tail = p.tail }
+-- as the code has it: next free is counted up by the slots that are taken
+abbrev with_slots : Bool → OpBatchAccumulator → OpBatchAccumulator
+with_slots imm a = record { cur = a.cur; next = a.next + from_bool imm; inside = a.inside; number = a.number; unit = a.unit; total = a.total; tail = a.tail }
 
-slots_joined : (c : ℕ) (imm : Bool) (a : OpBatchAccumulator) (k : ℕ) → k ≡ cond imm 1 0 → with_slots k (joined_acc c imm a) ≡ joined_acc c imm (cond imm (slotted_acc a) a)
-unfolding joined_acc slotted_acc
-slots_joined c true a k e = rw e
-slots_joined c false a k e = rw (e, add-zero)
+abbrev by_slots : ℕ → Bool → Draft → Draft
+by_slots c imm d = record { acc = with_slots imm (joined_acc c imm d.acc); sizes = d.sizes; flags = d.flags }
 
-pub join_is : (c : ℕ) (imm : Bool) (d : Draft) (k : ℕ) → k ≡ cond imm 1 0 → d.acc.inside + k < 9
-    → record { acc = with_slots k (joined_acc c imm d.acc); sizes = d.sizes; flags = d.flags } ≡ added_draft c imm d
-unfolding added_draft ready_draft
-join_is c imm d k e h = rw (stays imm d.acc k e h, slots_joined c imm d.acc k e)
+pub slots_joined : (c : ℕ) (imm : Bool) (d : Draft) → by_slots c imm d ≡ joined_draft c imm d
+unfolding joined_draft joined_acc slotted_acc
+slots_joined c true d = refl
+slots_joined c false d = rw add-zero
+
+pub joined_fine : {w : ℕ} (c : ℕ) (imm : Bool) (d : Draft) → Fine w d → c < 128 → d.acc.inside + from_bool imm < 9 → d.acc.next + from_bool imm ≤ w → Fine w (by_slots c imm d)
+joined_fine c imm d f k h l = rw (slots_joined c imm d, join_is c imm d h) (added_fine imm d f (join_fits _ imm d.acc h l) c k)
 
 -- ---- the first
 
 pub new_fine : (w : ℕ) → 2 ≤ w → Fine w new_draft
 new_fine w h = record { good = new_good w h; sizes = omega arith; flags = omega arith }
-
-pub fine_wider : {v w : ℕ} (d : Draft) → v ≤ w → Fine v d → Fine w d
-fine_wider d h f = record { good = good_wider d.acc h f.good; sizes = f.sizes; flags = f.flags }

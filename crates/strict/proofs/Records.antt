@@ -4,26 +4,18 @@ use mathlib.Core.Bool.{true}
 use mathlib.Core.List.{List}
 use Prim.Native.Nat.{ℕ, ◌+◌, ◌*◌, ◌≤◌, ◌<◌}
 use native.Mathlib.Omega.{arith}
-use borrow.Author.Tests.{ltb-true}
 use lib.ListN.{length}
-use lib.Dec.{ltb}
 use Rattle.rules.specs.Record.{record_at, record_size}
 use Rattle.rules.specs.Checks.{starts_right}
-use Rattle.rules.proofs.Operations.{true_left}
 use Rattle.checks.specs.Batch.{Fits}
 use Rattle.checks.proofs.Groups.{right_starts, Laid, laid}
-use Rattle.strict.specs.Model.{Runs, is_record}
+use Rattle.strict.specs.Model.{Runs}
 
 pub record_fits : (s : List ℕ) (k b : ℕ) → Runs s k → b < k → Fits (record_at s b)
-record_fits s k b h l = h.fit b (omega (arith, h.whole))
+record_fits s k b h l = record { width = 8; room = omega arith; right = h.right b l }
 
 pub laid_at : (s : List ℕ) (k b : ℕ) → Runs s k → b < k → Laid (record_at s b)
 laid_at s k b h l = laid s b (record_fits s k b h l)
 
 pub record_there : (s : List ℕ) (k b : ℕ) → Runs s k → b < k → (record_size * b + record_size ≤ length s) × (starts_right (record_at s b).starts ≡ true)
 record_there s k b h l = (omega (arith, h.whole), right_starts (record_at s b) (record_fits s k b h l))
-
--- what is a record is one of them
-pub record_below : (s : List ℕ) (k b sizes flags : ℕ) → is_record s k b sizes flags ≡ true → b < k
-unfolding is_record
-record_below s k b sizes flags h = ltb-true b k (true_left (ltb b k) _ h)

@@ -6,6 +6,7 @@ use Prim.Native.Nat.{ℕ, zero, suc, ◌*◌, ◌/◌, ◌<◌}
 use native.Mathlib.Nat.{sub-zero, zero-add}
 use native.Mathlib.Omega.{arith}
 use borrow.Author.Tests.{ne_eqb, le-leb, lt-leb, lt-ltb, le-ltb}
+use Rattle.std.specs.Prelude.{Ok}
 use lib.ListN.{length, get_or}
 use lib.Dec.{leb, ltb, eqb}
 use Rattle.rules.specs.Lists.{All}
@@ -22,17 +23,17 @@ use Rattle.rules.proofs.Digits.{split}
 use Rattle.rules.proofs.Operations.{noop_plain, table_128}
 use Rattle.rules.proofs.Records.{records_length, records_back}
 use Rattle.claims.proofs.Shape.{RightBatch, RightBatches}
-use Rattle.claims.proofs.Right.{Width, right_batches}
+use Rattle.claims.proofs.Right.{width_8, right_batches}
 use Rattle.claims.proofs.ReadThenChecked.{Encodable, encodable, codes_below}
 use Rattle.claims.proofs.Passes.{decode_passes}
-use Rattle.checks.proofs.Passed.{checked, all_fit}
+use Rattle.checks.proofs.Passed.{checked}
 use Rattle.rules.proofs.Sizes.{length_codes}
 use Rattle.claims.proofs.OwnList.{unmarked_all}
 use Rattle.claims.proofs.Shapes.{shapes_differing, shapes}
 use Rattle.strict.specs.declared.Work.{Work}
-use Rattle.strict.specs.Model.{Runs, new_work, fed, judged, Judged, verdict_in}
-use Rattle.strict.proofs.Judged.{seen, none, work_of, work_start, work_ended, work_fed}
-use Rattle.strict.proofs.Apart.{said, said_is}
+use Rattle.strict.specs.Model.{new_work, fed, judged, batches_judged, Judged, verdict_in}
+use Rattle.strict.proofs.Judged.{seen, work_of, work_start, work_ended, work_fed}
+use Rattle.strict.proofs.Apart.{said_is}
 
 -- the length's test, as the code has it
 length_test : (n : ℕ) → (eqb n 0 || ltb 16384 n) ≡ not (leb 1 n && leb n 16384)
@@ -55,10 +56,10 @@ each_batch w t (gs ∷ hs ∷ bs) h = (h.1, each_batch w t (hs ∷ bs) h.2)
 
 -- ---- the walk over a list's operations
 
-module _ (s : List ℕ) (k : ℕ) (runs : Runs s k) (w : ℕ) (width : Width w) (t : List ℕ) where
+module _ (s : List ℕ) (k : ℕ) (w : ℕ) (t : List ℕ) where
   walked : (xs : List Op) → All (λ x. x.code < length t) xs → (r : Answer Unit)
-      → judged s k (fed w t s k (codes xs) new_work) r ≡ refuse (not (listable xs)) unfinished₁₈ 0 (said s k runs w width.eight t (seen s k (none s k) (batches_of w t xs)) r)
-  unfolding judged listable batches_of said work_of end_batch
+      → judged s k (fed w t s k (codes xs) new_work) r ≡ refuse (not (listable xs)) unfinished₁₈ 0 (batches_judged k (seen s k (Ok 0) (batches_of w t xs)) r)
+  unfolding judged listable batches_of work_of end_batch
   walked xs h r =
       let d = steps w t xs start in
       let e : fed w t s k (codes xs) new_work ≡ work_of s k t (length xs) d = ap (fed w t s k (codes xs)) (work_start s k t) ∙ work_fed s k w t 0 xs start h ∙ ap (λ (n : ℕ). work_of s k t n d) (zero-add (length xs)) in
@@ -76,9 +77,9 @@ unfolding codes
 codes_all P [] h = tt
 codes_all P (x ∷ xs) h = (h.0, codes_all P xs h.1)
 
-module _ (w : ℕ) (width : Width w) (t s : List ℕ) (at : ℕ) (room : Room) (b : Block) (next : ℕ) (taken : decoded w t s at room ≡ found b next) where
-  e : Encodable w t b
-  e = encodable w t s at room b next taken
+module _ (t s : List ℕ) (at : ℕ) (room : Room) (b : Block) (next : ℕ) (taken : decoded 8 t s at room ≡ found b next) where
+  e : Encodable 8 t b
+  e = encodable 8 t s at room b next taken
 
   abbrev rb : List ℕ
   rb = records_bytes b.records
@@ -95,10 +96,10 @@ module _ (w : ℕ) (width : Width w) (t s : List ℕ) (at : ℕ) (room : Room) (
 
   pub ready : Judged t (codes b.ops) rb k
   ready =
-      let c = (checked w (codes b.ops) (values b.ops) rb (decode_passes w t s at room b next taken).structure).1 in
+      let c = (checked 8 (codes b.ops) (values b.ops) rb (decode_passes 8 t s at room b next taken).structure).1 in
       let n = length_codes b.ops in
       record {
-        runs = record { whole = long; fit = all_fit w (codes b.ops) (values b.ops) rb width.eight c };
+        runs = record { whole = long; right = λ b l. c.right b (omega (arith, long)) };
         apt = record { table = table_128 t e.table; codes = all_at (codes b.ops) (codes_below t b.ops e.allowed) };
         few = omega (arith, e.few);
         sum = rw each (e.sum ∙ sym n);
@@ -110,17 +111,17 @@ module _ (w : ℕ) (width : Width w) (t s : List ℕ) (at : ℕ) (room : Room) (
   known : All (λ x. x.code < length t) (own_list b)
   known = rw (table_128 t e.table) (unmarked_all (λ x. x.code < 128) (marks b.records) b.ops (codes_all (λ c. c < 128) b.ops (codes_below t b.ops e.allowed)))
 
-  pub judged_is : verdict_in w t (codes b.ops) rb k ≡ refuse_unfinished w t b (good tt)
+  pub judged_is : verdict_in 8 t (codes b.ops) rb k ≡ refuse_unfinished 8 t b (good tt)
   unfolding verdict_in refuse_unfinished
   judged_is =
-      ap (λ (cs : List ℕ). judged rb k (fed w t rb k cs new_work) (good tt)) own_codes
-      ∙ (walked rb k ready.runs w width t (own_list b) known (good tt) ∙ go (listable (own_list b)) refl)
+      ap (λ (cs : List ℕ). judged rb k (fed 8 t rb k cs new_work) (good tt)) own_codes
+      ∙ (walked rb k 8 t (own_list b) known (good tt) ∙ go (listable (own_list b)) refl)
     where
       bs : List (List Group)
-      bs = batches_of w t (own_list b)
+      bs = batches_of 8 t (own_list b)
 
       saw : Answer Unit
-      saw = said rb k ready.runs w width.eight t (seen rb k (none rb k) bs) (good tt)
+      saw = batches_judged k (seen rb k (Ok 0) bs) (good tt)
 
       compared : List Record → Answer Unit
       compared rs = refuse_first 0 (shapes_differing rs (map record_of bs)) (good tt)
@@ -128,5 +129,5 @@ module _ (w : ℕ) (width : Width w) (t s : List ℕ) (at : ℕ) (room : Room) (
       go : (y : Bool) → listable (own_list b) ≡ y → refuse (not y) unfinished₁₈ 0 saw ≡ refuse (not y) unfinished₁₈ 0 (refuse_first 0 (differing b.records (map record_of bs)) (good tt))
       go false l = refl
       go true l =
-          sym (said_is rb k ready.runs w width.eight t (good tt) 0 bs (each_batch w t bs (right_batches w width t (noop_plain t e.table) (own_list b))))
-          ∙ (ap compared (ap (λ (n : ℕ). records_from n rb 0) (sub-zero k) ∙ each) ∙ sym (shapes w width t s at room b next taken l (good tt)))
+          sym (said_is rb k ready.runs 8 (omega arith) t (good tt) 0 bs (each_batch 8 t bs (right_batches 8 width_8 t (noop_plain t e.table) (own_list b))))
+          ∙ (ap compared (ap (λ (n : ℕ). records_from n rb 0) (sub-zero k) ∙ each) ∙ sym (shapes 8 width_8 t s at room b next taken l (good tt)))

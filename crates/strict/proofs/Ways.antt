@@ -4,6 +4,9 @@ use mathlib.Core.Bool.{not}
 use mathlib.Core.List.{List, map}
 use Prim.Native.Nat.{ℕ, ◌*◌, ◌≤◌}
 use lib.ListN.{length, take}
+use Rattle.std.specs.Prelude.{Result, Ok, Err, IsErrAnd}
+use Rattle.refusal.specs.declared.Refusal.{Refusal}
+use Rattle.refusal.specs.Told.{number_of, place_of, told}
 use Rattle.rules.specs.Lists.{in_row}
 use Rattle.rules.specs.Answer.{Answer, good, refused, Read, found, item_of, refuse, refuse_first}
 use Rattle.rules.specs.Operations.{codes, values}
@@ -12,15 +15,12 @@ use Rattle.rules.specs.Record.{Block, no_block, record_of, record_size, records_
 use Rattle.rules.specs.Refusals.{unfinished₁₈}
 use Rattle.rules.specs.Strict.{own_list, listable, differing, refuse_unfinished}
 use Rattle.rules.specs.Functions.{Arena, room_in, filled, decoded, strictly_decoded, leaves}
-use Rattle.operation.specs.declared.Verdict.TheVariants.{Passed, Refused}
-use Rattle.operation.specs.Verdict.{verdict_of}
-use Rattle.checks.proofs.Passed.{was_good, was_refused, and_then, refuse_then, first_then}
+use Rattle.checks.proofs.Passed.{and_then, refuse_then, first_then}
+use Rattle.refusal.proofs.Told.{handed}
 use Rattle.decoder.specs.declared.Decoded.{Decoded}
-use Rattle.decoder.specs.declared.Decoded.TheVariants as whole
 use Rattle.decoder.specs.Replies.{decoded_of, Decodes, StrictlyDecodes}
 use Rattle.decoder.specs.Stages.{tailless}
 use Rattle.decoder.proofs.Taken.{refused_answer, Took, took, lengths, room, begins}
-use Rattle.claims.proofs.Right.{width_8}
 use Rattle.strict.specs.Model.{Judged, verdict_in}
 use Rattle.strict.proofs.Strict.{ready, judged_is}
 
@@ -35,7 +35,7 @@ unfinished_then w t b r =
     let faults = differing b.records (map record_of (batches_of w t (own_list b))) in
     ap (refuse no unfinished₁₈ 0) (first_then 0 faults (good tt) r) ∙ refuse_then no unfinished₁₈ 0 (refuse_first 0 faults (good tt)) r
 
-module _ (t s : List ℕ) (at : ℕ) (before after : Arena) (r : Decoded) (d : Decodes t s at before after r) where
+module _ (t s : List ℕ) (at : ℕ) (before after : Arena) (r : Result Decoded Refusal) (d : Decodes t s at before after r) where
   abbrev answer : Read Block
   answer = decoded 8 t s at (room_in before)
 
@@ -45,15 +45,24 @@ module _ (t s : List ℕ) (at : ℕ) (before after : Arena) (r : Decoded) (d : D
 
   -- ---- decode refused
 
-  pub refused_way : (n p : ℕ) → r ≡ whole.Refused n p → StrictlyDecodes t s at before after r
+  pub refused_way : (e : Refusal) → r ≡ Err e → (left : Result Decoded Refusal) → IsErrAnd left (λ y. y ≡ e) → StrictlyDecodes t s at before after left
   unfolding strictly_decoded
-  refused_way n p h = let e = refused_answer t s at before after r d n p h in as_decode (rw e)
+  refused_way e h left q =
+      let a = refused_answer t s at before after r d e h in
+      let w = as_decode (rw a) in
+      record { reply = handed left e q ∙ (ap told (sym h) ∙ w.reply); runs = w.runs }
 
   -- ---- decode took a block
 
-  module _ (k n u : ℕ) (h : r ≡ whole.Made k n u) where
+  module _ (m : Decoded) (h : r ≡ Ok m) where
+    abbrev n : ℕ
+    n = m.operations
+
+    abbrev k : ℕ
+    k = m.batches
+
     x : Took t s at before after r d k n
-    x = took t s at before after r d k n u h
+    x = took t s at before after r d m h
 
     abbrev b : Block
     b = x.block
@@ -65,31 +74,31 @@ module _ (t s : List ℕ) (at : ℕ) (before after : Arena) (r : Decoded) (d : D
     asks = (
       (room t s at before after r d k n x).0,
       (room t s at before after r d k n x).2,
-      judged_as t _ _ _ _ _ _ same.0 same.1 (sym x.batches) (ready 8 width_8 t s at (room_in before) b x.next x.is),
+      judged_as t _ _ _ _ _ _ same.0 same.1 (sym x.batches) (ready t s at (room_in before) b x.next x.is),
     )
 
-    verdict : verdict_in 8 t (take n after.codes) (take (record_size * k) after.records) k ≡ refuse_unfinished 8 t b (good tt)
-    verdict = (let e = same in let f = sym x.batches in λ j. verdict_in 8 t (e.0 j) (e.1 j) (f j)) ∙ judged_is 8 width_8 t s at (room_in before) b x.next x.is
+    abbrev walk : Answer Unit
+    walk = verdict_in 8 t (take n after.codes) (take (record_size * k) after.records) k
+
+    verdict : walk ≡ refuse_unfinished 8 t b (good tt)
+    verdict = (let e = same in let f = sym x.batches in λ j. verdict_in 8 t (e.0 j) (e.1 j) (f j)) ∙ judged_is t s at (room_in before) b x.next x.is
 
     strictly : strictly_decoded 8 t s at (room_in before) ≡ and_then (refuse_unfinished 8 t b (good tt)) (found b x.next)
     unfolding strictly_decoded
     strictly = rw x.is (unfinished_then 8 t b (found b x.next))
 
-    abbrev walk : Answer Unit
-    walk = verdict_in 8 t (take n after.codes) (take (record_size * k) after.records) k
-
     -- the block is finished
-    pub passed_way : verdict_of walk ≡ Passed → StrictlyDecodes t s at before after (whole.Made k n u)
+    pub passed_way : walk ≡ good tt → StrictlyDecodes t s at before after (Ok m)
     passed_way v =
-        let g = sym verdict ∙ was_good walk v in
+        let g = sym verdict ∙ v in
         let w = as_decode (strictly ∙ (rw g (sym x.is))) in
-        record { reply = sym h ∙ w.reply; runs = w.runs }
+        record { reply = ap told (sym h) ∙ w.reply; runs = w.runs }
 
     -- it is not
-    pub late_way : (m p : ℕ) → verdict_of walk ≡ Refused m p → (after' : Arena) → after' ≡ tailless 0 0 after → StrictlyDecodes t s at before after' (whole.Refused m p)
+    pub late_way : (e : Refusal) → walk ≡ refused (number_of e) (place_of e) → (after' : Arena) → after' ≡ tailless 0 0 after → StrictlyDecodes t s at before after' (Err e)
     unfolding filled no_block codes values in_row
-    late_way m p v after' e =
-        let g = sym verdict ∙ was_refused walk m p v in
-        let q : strictly_decoded 8 t s at (room_in before) ≡ refused m p = strictly ∙ rw g in
+    late_way e v after' z =
+        let g = sym verdict ∙ v in
+        let q : strictly_decoded 8 t s at (room_in before) ≡ refused (number_of e) (place_of e) = strictly ∙ rw g in
         let l = lengths t s at before after r d k n x in
-        record { reply = rw q; runs = rw (q, e, l.0, l.1, l.2) }
+        record { reply = rw q; runs = rw (q, z, l.0, l.1, l.2) }

@@ -1,1 +1,3 @@
+pub mod Draft
 pub mod Model
+pub mod Walk

@@ -1,4 +1,0 @@
-use Rattle.strict.proofs.new_draft.Goals as goal
-
-pub returns : goal.returns
-returns c = rw c.new-acc.ensures
