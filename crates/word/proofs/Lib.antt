@@ -1,3 +1,3 @@
 mod Bytes
-pub mod Fill
+mod Copies
 mod Zeros

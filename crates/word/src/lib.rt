@@ -60,13 +60,13 @@ fn put_some(out: &mut [u8], at: usize, v: u64)
     }
 }
 
-// n copies of a byte.
-pub fn fill8(out: &mut [u8], at: usize, n: usize, v: u8)
-    requires { (at < 2 ^ 62) × (n < 2 ^ 62) }
+// n copies of a value.
+pub fn fill<T: Copy>(out: &mut [T], at: usize, n: usize, v: T)
+    requires { at + n < 2 ^ 64 }
     ensures { out.new ≡ sets out.old at (replicate n v) }
 {
-    for i in 0..n {
-        store(out, at + i, v);
+    for i in at..out.len().min(at + n) {
+        out[i] = v;
     }
 }
 
@@ -76,7 +76,7 @@ pub fn fill_few(out: &mut [u8], at: usize, n: usize, v: u8)
     ensures { out.new ≡ sets out.old at (replicate n v) }
 {
     if out.len() < at + n {
-        fill8(out, at, n, v);
+        fill(out, at, n, v);
     } else if 4 <= n {
         let same = u64::from(v) * 0x0101_0101;
         put::<4>(out, at, same);

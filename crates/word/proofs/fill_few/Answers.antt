@@ -1,6 +1,6 @@
 use mathlib.Core.Path.{◌∙◌}
 use native.Mathlib.Omega.{arith}
-use Rattle.word.proofs.Fill.{ends}
+use Rattle.word.proofs.Copies.{ends}
 use Rattle.word.proofs.fill_few.Goals as goal
 
 pub returns-then-n-ge4 : goal.returns-then-n-ge4

@@ -1,12 +1,37 @@
 -- Copies of a byte, by stores of several bytes that may overlap. Assumes nothing.
 use mathlib.Core.Path.{◌≡◌, refl, ap, ◌∙◌}
 use mathlib.Core.List.{List, [], ◌∷◌}
-use Prim.Native.Nat.{ℕ, zero, suc, ◌+◌, ◌-◌, ◌*◌, ◌/◌, ◌%◌, ◌≤◌, ◌<◌}
+use Prim.Native.Nat.{ℕ, zero, suc, ◌+◌, ◌-◌, ◌*◌, ◌/◌, ◌%◌, ◌≤◌, ◌<◌, min}
 use native.Mathlib.Nat.{add-mul-mod_self_left, add-mul-div_left}
+use native.Mathlib.Numerals.{add-one}
 use native.Mathlib.Omega.{arith}
-use lib.ListN.{set, replicate}
-use lib.Seq.{sets, set-set, set_comm}
+use lib.ListN.{length, set, replicate}
+use lib.Seq.{sets, set-set, set_comm, set_out}
 use Rattle.rules.specs.Digits.{digits, le_bytes}
+
+-- ---- a loop that stores copies, until m or the end of the run
+
+module _ {A : Type 0} where
+  pub fill_init : (l : List A) (at n : ℕ) (v : A) → sets l at (replicate (at + n - at) v) ≡ sets l at (replicate n v)
+  fill_init l at n v = let e : at + n - at ≡ n = omega arith in rw e
+
+  pub fill_turn : (l : List A) (i m : ℕ) (v : A) → i < m → sets (set l i v) (i + 1) (replicate (m - (i + 1)) v) ≡ sets l i (replicate (m - i) v)
+  fill_turn l i m v h =
+      let e : m - i ≡ suc (m - (i + 1)) = omega arith in
+      rw (e, add-one)
+
+  past : (l vs : List A) (i : ℕ) → length l ≤ i → sets l i vs ≡ l
+  past l [] i h = refl
+  past l (v ∷ vs) i h = ap (λ (d : List A). sets d (suc i) vs) (set_out l i v h) ∙ past l vs (suc i) (omega arith)
+
+  ended : (l : List A) (i k : ℕ) (v : A) → (0 < k → length l ≤ i) → sets l i (replicate k v) ≡ l
+  ended l i zero v h = refl
+  ended l i (suc k) v h = past l (replicate (suc k) v) i (h (omega arith))
+
+  pub fill_end : (l : List A) (i m : ℕ) (v : A) → min (length l) m ≤ i → sets l i (replicate (m - i) v) ≡ l
+  fill_end l i m v h = ended l i (m - i) v (λ some. omega arith)
+
+-- ---- copies by stores of several bytes
 
 -- a byte repeated, as a number
 abbrev repeated : ℕ → ℕ → ℕ
