@@ -369,7 +369,7 @@ fn read_table(s: &[u8], from: usize, out: &mut [u8]) -> Front
 {
     let lent = number(s, from);
     let kind = number(s, lent.at);
-    word::fill8(out, 0, 128, 3);
+    word::fill(out, 0, 128, 3);
     word::store(out, 0, 0);
     word::store(out, 1, 1);
     word::store(out, 2, 0);

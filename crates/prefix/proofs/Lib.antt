@@ -1,3 +1,2 @@
-pub mod Fills
 pub mod Entries
 pub mod Claims

@@ -1,8 +1,7 @@
 // The two index tables of a block, RawToPaddedPrefix and PaddedToRawPrefix, and lookups in them (document 01, "Lookups and tables").
 #![tactic(auto)]
 
-ghost use Rattle.std.specs.Prelude.{◌≡◌, ◌+◌, ◌*◌, ◌/◌, ◌≤◌, ◌<◌, ◌^◌, length, replicate};
-ghost use Rattle.std.proofs.lemmas.List.Edits.{sets};
+ghost use Rattle.std.specs.Prelude.{◌≡◌, ◌+◌, ◌*◌, ◌/◌, ◌≤◌, ◌<◌, ◌^◌, length};
 ghost use Rattle.rules.specs.Record.{record_size, record_at, records_in};
 ghost use Rattle.rules.specs.Lookups.{marks, raw_at, padded_at, padded_index, raw_index};
 ghost use Rattle.rules.specs.Functions.{arena, raw_tabled, padded_tabled, table_of};
@@ -68,17 +67,6 @@ struct Filled {
     paddings: usize,
 }
 
-// n copies of a value, those past the end left out.
-fn fill64(out: &mut [u64], at: usize, n: usize, v: u64)
-    requires { at + n < 2 ^ 63 }
-    ensures { out.new ≡ sets out.old at (replicate n v) }
-{
-    let end = out.len().min(at + n);
-    if at < end {
-        out[at..end].fill(v);
-    }
-}
-
 // The flagged paddings of a group, 0 or 1.
 fn pads_in(size: usize, flag: u8) -> usize
     ensures { (result ≡ pads_in size flag) × (result ≤ 1) × (result ≤ size) }
@@ -119,7 +107,7 @@ fn batch_entries(records: &[u8], b: usize, which: Prefix, from: Filled, out: &mu
         waiting += kept_in(which, end - start, pads);
         start = end;
         if pads == 1 {
-            fill64(out, entries, waiting, paddings as u64);
+            word::fill(out, entries, waiting, paddings as u64);
             entries += waiting;
             waiting = 0;
             paddings += 1;
@@ -147,7 +135,7 @@ fn fill(records: &[u8], which: Prefix, out: &mut [u64]) -> usize
         done = batch_entries(records, b, which, done, out);
     }
     let last = done.waiting + 1;
-    fill64(out, done.entries, last, done.paddings as u64);
+    word::fill(out, done.entries, last, done.paddings as u64);
     done.entries + last
 }
 

@@ -37,7 +37,7 @@ loop-g-preserved c =
         left = flags_turn _ _ x.sound x.flags l.g l.left i.left h.0;
         on =
             rw (w.out-is, w.entries-is, w.waiting-is, w.paddings-is)
-            (run_on _ _ x _ _ _ _ _ _ _ _ _ i.on h.0 _ _ _ i.start c.start-end.ensures.0 c.flag.ensures _ _ c.kept_in-waiting.ensures.0 c.pads_in-pads.ensures.0 w.if-pads-eq1.true _ w.fill64.ensures);
+            (run_on _ _ x _ _ _ _ _ _ _ _ _ i.on h.0 _ _ _ i.start c.start-end.ensures.0 c.flag.ensures _ _ c.kept_in-waiting.ensures.0 c.pads_in-pads.ensures.0 w.if-pads-eq1.true _ w.fill.ensures);
       }
       | else-pads-eq1 w ↦ record {
         start = c.start-end.ensures.0;

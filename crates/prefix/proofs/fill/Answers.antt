@@ -28,4 +28,4 @@ returns c =
     let w = l.done.waiting in
     let k = l.done.paddings in
     let z : ahead a.which w k (marks (records_from (length s / record_size - l.b) s l.b)) ≡ replicate (w + 1) k = ap (ahead a.which w k) (marks_none (length s / record_size) s l.b (omega arith)) ∙ last_entry a.which w k in
-    record { entries = omega (arith, ap length z, i.entries, length-replicate (w + 1) k); run = c.fill64.ensures ∙ (rw z at i.run) }
+    record { entries = omega (arith, ap length z, i.entries, length-replicate (w + 1) k); run = c.fill.ensures ∙ (rw z at i.run) }

@@ -1,5 +1,4 @@
 use mathlib.Core.Path.{◌≡◌, ◌∙◌}
-use Prim.Native.Nat.{◌<◌, ◌^◌}
 use native.Mathlib.Omega.{arith}
 use Rattle.rules.specs.Digits.{le_at}
 use Rattle.word.proofs.Bytes.{few_bytes, taken}
