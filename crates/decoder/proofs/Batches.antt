@@ -69,29 +69,30 @@ module _ (w : ℕ) (t : List ℕ) (xs : List Op) (s : List ℕ) (sizes flags k :
   unfolding in_row batches_at
   start run = record { records = []; many = refl; bytes = refl; size = refl; walk = rw (sizes_many k s sizes) (sym (onto_nil (rest 0 0) ∙ rw sub-zero)) }
 
-  module _ (run : List ℕ) (b from : ℕ) (g : Going run b from) (h : b < k) (v : ℕ) (e : v ≡ le_at 4 s (sizes + 4 * b)) where
+module _ {w : ℕ} {t : List ℕ} {xs : List Op} {s : List ℕ} {sizes flags k : ℕ} {run : List ℕ} {b from : ℕ} (g : Going w t xs s sizes flags k run b from) where
+  module _ (h : b < k) {v : ℕ} (e : v ≡ le_at 4 s (sizes + 4 * b)) where
     abbrev pub one : Read Record
     one = batch w t xs from b v (get_or s (flags + b) 0)
 
-    next : rest b from ≡ (one then λ r end. rest (b + 1) end then λ rs end. found (r ∷ rs) end)
+    next : rest w t xs s sizes flags k b from ≡ (one then λ r end. rest w t xs s sizes flags k (b + 1) end then λ rs end. found (r ∷ rs) end)
     unfolding row
     next =
         let d : k - b ≡ suc (k - (b + 1)) = omega arith in
         rw (d, sizes_at_lem k s sizes b h, flags_at_lem k s flags b h, e)
 
-    pub stop : (n p : ℕ) → one ≡ refused n p → whole ≡ refused n p
-    stop n p r = g.walk ∙ rw (next, r)
+    pub stop : {n p : ℕ} → one ≡ refused n p → whole w t xs s sizes flags k ≡ refused n p
+    stop r = g.walk ∙ rw (next, r)
 
-    pub turn : (r : Record) (end : ℕ) → one ≡ found r end → length (record_bytes r) ≡ record_size → record_size * b + record_size ≤ length run → Going (record_set b r run) (b + 1) end
-    turn r end f n l =
+    pub turn : {r : Record} {end : ℕ} → one ≡ found r end → length (record_bytes r) ≡ record_size → record_size * b + record_size ≤ length run → Going w t xs s sizes flags k (record_set b r run) (b + 1) end
+    turn {r} {end} f n l =
         record {
           records = g.records ++ (r ∷ []);
           many = length-append g.records (r ∷ []) ∙ omega (arith, g.many);
           bytes = rw (bytes_snoc g.records r) (stored run b r n l ∙ ap (λ (l : List ℕ). l ++ record_bytes r) g.bytes);
           size = rw (bytes_snoc g.records r) (length-append (records_bytes g.records) (record_bytes r) ∙ omega (arith, g.size));
-          walk = g.walk ∙ rw (next, f) (onto_then g.records r (rest (b + 1) end));
+          walk = g.walk ∙ rw (next, f) (onto_then g.records r (rest w t xs s sizes flags k (b + 1) end));
         }
 
-  pub done : (run : List ℕ) (b from : ℕ) (g : Going run b from) → k ≤ b → whole ≡ found g.records from
+  pub done : k ≤ b → whole w t xs s sizes flags k ≡ found g.records from
   unfolding row
-  done run b from g h = let e : k - b ≡ 0 = omega arith in g.walk ∙ rw e (onto_found g.records from)
+  done h = let e : k - b ≡ 0 = omega arith in g.walk ∙ rw e (onto_found g.records from)

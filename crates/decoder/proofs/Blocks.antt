@@ -13,8 +13,13 @@ use Rattle.rules.specs.Operations.{Op, good_table}
 use Rattle.rules.specs.Record.{Record, Block}
 use Rattle.rules.specs.Bytes.{count_at, nibbles_at, flags_at}
 use Rattle.rules.specs.Block.{Head, Layout, Room, head_at, layout_at, batches_at, batches_by, block_at}
-use Rattle.rules.specs.Functions.{decoded}
-use Rattle.decoder.specs.Stages.{items_at, records_at, sizes_from, flags_from}
+use Rattle.rules.specs.Functions.{Arena, decoded}
+use Rattle.std.specs.Prelude.{Result}
+use Rattle.refusal.specs.declared.Refusal.{Refusal}
+use Rattle.refusal.specs.Told.{told}
+use Rattle.decoder.specs.declared.Decoded.{Decoded}
+use Rattle.decoder.specs.Replies.{decoded_of}
+use Rattle.decoder.specs.Stages.{OpsIn, RecordsIn, Reading, items_at, records_at, sizes_from, flags_from}
 use Rattle.decoder.proofs.Sizes.{Sized}
 
 -- ---- items 4 and 5, and the records
@@ -105,3 +110,12 @@ module _ (w : ℕ) (t s : List ℕ) (at : ℕ) (room : Room) where
     pub decoded_block : good_table t ≡ true → at ≤ length s → decoded w t s at room ≡ block_at w t s at room
     unfolding decoded
     decoded_block g l = rw (le-ltb 1048576 (length s) h, g, le-ltb (length s) at l)
+
+-- ---- a reply to an answer that is known
+
+module _ {at : ℕ} {d : Read Block} {after : Arena} {r : Result Decoded Refusal} where
+  pub reading_lost : {n p : ℕ} → d ≡ refused n p → told r ≡ refused n p → Reading at d after r
+  reading_lost e h = rw e (record { reply = h; left = tt })
+
+  pub reading_found : {b : Block} {end : ℕ} → d ≡ found b end → told r ≡ decoded_of at (found b end) → OpsIn after.codes after.values b.ops × RecordsIn after.records b.records → Reading at d after r
+  reading_found e h l = rw e (record { reply = h; left = l })

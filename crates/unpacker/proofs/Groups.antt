@@ -186,26 +186,33 @@ module _ (w g left : ℕ) (h : g < w) where
 pub eight : (gs us : List ℕ) → gs ≡ fitted 8 us → length gs ≡ 8
 eight gs us f = ap length f ∙ fitted_length 8 us
 
-module _ (w : ℕ) (t : List ℕ) (b : ℕ) (due gs : List ℕ) (g deltas : ℕ) where
+module _ {w : ℕ} {t : List ℕ} {b : ℕ} {due gs : List ℕ} {g deltas : ℕ} where
   pub place_none : g ≤ w → gs ≡ fitted 8 (take g gs) → Placed w t b due gs g deltas due gs g deltas
   place_none h f = record { walk = λ xs end. refl; up = omega arith; under = h; numbers = f; sizes = refl; small = refl }
 
-  module _ (rest hs : List ℕ) (h left : ℕ) (p : Placed w t b due gs g deltas rest hs h left) where
-    pub place_plain : (more : List ℕ) → rest ≡ more → Placed w t b due gs g deltas more hs h left
-    place_plain more e = rw e at p
+  module _ {rest hs : List ℕ} {h left : ℕ} (p : Placed w t b due gs g deltas rest hs h left) where
+    pub place_plain : {more : List ℕ} → rest ≡ more → Placed w t b due gs g deltas more hs h left
+    place_plain e = rw e at p
 
-    pub place_turn : (v : ℕ) (more : List ℕ) → rest ≡ v ∷ more → w ≤ 8 → h < w → left % 16 ≡ 0 → Placed w t b due gs g deltas more (set hs h v) (h + 1) (left / 16)
-    place_turn v more e m l z =
-        let n = eight hs (take h hs) p.numbers in
-        let s = total_turn w h left l in
-        record {
-          walk = λ xs end. p.walk xs end ∙ rw e (turn_placed w t b xs hs h left v more end n m l z);
-          up = omega (arith, p.up);
-          under = omega arith;
-          numbers = store hs h v n (omega arith) p.numbers;
-          sizes = omega (arith, p.sizes);
-          small = p.small ∙ small_empty w h left l z;
-        }
+    module _ {v : ℕ} {more : List ℕ} (e : rest ≡ v ∷ more) where
+      pub place_turn : w ≤ 8 → h < w → left % 16 ≡ 0 → Placed w t b due gs g deltas more (set hs h v) (h + 1) (left / 16)
+      place_turn m l z =
+          let n = eight hs (take h hs) p.numbers in
+          let s = total_turn w h left l in
+          record {
+            walk = λ xs end. p.walk xs end ∙ rw e (turn_placed w t b xs hs h left v more end n m l z);
+            up = omega (arith, p.up);
+            under = omega arith;
+            numbers = store hs h v n (omega arith) p.numbers;
+            sizes = omega (arith, p.sizes);
+            small = p.small ∙ small_empty w h left l z;
+          }
+
+      pub place_8 : w ≤ h → (xs : List Op) (end : ℕ) → onward w t b xs end gs g deltas due ≡ refused no_slot₈ b
+      place_8 l xs end = p.walk xs end ∙ rw e (stop_8 w t b xs hs h left v more end l)
+
+      pub place_9 : h < w → (left % 16 ≡ 0 → ⊥) → (xs : List Op) (end : ℕ) → onward w t b xs end gs g deltas due ≡ refused slot_taken₉ b
+      place_9 l z xs end = p.walk xs end ∙ rw e (stop_9 w t b xs hs h left v more end l z)
 
 -- ---- a part of a run, as it is lent
 
@@ -242,9 +249,9 @@ pub record Walking (w : ℕ) (t : List ℕ) (b : ℕ) (cs vs : List ℕ) (at del
   pub small : up_to 9 (digits 16 (w - g) left) ≡ true
   pub walk : slots t b (digits 16 w deltas) [] (operations cs vs) at ≡ behind (take count gs) (take g gs) (slots t b (digits 16 (w - g) left) [] (operations cs vs) from)
 
-module _ (w : ℕ) (m : w ≤ 8) (t : List ℕ) (b : ℕ) (cs vs : List ℕ) (at deltas : ℕ) where
-  pub walk_start : (gs : List ℕ) → gs ≡ fitted 8 [] → at + total (digits 16 w deltas) ≤ length cs → up_to 9 (digits 16 w deltas) ≡ true → Walking w t b cs vs at deltas gs 0 0 deltas at
-  walk_start gs f r s =
+module _ {w : ℕ} {t : List ℕ} {b : ℕ} {cs vs : List ℕ} {at deltas : ℕ} where
+  pub walk_start : {gs : List ℕ} → gs ≡ fitted 8 [] → at + total (digits 16 w deltas) ≤ length cs → up_to 9 (digits 16 w deltas) ≡ true → Walking w t b cs vs at deltas gs 0 0 deltas at
+  walk_start f r s =
       record {
         up = omega arith;
         under = omega arith;
@@ -262,7 +269,7 @@ module _ (w : ℕ) (m : w ≤ 8) (t : List ℕ) (b : ℕ) (cs vs : List ℕ) (at
           go (v ∷ vs) = refl
       same (refused n p) = refl
 
-  module _ (gs : List ℕ) (count g left from : ℕ) (a : Walking w t b cs vs at deltas gs count g left from) (h : g < w) where
+  module _ {gs : List ℕ} {count g left from : ℕ} (a : Walking w t b cs vs at deltas gs count g left from) (m : w ≤ 8) (h : g < w) where
     n : length gs ≡ 8
     n = eight gs (take count gs) a.numbers
 
@@ -286,7 +293,7 @@ module _ (w : ℕ) (m : w ≤ 8) (t : List ℕ) (b : ℕ) (cs vs : List ℕ) (at
     pub group_stored : (v : ℕ) → set gs g v ≡ fitted 8 (take (g + 1) (set gs g v))
     group_stored v = store gs g v n (omega arith) (zeros_more gs count g n a.up a.numbers (omega (arith, a.under)))
 
-    module _ (v : ℕ) (e : v ≡ number 128 (lent cs from (left % 16))) (z : left % 16 ≡ 0 → ⊥) (l : length cs ≡ length vs) where
+    module _ {v : ℕ} (e : v ≡ number 128 (lent cs from (left % 16))) (z : left % 16 ≡ 0 → ⊥) (l : length cs ≡ length vs) where
       abbrev pub owed : List ℕ
       owed = immediates t (operations (lent cs from (left % 16)) (lent vs from (left % 16)))
 
@@ -295,11 +302,11 @@ module _ (w : ℕ) (m : w ≤ 8) (t : List ℕ) (b : ℕ) (cs vs : List ℕ) (at
           a.walk ∙ turn_group w t b (operations cs vs) (take count gs) gs g left from n m h z
           ∙ rw (lent_part (left % 16) from cs vs, e, lent_number (left % 16) from cs vs group_fits l)
 
-      pub walk_refused : (k p : ℕ) → ((xs : List Op) (end : ℕ) → onward w t b xs end (set gs g v) (g + 1) (left / 16) owed ≡ refused k p) → slots t b (digits 16 w deltas) [] (operations cs vs) at ≡ refused k p
-      walk_refused k p r = walk_on ∙ r (operations cs vs) (from + left % 16)
+      pub walk_refused : {k p : ℕ} → ((xs : List Op) (end : ℕ) → onward w t b xs end (set gs g v) (g + 1) (left / 16) owed ≡ refused k p) → slots t b (digits 16 w deltas) [] (operations cs vs) at ≡ refused k p
+      walk_refused r = walk_on ∙ r (operations cs vs) (from + left % 16)
 
-      pub walk_group : (hs : List ℕ) (k rest : ℕ) → Placed w t b owed (set gs g v) (g + 1) (left / 16) [] hs k rest → Walking w t b cs vs at deltas hs k k rest (from + left % 16)
-      walk_group hs k rest p =
+      pub walk_group : {hs : List ℕ} {k rest : ℕ} → Placed w t b owed (set gs g v) (g + 1) (left / 16) [] hs k rest → Walking w t b cs vs at deltas hs k k rest (from + left % 16)
+      walk_group {hs} {k} {rest} p =
           record {
             up = omega arith;
             under = p.under;

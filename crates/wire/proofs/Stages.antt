@@ -62,6 +62,22 @@ module _ {A : Type 0} {P : A → ℕ → Type 0} {d : Read A} {r : Result ℕ Re
   pub stuck_by : {e : Refusal} → r ≡ Err e → d ≡ refused (number_of e) (place_of e)
   stuck_by {e} h = stuck P d (number_of e) (place_of e) (ap told (sym h) ∙ s.reply)
 
+-- ---- a stage whose answer is known
+
+module _ {A : Type 0} {f : A → ℕ} {P : A → ℕ → Type 0} {d : Read A} {r : Result (Item ℕ) Refusal} where
+  pub staged_lost : {n p : ℕ} → d ≡ refused n p → count_told r ≡ refused n p → Staged f P d r
+  staged_lost e h = rw e (record { reply = h; left = tt })
+
+  pub staged_found : {a : A} {next : ℕ} → d ≡ found a next → count_told r ≡ found (f a) next → P a next → Staged f P d r
+  staged_found e h l = rw e (record { reply = h; left = l })
+
+module _ {A : Type 0} {P : A → ℕ → Type 0} {d : Read A} {r : Result ℕ Refusal} where
+  pub passed_lost : {n p : ℕ} → d ≡ refused n p → told r ≡ refused n p → Passed P d r
+  passed_lost e h = rw e (record { reply = h; left = tt })
+
+  pub passed_found : {a : A} {next : ℕ} → d ≡ found a next → told r ≡ good next → P a next → Passed P d r
+  passed_found e h l = rw e (record { reply = h; left = l })
+
 -- ---- what holds of whatever is found
 
 pub held : {A : Type 0} (P : A → ℕ → Type 0) (d : Read A) (a : A) (next : ℕ) → d ≡ found a next → IfFound P d → P a next

@@ -6,7 +6,7 @@ use lib.Seq.{length-take-le}
 use Rattle.rules.specs.Operations.{operations}
 use Rattle.rules.proofs.Operations.{length_operations, codes_operations, values_operations}
 use Rattle.refusal.proofs.Told.{handed}
-use Rattle.wire.proofs.Stages.{onto_nil}
+use Rattle.wire.proofs.Stages.{onto_nil, passed_lost, passed_found}
 use Rattle.decoder.proofs.Ops.{turn, stop, done}
 use Rattle.decoder.proofs.read_ops.Goals as goal
 
@@ -16,10 +16,8 @@ loop-i-init c = (refl, refl, rw sub-zero (onto_nil _))
 
 pub returns-in_err-op : goal.returns-in_err-op
 returns-in_err-op c =
-    let a = c.args in
     let l = c.loop-i in
-    rw (sym l.invariant.2 ∙ stop a.table.now a.s.now a.n l.next l.i (operations (take l.i l.out_codes) (take l.i l.out_values)) _ _ (omega arith) (sym c.in_err-op.ensures))
-    (record { reply = handed _ _ c.from_residual.ensures.1; left = tt })
+    passed_lost (sym l.invariant.2 ∙ stop _ _ _ _ l.i _ _ _ (omega arith) (sym c.in_err-op.ensures)) (handed _ _ c.from_residual.ensures.1)
 
 pub loop-i-preserved : goal.loop-i-preserved
 loop-i-preserved c =
@@ -33,11 +31,10 @@ loop-i-preserved c =
 
 pub returns : goal.returns
 returns c =
-    let a = c.args in
     let l = c.loop-i in
     let cs = take l.i l.out_codes in
     let vs = take l.i l.out_values in
     let p : length cs ≡ l.i = length-take-le l.i l.out_codes (omega arith) in
     let q : length cs ≡ length vs = p ∙ sym (length-take-le l.i l.out_values (omega arith)) in
     let n : length (operations cs vs) ≡ l.i = length_operations cs vs q ∙ p in
-    rw (sym l.invariant.2 ∙ done a.table.now a.s.now a.n l.next l.i (operations cs vs) (omega arith)) (record { reply = refl; left = (rw (n, codes_operations cs vs q), rw (n, values_operations cs vs q)) })
+    passed_found (sym l.invariant.2 ∙ done _ _ _ _ l.i _ (omega arith)) refl (rw (n, codes_operations cs vs q), rw (n, values_operations cs vs q))
