@@ -3,12 +3,11 @@ use mathlib.Core.Path.{◌≡◌, refl, sym, ap, ◌∙◌}
 use mathlib.Core.Bool.{Bool, true, false, cond}
 use mathlib.Core.List.{List, [], ◌∷◌, ◌++◌}
 use Prim.Native.Nat.{ℕ, suc, ◌+◌, ◌-◌, ◌*◌, ◌/◌, ◌≤◌, ◌<◌}
-use native.Mathlib.Numerals.{add-one}
 use native.Mathlib.Nat.{sub-zero}
 use native.Mathlib.Omega.{arith}
-use borrow.Author.Tests.{ne_eqb}
-use lib.ListN.{length, get_or, drop, set, length-append, drop_of_length-le}
-use lib.Seq.{sets, drop-cons}
+use lib.ListN.{length, get_or, drop, set, length-append}
+use lib.Seq.{sets}
+use Rattle.std.proofs.lemmas.List.Sums.{sum_by-cons}
 use Rattle.rules.specs.Lists.{in_row}
 use Rattle.rules.specs.Digits.{number, le_bytes}
 use Rattle.rules.specs.Operations.{Op, operations, valued}
@@ -17,42 +16,37 @@ use Rattle.rules.specs.Bytes.{more, count_bytes, op_bytes, ops_bytes, nibble_byt
 use Rattle.rules.specs.Block.{block_bytes}
 use Rattle.rules.specs.Functions.{arena, block_in}
 use Rattle.rules.proofs.Digits.{split, length_le_bytes}
-use Rattle.rules.proofs.Operations.{op, kind_at, length_operations, operations_turn, operations_end}
+use Rattle.rules.proofs.Operations.{op, length_operations, operations_turn, operations_end}
 use Rattle.checks.proofs.Walk.{records_turn, records_end}
-use Rattle.encoder.specs.Parts.{ops_size}
+use Rattle.encoder.specs.Parts.{op_size, ops_size}
 use Rattle.rules.proofs.Sizes.{length_records, length_count, length_nibbles, length_flags, more_0, more_1, more_2}
 use Rattle.rules.proofs.Runs.{sets_next}
 
 -- ---- operations
 
-module _ (t cs : List ℕ) (i : ℕ) where
-  module _ (h : i < length cs) (k : get_or cs i 0 < length t) where
-    pub size_plain : get_or t (get_or cs i 0) 0 ≡ 0 → ops_size t (drop i cs) ≡ 1 + ops_size t (drop (i + 1) cs)
-    unfolding ops_size valued
-    size_plain e = rw (add-one i, drop-cons cs i 0 h, kind_at t (get_or cs i 0) k, e)
-
-    pub size_valued : (get_or t (get_or cs i 0) 0 ≡ 0 → ⊥) → ops_size t (drop i cs) ≡ 9 + ops_size t (drop (i + 1) cs)
-    unfolding ops_size valued
-    size_valued e = rw (add-one i, drop-cons cs i 0 h, kind_at t (get_or cs i 0) k, ne_eqb (get_or t (get_or cs i 0) 0) 0 e)
-
-  pub size_end : length cs ≤ i → ops_size t (drop i cs) ≡ 0
-  unfolding ops_size
-  size_end h = rw (drop_of_length-le cs {i = i} h)
-
-op_size : (t : List ℕ) (x : Op) → length (op_bytes t x) ≡ cond (valued t x.code) 9 1
+op_length : (t : List ℕ) (x : Op) → length (op_bytes t x) ≡ op_size t x.code
 unfolding op_bytes
-op_size t x = go (valued t x.code)
+op_length t x = go (valued t x.code)
   where
     go : (b : Bool) → suc (length (cond b (le_bytes 8 x.value) [])) ≡ cond b 9 1
     go true = ap suc (length_le_bytes 8 x.value)
     go false = refl
 
 ops_size_lem : (t cs vs : List ℕ) → length cs ≡ length vs → length (ops_bytes t (operations cs vs)) ≡ ops_size t cs
-unfolding operations in_row ops_size
+unfolding operations in_row
 ops_size_lem t [] vs h = refl
 ops_size_lem t (c ∷ cs) [] h = absurd (omega arith)
 ops_size_lem t (c ∷ cs) (v ∷ vs) h =
-    length-append (op_bytes t (op c v)) (ops_bytes t (operations cs vs)) ∙ omega (arith, op_size t (op c v), ops_size_lem t cs vs (omega arith))
+    length-append (op_bytes t (op c v)) (ops_bytes t (operations cs vs)) ∙ omega (arith, op_length t (op c v), sum_by-cons (op_size t) c cs, ops_size_lem t cs vs (omega arith))
+
+-- no operation takes more than nine bytes
+pub ops_most : (t cs : List ℕ) → ops_size t cs ≤ 9 * length cs
+ops_most t [] = omega arith
+ops_most t (c ∷ cs) = omega (arith, sum_by-cons (op_size t) c cs, nine (valued t c), ops_most t cs)
+  where
+    nine : (b : Bool) → cond b 9 1 ≤ 9
+    nine true = omega arith
+    nine false = omega arith
 
 module _ (t cs vs : List ℕ) (i : ℕ) where
   abbrev pub left : List ℕ

@@ -1,5 +1,5 @@
 -- What the encoder's parts say and are asked: cited by the contracts of private functions only.
-use Rattle.std.specs.Prelude.{cond, not, ◌||◌, List, [], ◌∷◌, map, ℕ, ◌+◌, ltb}
+use Rattle.std.specs.Prelude.{cond, not, ◌||◌, List, map, ℕ, ltb, sum_by}
 use Rattle.rules.specs.Answer.{Answer, good, refuse, refuse_first}
 use Rattle.rules.specs.Refusals.{past_end₁, over_limit₃, bad_table₁₄}
 use Rattle.rules.specs.Operations.{valued, good_table, op_fault}
@@ -25,7 +25,10 @@ inputs_checked w t a size at =
     (refuse_first 0 (map (op_fault t) (block_in a).ops)
     (good tt)))))
 
--- how many bytes operations with these opcodes take: "1 or 9 per operation"
-unfoldable pub ops_size : List ℕ → List ℕ → ℕ
-ops_size t [] = 0
-ops_size t (c ∷ cs) = cond (valued t c) 9 1 + ops_size t cs
+-- how many bytes an operation with this opcode takes: "1 or 9 per operation"
+abbrev pub op_size : List ℕ → ℕ → ℕ
+op_size t c = cond (valued t c) 9 1
+
+-- and operations with these opcodes
+abbrev pub ops_size : List ℕ → List ℕ → ℕ
+ops_size t cs = sum_by (op_size t) cs

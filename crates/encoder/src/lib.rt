@@ -1,7 +1,7 @@
 // The block encoder (document 01, "Block bytes").
 #![tactic(auto)]
 
-ghost use Rattle.std.specs.Prelude.{◌≡◌, ◌+◌, ◌*◌, ◌/◌, ◌≤◌, length};
+ghost use Rattle.std.specs.Prelude.{◌≡◌, ◌+◌, ◌*◌, ◌/◌, ◌≤◌, ◌<◌, length, All};
 ghost use Rattle.std.proofs.lemmas.List.Edits.{sets};
 ghost use Rattle.rules.specs.Operations.{operations};
 ghost use Rattle.rules.specs.Record.{record_size, records_in};
@@ -11,7 +11,7 @@ ghost use Rattle.rules.specs.Functions.{arena, block_in};
 ghost use Rattle.operation.specs.Verdict.{verdict_of};
 ghost use Rattle.checks.specs.Batch.{AllFit, Apt};
 ghost use Rattle.encoder.specs.Replies.{Encodes};
-ghost use Rattle.encoder.specs.Parts.{hand_verdict, inputs_checked, ops_size};
+ghost use Rattle.encoder.specs.Parts.{hand_verdict, inputs_checked, op_size, ops_size};
 
 use op_batch::{RECORD, WIDTH};
 use operation::Verdict;
@@ -84,22 +84,21 @@ fn check_inputs(
 
 // ---- the length
 
-fn ops_len(table: &[u8], codes: &[u8]) -> usize
-    requires { Apt table.now codes.now × (length codes.now ≤ 65535) }
-    ensures { (result ≡ ops_size table.now codes.now) × (result ≤ 9 * 65535) }
+// How many bytes an operation takes.
+fn op_len(table: &[u8], code: u8) -> usize
+    requires { (length table.now ≡ 128) × (code < 128) }
+    ensures { result ≡ op_size table.now code }
 {
-    let mut sum: usize = 0;
-    let mut i: usize = 0;
-    while i < codes.len() {
-        if table[codes[i] as usize] == 0 {
-            sum += 1;
-            i += 1;
-            continue;
-        }
-        sum += 9;
-        i += 1;
-    }
-    sum
+    if table[code as usize] == 0 { 1 } else { 9 }
+}
+
+fn ops_len(table: &[u8], codes: &[u8]) -> usize
+    requires table { length table.now ≡ 128 }
+    requires assigned { All (λ c. c < 128) codes.now }
+    requires few { length codes.now ≤ 65535 }
+    ensures { result ≡ ops_size table.now codes.now }
+{
+    codes.iter().map(|&c| op_len(table, c)).sum()
 }
 
 // How many bytes the block takes: 5 per batch, plus 4, plus the count's, plus 1 or 9 per operation.
@@ -118,11 +117,9 @@ fn write_ops(table: &[u8], codes: &[u8], values: &[u64], out: &mut [u8], at: usi
     ensures place { result ≡ at + length (ops_bytes table.now (operations codes.now values.now)) }
     ensures bytes { out.new ≡ sets out.old at (ops_bytes table.now (operations codes.now values.now)) }
 {
-    let mut i: usize = 0;
     let mut from = at;
-    while i < codes.len() {
-        from = wire::write_op(table, out, from, codes[i], values[i]);
-        i += 1;
+    for (i, code) in codes.iter().enumerate() {
+        from = wire::write_op(table, out, from, *code, values[i]);
     }
     from
 }
@@ -134,10 +131,8 @@ fn write_deltas(records: &[u8], out: &mut [u8], at: usize) -> usize
     ensures bytes { out.new ≡ sets out.old at (nibble_bytes (records_in records.now)) }
 {
     let n = records.len() / RECORD;
-    let mut b: usize = 0;
-    while b < n {
+    for b in 0..n {
         word::put::<4>(out, at + 4 * b, op_batch::pack_indptr_deltas(records, b));
-        b += 1;
     }
     at + 4 * n
 }
@@ -147,11 +142,8 @@ fn write_padding(records: &[u8], out: &mut [u8], at: usize)
     requires { AllFit records.now × (at + length records.now / record_size ≤ length out.old) }
     ensures { out.new ≡ sets out.old at (flag_bytes (records_in records.now)) }
 {
-    let n = records.len() / RECORD;
-    let mut b: usize = 0;
-    while b < n {
+    for b in 0..records.len() / RECORD {
         out[at + b] = op_batch::pack_padding(records, b);
-        b += 1;
     }
 }
 

@@ -1,4 +1,4 @@
-use mathlib.Core.Path.{refl, sym, ◌∙◌}
+use mathlib.Core.Path.{sym, ◌∙◌}
 use Prim.Native.Nat.{◌+◌, ◌*◌}
 use native.Mathlib.Nat.{add-zero}
 use native.Mathlib.Omega.{arith}
@@ -7,22 +7,19 @@ use Rattle.checks.proofs.Groups.{right_starts}
 use Rattle.encoder.proofs.write_deltas.Goals as goal
 
 pub loop-b-init : goal.loop-b-init
-loop-b-init c = (omega arith, refl, rw (add-zero, all_records))
+loop-b-init c = rw (add-zero, all_records)
 
 pub pack_indptr_deltas-requires : goal.pack_indptr_deltas-requires
-pack_indptr_deltas-requires c = (omega arith, right_starts _ (c.requires.0 c.loop-b.b (omega arith)))
+pack_indptr_deltas-requires c = (omega arith, right_starts _ (c.requires.0 c.loop-b.b c.loop-b-test.true))
 
 pub loop-b-preserved : goal.loop-b-preserved
 loop-b-preserved c =
     let l = c.loop-b in
     let a = c.args in
-    let w = c.put in
-    (omega arith, w.auto.out ∙ l.invariant.1, rw (w.ensures, c.pack_indptr_deltas.ensures) (deltas_turn a.records.now _ l.b l.out a.at (omega arith)) ∙ l.invariant.2)
+    rw (c.put.ensures, c.pack_indptr_deltas.ensures) (deltas_turn a.records.now _ l.b l.out a.at (omega arith)) ∙ l.invariant
 
-pub shape_of-out : goal.shape_of-out
-shape_of-out c = c.loop-b.invariant.1
-
-pub returns : goal.returns
-returns c =
+pub returns-clause-bytes : goal.returns-clause-bytes
+returns-clause-bytes c =
     let l = c.loop-b in
-    let a = c.args in record { place = refl; bytes = sym (deltas_end a.records.now _ l.b l.out (a.at + 4 * l.b) (omega arith)) ∙ l.invariant.2 }
+    let a = c.args in
+    sym (deltas_end a.records.now _ l.b l.out (a.at + 4 * l.b) (omega arith)) ∙ l.invariant

@@ -1,13 +1,9 @@
 use mathlib.Core.Path.{◌≡◌}
-use Prim.Native.Nat.{◌+◌, ◌-◌, ◌*◌, ◌≤◌}
-use lib.ListN.{length}
+use Prim.Native.Nat.{◌+◌, ◌-◌, ◌*◌}
 use lib.Seq.{sets}
 use Rattle.rules.specs.Record.{records_from, records_in}
 use Rattle.rules.specs.Bytes.{nibble_bytes}
 use Rattle.encoder.proofs.write_deltas.Given as goal
 
 abbrev pub invariant-loop-b : goal.invariant-loop-b
-invariant-loop-b l = (l.b ≤ l.n) × (length l.out ≡ length l.initial.out) × (sets l.out (l.at + 4 * l.b) (nibble_bytes (records_from (l.n - l.b) l.records l.b)) ≡ sets l.initial.out l.at (nibble_bytes (records_in l.records)))
-
-abbrev pub decreases-loop-b : goal.decreases-loop-b
-decreases-loop-b l = l.n - l.b
+invariant-loop-b l = sets l.out (l.at + 4 * l.b) (nibble_bytes (records_from (l.n - l.b) l.records l.b)) ≡ sets l.initial.out l.at (nibble_bytes (records_in l.records))

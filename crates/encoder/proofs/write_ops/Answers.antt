@@ -1,4 +1,4 @@
-use mathlib.Core.Path.{refl, sym, ap, ◌∙◌}
+use mathlib.Core.Path.{sym, ap, ◌∙◌}
 use native.Mathlib.Omega.{arith}
 use lib.ListN.{length, get_or, length-append}
 use Rattle.rules.specs.Bytes.{op_bytes}
@@ -6,12 +6,6 @@ use Rattle.rules.proofs.Digits.{sets_append}
 use Rattle.rules.proofs.Operations.{op}
 use Rattle.encoder.proofs.Items.{ops_turn, ops_end}
 use Rattle.encoder.proofs.write_ops.Goals as goal
-
-pub loop-i-init : goal.loop-i-init
-loop-i-init c = (omega arith, refl, refl, refl)
-
-pub offset_bounds-values-i : goal.offset_bounds-values-i
-offset_bounds-values-i c = omega (arith, c.well_formed)
 
 pub write_op-from-requires : goal.write_op-from-requires
 write_op-from-requires c =
@@ -23,19 +17,14 @@ pub loop-i-preserved : goal.loop-i-preserved
 loop-i-preserved c =
     let a = c.args in
     let l = c.loop-i in
-    let w = c.write_op-from in
-    let m = ops_turn a.table.now a.codes.now a.values.now l.i (omega arith) (omega arith) in (
-      omega arith,
-      w.auto.out ∙ l.invariant.1,
-      omega (arith, simp length-append at (ap length m)),
-      rw (w.ensures.1, w.ensures.0) (sym (sets_append l.out l.from (op_bytes a.table.now (op (get_or a.codes.now l.i 0) (get_or a.values.now l.i 0))) _) ∙ (rw m at l.invariant.3)),
-    )
-
-pub shape_of-out : goal.shape_of-out
-shape_of-out c = c.loop-i.invariant.1
+    let w = c.write_op-from.ensures in
+    let m = ops_turn a.table.now a.codes.now a.values.now l.i (omega arith) (omega arith) in record {
+      place = omega (arith, simp length-append at (ap length m));
+      bytes = rw (w.1, w.0) (sym (sets_append l.out l.from (op_bytes a.table.now (op (get_or a.codes.now l.i 0) (get_or a.values.now l.i 0))) _) ∙ (rw m at l.invariant.bytes));
+    }
 
 pub returns : goal.returns
 returns c =
     let a = c.args in
     let l = c.loop-i in
-    let e = ops_end a.table.now a.codes.now a.values.now l.i (omega arith) in record { place = omega (arith, ap length e); bytes = rw e at l.invariant.3 }
+    let e = ops_end a.table.now a.codes.now a.values.now l.i (omega arith) in record { place = omega (arith, ap length e); bytes = rw e at l.invariant.bytes }

@@ -1,5 +1,5 @@
 use mathlib.Core.Path.{◌≡◌}
-use Prim.Native.Nat.{◌+◌, ◌-◌, ◌≤◌}
+use Prim.Native.Nat.{◌+◌}
 use lib.ListN.{length}
 use lib.Seq.{sets}
 use Rattle.rules.specs.Operations.{operations}
@@ -8,9 +8,7 @@ use Rattle.encoder.proofs.Items.{left}
 use Rattle.encoder.proofs.write_ops.Given as goal
 
 abbrev pub invariant-loop-i : goal.invariant-loop-i
-invariant-loop-i l =
-    (l.i ≤ length l.codes) × (length l.out ≡ length l.initial.out) × (l.from + length (left l.table l.codes l.values l.i) ≡ l.at + length (ops_bytes l.table (operations l.codes l.values)))
-    × (sets l.out l.from (left l.table l.codes l.values l.i) ≡ sets l.initial.out l.at (ops_bytes l.table (operations l.codes l.values)))
-
-abbrev pub decreases-loop-i : goal.decreases-loop-i
-decreases-loop-i l = length l.codes - l.i
+invariant-loop-i l = record {
+  place : l.from + length (left l.table l.codes l.values l.i) ≡ l.at + length (ops_bytes l.table (operations l.codes l.values));
+  bytes : sets l.out l.from (left l.table l.codes l.values l.i) ≡ sets l.initial.out l.at (ops_bytes l.table (operations l.codes l.values));
+}

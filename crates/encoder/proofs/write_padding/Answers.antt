@@ -1,29 +1,25 @@
-use mathlib.Core.Path.{refl, sym, ◌∙◌}
+use mathlib.Core.Path.{sym, ◌∙◌}
 use Prim.Native.Nat.{◌+◌}
 use native.Mathlib.Nat.{add-zero}
 use native.Mathlib.Omega.{arith}
-use lib.ListN.{length-set}
 use Rattle.encoder.proofs.Items.{flags_turn, flags_end, all_records}
 use Rattle.checks.proofs.Groups.{right_flags}
 use Rattle.encoder.proofs.write_padding.Goals as goal
 
 pub loop-b-init : goal.loop-b-init
-loop-b-init c = (omega arith, refl, rw (add-zero, all_records))
+loop-b-init c = rw (add-zero, all_records)
 
 pub pack_padding-requires : goal.pack_padding-requires
-pack_padding-requires c = (omega arith, right_flags _ (c.requires.0 c.loop-b.b (omega arith)))
+pack_padding-requires c = (omega arith, right_flags _ (c.requires.0 c.loop-b.b c.loop-b-test.true))
 
 pub loop-b-preserved : goal.loop-b-preserved
 loop-b-preserved c =
     let l = c.loop-b in
     let a = c.args in
-    (omega arith, simp length-set l.invariant.1, rw c.pack_padding.ensures (flags_turn a.records.now _ l.b l.out a.at (omega arith)) ∙ l.invariant.2)
-
-pub shape_of-out : goal.shape_of-out
-shape_of-out c = c.loop-b.invariant.1
+    rw c.pack_padding.ensures (flags_turn a.records.now _ l.b l.out a.at (omega arith)) ∙ l.invariant
 
 pub returns : goal.returns
 returns c =
     let l = c.loop-b in
     let a = c.args in
-    sym (flags_end a.records.now _ l.b l.out (a.at + l.b) (omega arith)) ∙ l.invariant.2
+    sym (flags_end a.records.now _ l.b l.out (a.at + l.b) (omega arith)) ∙ l.invariant
