@@ -18,15 +18,17 @@ use Rattle.claims.proofs.Right.{width_8}
 use Rattle.claims.proofs.Arena.{block_in_lem}
 use Rattle.claims.proofs.Demand3.{takes}
 use Rattle.claims.proofs.Claims.{claims_8}
-use Rattle.build.specs.declared.Built.{Built}
-use Rattle.build.specs.declared.Built.TheVariants as building
+use Rattle.std.specs.Prelude.{Result, Ok, Err}
+use Rattle.refusal.specs.declared.Refusal.{Refusal}
+use Rattle.refusal.specs.Told.{told}
+use Rattle.refusal.proofs.Told.{one_told}
+use Rattle.batcher.specs.declared.Totals.{Totals}
 use Rattle.build.specs.Outcome.{Outcome, built_of}
-use Rattle.encoder.specs.declared.Encoded.{Encoded}
-use Rattle.encoder.specs.declared.Encoded.TheVariants as encoding
 use Rattle.encoder.specs.Replies.{Encodes, encoded_of}
 use Rattle.decoder.specs.declared.Decoded.{Decoded}
-use Rattle.decoder.specs.declared.Decoded.TheVariants as decoding
 use Rattle.decoder.specs.Replies.{Reads, Decodes, StrictlyDecodes, decoded_of}
+use Rattle.tight.specs.Build.{totals}
+use Rattle.tight.specs.Bytes as read
 use Rattle.tight.specs.FromContracts.{cut_at, Holds, size, FromDecode, FromBuild, block_for, Contracts}
 use Rattle.rules.proofs.Operations.{codes_operations, values_operations}
 
@@ -63,12 +65,12 @@ module _ (t : List ℕ) (xs : List Op) (h : Premises t xs) where
 
   -- ---- encode
 
-  encodes : (at : ℕ) (buffer buffer' : List ℕ) (e : Encoded) → length buffer ≤ 1048576 → at + length bytes ≤ length buffer → Encodes t (lent block) at buffer buffer' e
-      → (e ≡ encoding.Written (length bytes)) × (buffer' ≡ sets buffer at bytes)
+  encodes : (at : ℕ) (buffer buffer' : List ℕ) (e : Result ℕ Refusal) → length buffer ≤ 1048576 → at + length bytes ≤ length buffer → Encodes t (lent block) at buffer buffer' e
+      → (e ≡ Ok (length bytes)) × (buffer' ≡ sets buffer at bytes)
   unfolding written
   encodes at buffer buffer' e l r k =
       let w : encoded 8 t (lent block) (length buffer) at ≡ good bytes = facts.writes (length buffer) at l r in
-      (k.reply ∙ ap encoded_of w, k.bytes ∙ ap (written buffer at) w)
+      (one_told e (Ok (length bytes)) (k.reply ∙ ap encoded_of w), k.bytes ∙ ap (written buffer at) w)
 
   -- ---- a reader that takes the block's bytes, wherever they are
 
@@ -84,18 +86,18 @@ module _ (t : List ℕ) (xs : List Op) (h : Premises t xs) where
         let m : length (p ++ (bytes ++ q)) ≤ 1048576 = subst (λ (i : ℕ). i ≤ 1048576) (sym (ap length (sym s) ∙ length-sets buffer at bytes)) l in
         rw s (subst (λ (i : ℕ). answer (p ++ (bytes ++ q)) i room ≡ found block (i + length bytes)) n (taken p q room m k))
 
-    decodes : (at : ℕ) (buffer : List ℕ) (out out' : Arena) (d : Decoded) → length buffer ≤ 1048576 → at + length bytes ≤ length buffer → room_for block (room_in out) ≡ true
+    decodes : (at : ℕ) (buffer : List ℕ) (out out' : Arena) (d : Result Decoded Refusal) → length buffer ≤ 1048576 → at + length bytes ≤ length buffer → room_for block (room_in out) ≡ true
         → Reads (answer (sets buffer at bytes) at) at out out' d
-        → (d ≡ decoding.Made (length block.records) (length block.ops) (length bytes)) × (cut_block out' ≡ lent block)
+        → (d ≡ Ok (read.totals (length block.records) (length block.ops) (length bytes))) × (cut_block out' ≡ lent block)
     decodes at buffer out out' d l r k e =
         let w = reads at buffer (room_in out) l r k in
         let u : at + length bytes - at ≡ length bytes = omega arith in (
-          e.reply ∙ (ap (decoded_of at) w ∙ ap (decoding.Made (length block.records) (length block.ops)) u),
+          one_told d (Ok (read.totals (length block.records) (length block.ops) (length bytes))) (e.reply ∙ (ap (decoded_of at) w ∙ ap (λ (n : ℕ). good (read.totals (length block.records) (length block.ops) n)) u)),
           ap cut_block (e.runs ∙ ap (λ (i : Read Block). filled out (leaves no_block (item_of i))) w) ∙ cut_filled out k,
         )
 
     -- one after the other, from runs that are the block's
-    returned_by : (at : ℕ) (buffer buffer' : List ℕ) (e : Encoded) (out out' : Arena) (d : Decoded)
+    returned_by : (at : ℕ) (buffer buffer' : List ℕ) (e : Result ℕ Refusal) (out out' : Arena) (d : Result Decoded Refusal)
         → length buffer ≤ 1048576 → at + size t (lent block) ≤ length buffer → Encodes t (lent block) at buffer buffer' e
         → Holds (length block.records) (length block.ops) out → Reads (answer buffer' at) at out out' d
         → FromDecode t xs (length block.records) (length block.ops) (lent block) e d out'
@@ -111,14 +113,14 @@ module _ (t : List ℕ) (xs : List Op) (h : Premises t xs) where
           left = rw (k.1, here) facts.left;
         }
 
-  returned : (at : ℕ) (buffer buffer' : List ℕ) (e : Encoded) (out out' : Arena) (d : Decoded)
+  returned : (at : ℕ) (buffer buffer' : List ℕ) (e : Result ℕ Refusal) (out out' : Arena) (d : Result Decoded Refusal)
       → length buffer ≤ 1048576 → at + size t (lent block) ≤ length buffer → Encodes t (lent block) at buffer buffer' e
       → Holds (length block.records) (length block.ops) out → Decodes t buffer' at out out' d ⊎ StrictlyDecodes t buffer' at out out' d
       → FromDecode t xs (length block.records) (length block.ops) (lent block) e d out'
   returned at buffer buffer' e out out' d l r en ho (inl de) = returned_by (decoded 8 t) facts.reads at buffer buffer' e out out' d l r en ho de
   returned at buffer buffer' e out out' d l r en ho (inr de) = returned_by (strictly_decoded 8 t) (claims_8.strict.built t xs h) at buffer buffer' e out out' d l r en ho de
 
-  returns_from : (r : Built) (a : Arena) → r ≡ building.Made (length block.records) (length block.ops) → cut_block a ≡ lent block → FromBuild t xs r a
+  returns_from : (r : Result Totals Refusal) (a : Arena) → r ≡ Ok (totals (length block.records) (length block.ops)) → cut_block a ≡ lent block → FromBuild t xs r a
   returns_from r a e c =
       record {
         batches = length block.records;
@@ -129,11 +131,11 @@ module _ (t : List ℕ) (xs : List Op) (h : Premises t xs) where
         returns = rw c returned;
       }
 
-  builds : (r : Built) (before after : Arena) → Holds (length block.records) (length block.ops) before → Outcome (built 8 t (codes xs) (values xs)) r before after → FromBuild t xs r after
+  builds : (r : Result Totals Refusal) (before after : Arena) → Holds (length block.records) (length block.ops) before → Outcome (built 8 t (codes xs) (values xs)) r before after → FromBuild t xs r after
   builds r before after k o =
       let room = roomy block before k in
       let w = facts.builds (room_in before) room in
-      returns_from r after (o.reply ∙ ap built_of w) (ap cut_block (o.runs ∙ ap (λ (i : Answer Block). filled before (leaves no_block i)) w) ∙ cut_filled before room)
+      returns_from r after (one_told r (Ok (totals (length block.records) (length block.ops))) (o.reply ∙ ap built_of w)) (ap cut_block (o.runs ∙ ap (λ (i : Answer Block). filled before (leaves no_block i)) w) ∙ cut_filled before room)
 
   enough : (before : Arena) → Holds 16384 65535 before → Holds (length block.records) (length block.ops) before
   enough before k =

@@ -1,21 +1,20 @@
 -- Wrong checks that the contracts of `structure`, `padding` and `commitment` shut out, each at a named input.
-use Rattle.std.specs.Prelude.{◌≡◌, [], ◌∷◌, ℕ, replicate}
+use Rattle.std.specs.Prelude.{◌≡◌, [], ◌∷◌, Result, Ok, Err, replicate}
 use Rattle.rules.specs.Record.{Record, Block}
 use Rattle.rules.specs.Functions.{structure_checked, padding_checked, commitment_checked}
 use Rattle.rules.specs.Examples.{table_t, op, is, block, lent, pair, p1, p7more}
-use Rattle.operation.specs.declared.Verdict.{Verdict}
-use Rattle.operation.specs.declared.Verdict.TheVariants.{Passed, Refused}
-use Rattle.operation.specs.Verdict.{verdict_of}
+use Rattle.refusal.specs.declared.Refusal.{Refusal}
+use Rattle.refusal.specs.Told.{number_of, place_of, told}
 
 -- what the three checks ensure
-abbrev pub Structure : Block → Verdict → Type 0
-Structure b r = r ≡ verdict_of (structure_checked 8 (lent b))
+abbrev pub Structure : Block → Result Unit Refusal → Type 0
+Structure b r = told r ≡ structure_checked 8 (lent b)
 
-abbrev pub Padding : Block → Verdict → Type 0
-Padding b r = r ≡ verdict_of (padding_checked 8 (lent b))
+abbrev pub Padding : Block → Result Unit Refusal → Type 0
+Padding b r = told r ≡ padding_checked 8 (lent b)
 
-abbrev pub Commitment : Block → Verdict → Type 0
-Commitment b r = r ≡ verdict_of (commitment_checked 8 table_t (lent b))
+abbrev pub Commitment : Block → Result Unit Refusal → Type 0
+Commitment b r = told r ≡ commitment_checked 8 table_t (lent b)
 
 -- seven immediates, and one in a second batch whose record is this
 abbrev pub second : Record → Block
@@ -33,12 +32,12 @@ stale = second (is (0 ∷ replicate 8 2) (1 ∷ replicate 7 0) (1 ∷ 6 ∷ repl
 
 pub record ShutOut : Type 0 where
   -- one that passes everything
-  pub passes_everything : (Structure wrong_count Passed → ⊥) × (Padding wrong_flag Passed → ⊥) × (Commitment stale Passed → ⊥)
+  pub passes_everything : (Structure wrong_count (Ok tt) → ⊥) × (Padding wrong_flag (Ok tt) → ⊥) × (Commitment stale (Ok tt) → ⊥)
   -- "one that refuses everything"
-  pub refuses_everything : (n p : ℕ) → (Structure p1 (Refused n p) → ⊥) × (Padding p1 (Refused n p) → ⊥) × (Commitment p1 (Refused n p) → ⊥)
+  pub refuses_everything : (e : Refusal) → (Structure p1 (Err e) → ⊥) × (Padding p1 (Err e) → ⊥) × (Commitment p1 (Err e) → ⊥)
   -- one that answers the place 0
-  pub place_zero : (n : ℕ) → (Structure wrong_count (Refused n 0) → ⊥) × (Padding wrong_flag (Refused n 0) → ⊥) × (Commitment stale (Refused n 0) → ⊥)
+  pub place_zero : (e : Refusal) → place_of e ≡ 0 → (Structure wrong_count (Err e) → ⊥) × (Padding wrong_flag (Err e) → ⊥) × (Commitment stale (Err e) → ⊥)
   -- one that answers another number
-  pub number : (n : ℕ) → (Structure wrong_count (Refused n 1) → n ≡ 15) × (Padding wrong_flag (Refused n 1) → n ≡ 10) × (Commitment stale (Refused n 1) → n ≡ 16)
+  pub number : (e : Refusal) → (Structure wrong_count (Err e) → number_of e ≡ 15) × (Padding wrong_flag (Err e) → number_of e ≡ 10) × (Commitment stale (Err e) → number_of e ≡ 16)
   -- one that tells a wrong value as a wrong opcode
-  pub value_told_lem : (n p : ℕ) → Commitment (pair (op 2 0) (op 2 1)) (Refused n p) → (n ≡ 17) × (p ≡ 1)
+  pub value_told_lem : (e : Refusal) → Commitment (pair (op 2 0) (op 2 1)) (Err e) → (number_of e ≡ 17) × (place_of e ≡ 1)
