@@ -11,24 +11,17 @@ use lib.Count.{count_trailing_zeros}
 use Rattle.rules.specs.Digits.{le_at}
 use Rattle.rules.specs.Answer.{Answer, good, refused, refuse, Read, found, ◌then◌, row}
 use Rattle.rules.specs.Refusals.{no_room₁₃}
-use Rattle.rules.specs.Operations.{Op, good_table, assigned, valued, value_right}
+use Rattle.rules.specs.Operations.{good_table, assigned, valued, value_right}
 use Rattle.rules.specs.Bytes.{least, count_by, count_at, value_at, op_at, ops_at, batch_count_at}
 use Rattle.rules.specs.Block.{Room, Head, head_at, block_at}
 use Rattle.rules.specs.Functions.{most, decoded, headed}
 use Rattle.rules.proofs.Answer.{passed, came, item}
-use Rattle.wire.specs.Stages.{IfFound}
-use Rattle.wire.proofs.Stages.{if_then, held}
+use Rattle.wire.proofs.Stages.{held}
 use Rattle.head.specs.Enough.{Enough}
-use Rattle.head.proofs.Heads.{few_operations, few_batches}
+use Rattle.head.proofs.Heads.{ops_many, few_operations, few_batches}
 use Rattle.rules.proofs.Operations.{op_guards, value_guards}
 
 -- ---- a head that was found is found with less room, if it is enough
-
-ops_many : (t s : List ℕ) (n at i : ℕ) → IfFound (λ (xs : List Op) (next : ℕ). length xs ≡ n) (ops_at t s n at i)
-unfolding row
-ops_many t s zero at i = refl
-ops_many t s (suc n) at i =
-    if_then _ (op_at t s at i) _ (λ x next e. if_then _ (ops_at t s n next (i + 1)) _ (λ xs end f. ap suc (held _ (ops_at t s n next (i + 1)) xs end f (ops_many t s n next (i + 1)))))
 
 module _ (t s : List ℕ) (at : ℕ) (room : Room) (h : Head) (next : ℕ) (e : head_at t s at most ≡ found h next) where
   with_room : length h.ops ≤ room.codes → length h.ops ≤ room.values → h.batches ≤ room.records → head_at t s at room ≡ found h next

@@ -1,45 +1,55 @@
 -- The head of a block, stage by stage, with room that no head exceeds. Assumes nothing.
-use mathlib.Core.Path.{◌≡◌, sym}
+use mathlib.Core.Path.{◌≡◌, refl, sym, ap}
 use mathlib.Core.Bool.{true, false}
-use mathlib.Core.List.{List}
-use Prim.Native.Nat.{ℕ, suc, ◌+◌, ◌-◌, ◌/◌, ◌^◌, ◌≤◌, ◌<◌}
-use native.Mathlib.Nat.{add-zero}
+use mathlib.Core.List.{List, ◌∷◌}
+use Prim.Native.Nat.{ℕ, zero, suc, ◌+◌, ◌-◌, ◌/◌, ◌^◌, ◌≤◌, ◌<◌}
 use native.Mathlib.Omega.{arith}
 use borrow.Author.Tests.{lt-ltb, le-ltb, ltb-false, le-leb}
 use lib.ListN.{length, get_or}
 use lib.Dec.{leb, ltb}
 use lib.Count.{count_trailing_zeros}
 use Rattle.rules.specs.Digits.{le_at}
-use Rattle.rules.specs.Answer.{good, refused, Read, found, row}
+use Rattle.rules.specs.Answer.{good, refused, Read, found, ◌then◌, row}
 use Rattle.rules.specs.Refusals.{past_end₁, over_limit₃, bad_table₁₄}
 use Rattle.rules.specs.Operations.{Op, good_table}
 use Rattle.rules.specs.Bytes.{least, count_by, count_at, op_at, ops_at, batch_count_at}
 use Rattle.rules.specs.Block.{head_at}
 use Rattle.rules.specs.Functions.{most, headed}
-use Rattle.wire.specs.declared.CountRead.{CountRead}
-use Rattle.wire.specs.Stages.{counted, IfFound, Staged}
-use Rattle.wire.proofs.Stages.{more_then, if_refuse, held}
+use Rattle.std.specs.Prelude.{Result}
+use Rattle.refusal.specs.declared.Refusal.{Refusal}
+use Rattle.refusal.specs.Told.{told}
+use Rattle.wire.specs.Stages.{after, IfFound, Passed}
+use Rattle.wire.proofs.Stages.{if_refuse, if_then, held}
 
 -- ---- the walk over the operations
 
+after_then : {A : Type 0} (x : A) (r : Read (List A)) → after (r then λ l end. found (x ∷ l) end) ≡ after r
+after_then x (good i) = refl
+after_then x (refused n p) = refl
+
 module _ (t s : List ℕ) (n at i : ℕ) where
-  pub turn : (x : Op) (next : ℕ) → i < n → op_at t s at i ≡ found x next
-      → counted (λ (l : List Op). i + 1 + length l) (ops_at t s (n - (i + 1)) next (i + 1)) ≡ counted (λ (l : List Op). i + length l) (ops_at t s (n - i) at i)
+  pub turn : (x : Op) (next : ℕ) → i < n → op_at t s at i ≡ found x next → after (ops_at t s (n - (i + 1)) next (i + 1)) ≡ after (ops_at t s (n - i) at i)
   unfolding row
-  turn x next h o = let e : n - i ≡ suc (n - (i + 1)) = omega arith in rw (e, o) (sym (more_then i x (ops_at t s (n - (i + 1)) next (i + 1))))
+  turn x next h o = let e : n - i ≡ suc (n - (i + 1)) = omega arith in rw (e, o) (sym (after_then x (ops_at t s (n - (i + 1)) next (i + 1))))
 
-  pub stop : (f : List Op → ℕ) (m p : ℕ) → i < n → op_at t s at i ≡ refused m p → counted f (ops_at t s (n - i) at i) ≡ counted f (refused m p)
+  pub stop : (m p : ℕ) → i < n → op_at t s at i ≡ refused m p → after (ops_at t s (n - i) at i) ≡ refused m p
   unfolding row
-  stop f m p h o = let e : n - i ≡ suc (n - (i + 1)) = omega arith in rw (e, o)
+  stop m p h o = let e : n - i ≡ suc (n - (i + 1)) = omega arith in rw (e, o)
 
-  pub done : n ≤ i → counted (λ (l : List Op). i + length l) (ops_at t s (n - i) at i) ≡ counted (λ (k : ℕ). k) (found i at)
+  pub done : n ≤ i → after (ops_at t s (n - i) at i) ≡ good at
   unfolding row
-  done h = let e : n - i ≡ 0 = omega arith in rw (e, add-zero)
+  done h = let e : n - i ≡ 0 = omega arith in rw e
 
--- a stage that leaves nothing in lent runs
-pub only : {A : Type 0} {f : A → ℕ} {r : CountRead} (d : Read A) → r ≡ counted f d → Staged f (λ (a : A) (next : ℕ). Unit {0}) d r
-only (good i) e = record { reply = e; left = tt }
-only (refused n p) e = record { reply = e; left = tt }
+-- there are as many as were asked for
+pub ops_many : (t s : List ℕ) (n at i : ℕ) → IfFound (λ (xs : List Op) (next : ℕ). length xs ≡ n) (ops_at t s n at i)
+unfolding row
+ops_many t s zero at i = refl
+ops_many t s (suc n) at i =
+    if_then _ (op_at t s at i) _ (λ x next e. if_then _ (ops_at t s n next (i + 1)) _ (λ xs end f. ap suc (held _ (ops_at t s n next (i + 1)) xs end f (ops_many t s n next (i + 1)))))
+
+-- what the walk's answer says of them
+pub passed : (t s : List ℕ) (n at : ℕ) (r : Result ℕ Refusal) → told r ≡ after (ops_at t s n at 0) → Passed (λ (xs : List Op) (next : ℕ). length xs ≡ n) (ops_at t s n at 0) r
+passed t s n at r e = record { reply = e; left = ops_many t s n at 0 }
 
 -- ---- no count is over its limit
 
