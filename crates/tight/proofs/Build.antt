@@ -12,7 +12,8 @@ use Rattle.rules.proofs.Answer.{clash}
 use Rattle.refusal.specs.declared.Refusal.{Refusal}
 use Rattle.refusal.specs.Told.{number_of, place_of}
 use Rattle.batcher.specs.declared.Totals.{Totals}
-use Rattle.build.specs.Outcome.{Outcome, built_of}
+use Rattle.batcher.specs.Batched.{built_of}
+use Rattle.build.specs.Outcome.{Outcome}
 use Rattle.tight.specs.Build.{lent_runs, answer, twice, totals, ShutOut}
 
 -- the right replies

@@ -23,7 +23,8 @@ use Rattle.refusal.specs.declared.Refusal.{Refusal}
 use Rattle.refusal.specs.Told.{told}
 use Rattle.refusal.proofs.Told.{one_told}
 use Rattle.batcher.specs.declared.Totals.{Totals}
-use Rattle.build.specs.Outcome.{Outcome, built_of}
+use Rattle.batcher.specs.Batched.{built_of}
+use Rattle.build.specs.Outcome.{Outcome}
 use Rattle.encoder.specs.Replies.{Encodes, encoded_of}
 use Rattle.decoder.specs.declared.Decoded.{Decoded}
 use Rattle.decoder.specs.Replies.{Reads, Decodes, StrictlyDecodes, decoded_of}

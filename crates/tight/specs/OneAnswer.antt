@@ -30,8 +30,8 @@ pub record OneAnswer : Type 0 where
   pub padded_to_raw : (a : Arena) (before : List ℕ) → One (λ r after. Answered (padded_tabled 8 a (length before)) r before after)
   pub raw_to_padded_index : (table : List ℕ) (i : ℕ) → Only (λ r. r ≡ padded_found (padded_index table (raw_at i)))
   pub padded_to_raw_index : (table : List ℕ) (i : ℕ) → Only (λ r. r ≡ raw_found (raw_index table (padded_at i)))
-  pub op_idx_in_batch_to_group : (b : OpBatch) (i : ℕ) → Only (λ r. r ≡ lookup_of (group_lookup 8 (record_in b) i))
-  pub next_op_group_index : (b : OpBatch) (g : ℕ) → Only (λ r. r ≡ next_of (next_lookup 8 (record_in b) g))
+  pub op_idx_in_batch_to_group : (b : OpBatch) (i : ℕ) → Only (λ r. told r ≡ lookup_of (group_lookup 8 (record_in b) i))
+  pub next_op_group_index : (b : OpBatch) (g : ℕ) → Only (λ r. told r ≡ next_of (next_lookup 8 (record_in b) g))
   pub head : (t s : List ℕ) (at : ℕ) → Only (λ r. told r ≡ head_of (headed t s at))
   -- the reader's steps
   pub reader_count : (s : List ℕ) (at : ℕ) → Only (λ r. count_told r ≡ count_here s at)
