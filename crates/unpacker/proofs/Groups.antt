@@ -3,7 +3,6 @@ use mathlib.Core.Path.{◌≡◌, refl, sym, ap, ◌∙◌}
 use mathlib.Core.Bool.{true}
 use mathlib.Core.List.{List, [], ◌∷◌, ◌++◌}
 use Prim.Native.Nat.{ℕ, zero, suc, ◌+◌, ◌-◌, ◌/◌, ◌%◌, ◌≤◌, ◌<◌}
-use native.Mathlib.Nat.{sub-zero}
 use native.Mathlib.Numerals.{add-one}
 use native.Mathlib.Omega.{arith}
 use borrow.Author.Tests.{ne_eqb, leb-true}
@@ -187,9 +186,6 @@ pub eight : (gs us : List ℕ) → gs ≡ fitted 8 us → length gs ≡ 8
 eight gs us f = ap length f ∙ fitted_length 8 us
 
 module _ {w : ℕ} {t : List ℕ} {b : ℕ} {due gs : List ℕ} {g deltas : ℕ} where
-  pub place_none : g ≤ w → gs ≡ fitted 8 (take g gs) → Placed w t b due gs g deltas due gs g deltas
-  place_none h f = record { walk = λ xs end. refl; up = omega arith; under = h; numbers = f; sizes = refl; small = refl }
-
   module _ {rest hs : List ℕ} {h left : ℕ} (p : Placed w t b due gs g deltas rest hs h left) where
     pub place_plain : {more : List ℕ} → rest ≡ more → Placed w t b due gs g deltas more hs h left
     place_plain e = rw e at p
@@ -250,25 +246,6 @@ pub record Walking (w : ℕ) (t : List ℕ) (b : ℕ) (cs vs : List ℕ) (at del
   pub walk : slots t b (digits 16 w deltas) [] (operations cs vs) at ≡ behind (take count gs) (take g gs) (slots t b (digits 16 (w - g) left) [] (operations cs vs) from)
 
 module _ {w : ℕ} {t : List ℕ} {b : ℕ} {cs vs : List ℕ} {at deltas : ℕ} where
-  pub walk_start : {gs : List ℕ} → gs ≡ fitted 8 [] → at + total (digits 16 w deltas) ≤ length cs → up_to 9 (digits 16 w deltas) ≡ true → Walking w t b cs vs at deltas gs 0 0 deltas at
-  walk_start f r s =
-      record {
-        up = omega arith;
-        under = omega arith;
-        numbers = f;
-        room = rw sub-zero r;
-        small = rw sub-zero s;
-        walk = rw sub-zero (sym (same (slots t b (digits 16 w deltas) [] (operations cs vs) at)));
-      }
-    where
-      same : (r : Read (List ℕ)) → behind [] [] r ≡ r
-      same (good i) = rw (go i.item)
-        where
-          go : (vs : List ℕ) → glue [] [] vs ≡ vs
-          go [] = refl
-          go (v ∷ vs) = refl
-      same (refused n p) = refl
-
   module _ {gs : List ℕ} {count g left from : ℕ} (a : Walking w t b cs vs at deltas gs count g left from) (m : w ≤ 8) (h : g < w) where
     n : length gs ≡ 8
     n = eight gs (take count gs) a.numbers

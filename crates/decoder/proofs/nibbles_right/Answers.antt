@@ -1,13 +1,9 @@
 use mathlib.Core.Path.{◌≡◌, sym, ◌∙◌}
-use native.Mathlib.Nat.{sub-zero, add-zero}
 use native.Mathlib.Omega.{arith}
 use Rattle.rules.specs.Digits.{digits}
 use Rattle.rules.specs.Bytes.{up_to}
 use Rattle.decoder.proofs.Sizes.{turn, stop, done}
 use Rattle.decoder.proofs.nibbles_right.Goals as goal
-
-pub loop-b-init : goal.loop-b-init
-loop-b-init c = simp (sub-zero, add-zero)
 
 pub returns-then-not-deltas_right : goal.returns-then-not-deltas_right
 returns-then-not-deltas_right c =

@@ -2,9 +2,6 @@ use native.Mathlib.Omega.{arith}
 use Rattle.unpacker.proofs.Groups as G
 use Rattle.unpacker.proofs.place_immediates.Goals as goal
 
-pub loop-i-init : goal.loop-i-init
-loop-i-init c = G.place_none (omega arith) c.requires.2
-
 pub loop-i-preserved-then-table-code-ne1 : goal.loop-i-preserved-then-table-code-ne1
 loop-i-preserved-then-table-code-ne1 c =
     let l = c.loop-i in
