@@ -32,12 +32,12 @@ op_length t x = go (valued t x.code)
     go true = ap suc (length_le_bytes 8 x.value)
     go false = refl
 
-ops_size_lem : (t cs vs : List ℕ) → length cs ≡ length vs → length (ops_bytes t (operations cs vs)) ≡ ops_size t cs
+pub ops_length : (t cs vs : List ℕ) → length cs ≡ length vs → length (ops_bytes t (operations cs vs)) ≡ ops_size t cs
 unfolding operations in_row
-ops_size_lem t [] vs h = refl
-ops_size_lem t (c ∷ cs) [] h = absurd (omega arith)
-ops_size_lem t (c ∷ cs) (v ∷ vs) h =
-    length-append (op_bytes t (op c v)) (ops_bytes t (operations cs vs)) ∙ omega (arith, op_length t (op c v), sum_by-cons (op_size t) c cs, ops_size_lem t cs vs (omega arith))
+ops_length t [] vs h = refl
+ops_length t (c ∷ cs) [] h = absurd (omega arith)
+ops_length t (c ∷ cs) (v ∷ vs) h =
+    length-append (op_bytes t (op c v)) (ops_bytes t (operations cs vs)) ∙ omega (arith, op_length t (op c v), sum_by-cons (op_size t) c cs, ops_length t cs vs (omega arith))
 
 -- no operation takes more than nine bytes
 pub ops_most : (t cs : List ℕ) → ops_size t cs ≤ 9 * length cs
@@ -106,25 +106,15 @@ module _ (t cs vs rs : List ℕ) (e : length cs ≡ length vs) where
   unfolding block_bytes block_in
   block_items = rw (length_operations cs vs e, length_records rs)
 
-  -- how long each item is, and all together
-  pub record Long : Type 0 where
-    pub count : length (count_bytes (length cs)) ≡ more (length cs) + 1
-    pub ops : length (ops_bytes t (operations cs vs)) ≡ ops_size t cs
-    pub all : length bytes ≡ 5 * (length rs / record_size) + 4 + (more (length cs) + 1) + ops_size t cs
-
-  pub long : Long
-  long =
+  pub block_length : length bytes ≡ 5 * (length rs / record_size) + 4 + (more (length cs) + 1) + ops_size t cs
+  block_length =
       let c = length_count (length cs) in
-      let o = ops_size_lem t cs vs e in
+      let o = ops_length t cs vs e in
       let k = length_le_bytes 4 (length rs / record_size) in
       let n = length_nibbles (records_in rs) in
       let f = length_flags (records_in rs) in
       let m = length_records rs in
-      record {
-        count = c;
-        ops = o;
-        all = ap length block_items ∙ simp length-append (omega arith);
-      }
+      ap length block_items ∙ simp length-append (omega arith)
 
   -- its items, stored one after the other
   pub block_stored : (l : List ℕ) (at p q : ℕ) → p ≡ at + more (length cs) + 1 → q ≡ p + length (ops_bytes t (operations cs vs))

@@ -1,56 +1,109 @@
 -- The ways out of `encode`. Assumes nothing.
 use mathlib.Core.Path.{◌≡◌, sym, ap, ◌∙◌}
-use mathlib.Core.List.{List}
+use mathlib.Core.Bool.{Bool, true, false}
+use mathlib.Core.List.{List, map}
+use mathlib.Core.Logic.{◌⊎◌, inl, inr}
 use Prim.Native.Nat.{ℕ, ◌+◌, ◌-◌, ◌*◌, ◌/◌, ◌≤◌, ◌<◌}
 use native.Mathlib.Omega.{arith}
+use borrow.Author.Tests.{lt-ltb, le-ltb}
 use lib.ListN.{length}
+use lib.Dec.{ltb}
 use lib.Seq.{sets}
-use Rattle.rules.specs.Answer.{good}
-use Rattle.rules.specs.Refusals.{no_room₁₃}
+use Rattle.std.specs.Prelude.{Result}
+use Rattle.std.proofs.lemmas.List.Elements.{All-from_get_or}
+use Rattle.rules.specs.Answer.{Answer, good, refused, refuse}
+use Rattle.rules.specs.Refusals.{past_end₁, over_limit₃, no_room₁₃, bad_table₁₄}
+use Rattle.rules.specs.Operations.{good_table, op_fault}
 use Rattle.rules.specs.Record.{record_size}
 use Rattle.rules.specs.Bytes.{more}
 use Rattle.rules.specs.Block.{block_bytes}
-use Rattle.rules.specs.Functions.{arena, block_in, written}
-use Rattle.operation.specs.declared.Verdict.{Verdict}
-use Rattle.operation.specs.declared.Verdict.TheVariants as verdict
-use Rattle.operation.specs.Verdict.{verdict_of}
-use Rattle.checks.proofs.Passed.{was_refused}
-use Rattle.encoder.specs.declared.Encoded.{Encoded}
-use Rattle.encoder.specs.declared.Encoded.TheVariants.{Written, Refused}
+use Rattle.rules.specs.Checks.{structure_faults}
+use Rattle.rules.specs.Functions.{Arena, arena, block_in, within, encoded, written}
+use Rattle.refusal.specs.declared.Refusal.{Refusal}
+use Rattle.refusal.specs.Told.{told}
+use Rattle.checks.proofs.Walk.{equal_lengths, few_codes, few_records}
+use Rattle.checks.proofs.Passed.{and_then, first_then, structure_stage, admissible_stage, structured, all_fit, apt}
 use Rattle.encoder.specs.Replies.{encoded_of, Encodes}
-use Rattle.encoder.specs.Parts.{hand_verdict, inputs_checked, ops_size}
-use Rattle.encoder.proofs.Items.{long}
-use Rattle.encoder.proofs.Inputs.{inputs_good, encoded_refused, encoded_13, encoded_good}
+use Rattle.encoder.specs.Parts.{Looked, ops_size}
+use Rattle.encoder.proofs.Items.{block_length}
 
--- all passed, and the block takes n bytes
-module _ (t cs vs rs : List ℕ) (size at : ℕ) (h : inputs_checked 8 t (arena cs vs rs) size at ≡ good tt) (n : ℕ) (e : n ≡ 5 * (length rs / record_size) + 4 + (more (length cs) + 1) + ops_size t cs) where
-  as_long : length (block_bytes t (block_in (arena cs vs rs))) ≡ n
-  as_long = (long t cs vs rs (inputs_good 8 t cs vs rs size at h).equal).all ∙ sym e
+-- ---- what is looked at first
 
-  no_room : size - at < n → size < at + length (block_bytes t (block_in (arena cs vs rs)))
-  no_room l = omega (arith, (inputs_good 8 t cs vs rs size at h).inside, as_long)
+module _ (t cs vs rs : List ℕ) (size at : ℕ) where
+  abbrev a : Arena
+  a = arena cs vs rs
+
+  pub encoded_3 : (r : Bool) → r ≡ within a → (r ≡ false) ⊎ ((r ≡ true) × (1048576 < size)) → encoded 8 t a size at ≡ refused over_limit₃ 0
+  unfolding encoded
+  encoded_3 r w (inl h) = rw (← w, h)
+  encoded_3 r w (inr h) = rw (← w, h.0, lt-ltb 1048576 size h.1)
+
+  module _ (w : within a ≡ true) (s : size ≤ 1048576) where
+    pub encoded_14 : good_table t ≡ false → encoded 8 t a size at ≡ refused bad_table₁₄ 0
+    unfolding encoded
+    encoded_14 h = rw (w, le-ltb 1048576 size s, h)
+
+    module _ (g : good_table t ≡ true) where
+      pub encoded_1 : size < at → encoded 8 t a size at ≡ refused past_end₁ 0
+      unfolding encoded
+      encoded_1 h = rw (w, le-ltb 1048576 size s, g, lt-ltb size at h)
+
+      module _ (i : at ≤ size) where
+        abbrev last : Answer (List ℕ)
+        last = refuse (ltb size (at + length (block_bytes t (block_in a)))) no_room₁₃ 0 (good (block_bytes t (block_in a)))
+
+        stages : encoded 8 t a size at ≡ and_then (structure_stage 8 a) (and_then (admissible_stage t a) last)
+        unfolding encoded block_in
+        stages =
+            rw (w, le-ltb 1048576 size s, g, le-ltb size at i)
+            (rw (← first_then 0 (structure_faults 8 (block_in a)) (good tt) (and_then (admissible_stage t a) last), ← first_then 0 (map (op_fault t) (block_in a).ops) (good tt) last))
+
+        pub encoded_15 : (n p : ℕ) → refused n p ≡ structure_stage 8 a → encoded 8 t a size at ≡ refused n p
+        encoded_15 n p e = rw (stages, ← e)
+
+        module _ (e : good tt ≡ structure_stage 8 a) where
+          pub encoded_4 : (n p : ℕ) → refused n p ≡ admissible_stage t a → encoded 8 t a size at ≡ refused n p
+          encoded_4 n p f = rw (stages, ← e, ← f)
+
+          pub looked : good tt ≡ admissible_stage t a → Looked t a size at
+          looked f =
+              let q = equal_lengths cs vs rs w in
+              record {
+                left = rw (stages, ← e, ← f);
+                inside = i;
+                equal = q;
+                few = few_codes cs vs rs w;
+                batches = few_records cs vs rs w;
+                fit = all_fit 8 cs vs rs (omega arith) (structured 8 cs vs rs (good tt) tt (sym e)).0;
+                assigned = All-from_get_or (λ c. c < 128) cs 0 (apt t cs vs g q (sym f)).codes;
+              }
+
+-- ---- what is answered and left
+
+module _ {t : List ℕ} {a : Arena} {at : ℕ} {out : List ℕ} where
+  pub encodes_lost : {n p : ℕ} {r : Result ℕ Refusal} → encoded 8 t a (length out) at ≡ refused n p → told r ≡ refused n p → Encodes t a at out out r
+  unfolding written
+  encodes_lost d h = record { reply = h ∙ sym (ap encoded_of d); bytes = sym (ap (written out at) d) }
+
+  encodes_found : {bytes out' : List ℕ} {r : Result ℕ Refusal} → encoded 8 t a (length out) at ≡ good bytes → told r ≡ good (length bytes) → out' ≡ sets out at bytes → Encodes t a at out out' r
+  unfolding written
+  encodes_found d h k = record { reply = h ∙ sym (ap encoded_of d); bytes = k ∙ sym (ap (written out at) d) }
+
+-- the block takes n bytes
+module _ (t cs vs rs : List ℕ) (size at : ℕ) (l : Looked t (arena cs vs rs) size at) (n : ℕ) (e : n ≡ 5 * (length rs / record_size) + 4 + (more (length cs) + 1) + ops_size t cs) where
+  bytes_long : length (block_bytes t (block_in (arena cs vs rs))) ≡ n
+  bytes_long = block_length t cs vs rs l.equal ∙ sym e
 
   pub room : n ≤ size - at → at + length (block_bytes t (block_in (arena cs vs rs))) ≤ size
-  room l = omega (arith, (inputs_good 8 t cs vs rs size at h).inside, as_long)
+  room h = omega (arith, l.inside, bytes_long)
 
-module _ (t cs vs rs : List ℕ) (at : ℕ) (out : List ℕ) where
-  -- a check refused
-  pub refused_way : (v : Verdict) (n p : ℕ) → v ≡ verdict_of (inputs_checked 8 t (arena cs vs rs) (length out) at) → v ≡ verdict.Refused n p
-      → (r : Encoded) → r ≡ hand_verdict v → Encodes t (arena cs vs rs) at out out r
-  unfolding written
-  refused_way v n p e u r h =
-      let d = encoded_refused 8 t (arena cs vs rs) (length out) at n p (was_refused _ n p (sym e ∙ u)) in
-      record { reply = h ∙ ap hand_verdict u ∙ sym (ap encoded_of d); bytes = sym (ap (written out at) d) }
+module _ {t cs vs rs : List ℕ} {at : ℕ} {out : List ℕ} (l : Looked t (arena cs vs rs) (length out) at) {n : ℕ} (e : n ≡ 5 * (length rs / record_size) + 4 + (more (length cs) + 1) + ops_size t cs) where
+  pub encodes_13 : {r : Result ℕ Refusal} → length out - at < n → told r ≡ refused no_room₁₃ 0 → Encodes t (arena cs vs rs) at out out r
+  encodes_13 h k =
+      let b = block_bytes t (block_in (arena cs vs rs)) in
+      encodes_lost (l.left ∙ rw (lt-ltb (length out) (at + length b) (omega (arith, l.inside, bytes_long t cs vs rs (length out) at l n e)))) k
 
-  module _ (h : inputs_checked 8 t (arena cs vs rs) (length out) at ≡ good tt) (n : ℕ) (e : n ≡ 5 * (length rs / record_size) + 4 + (more (length cs) + 1) + ops_size t cs) where
-    pub no_room_way : length out - at < n → Encodes t (arena cs vs rs) at out out (Refused no_room₁₃ 0)
-    unfolding written
-    no_room_way l =
-        let d = encoded_13 8 t (arena cs vs rs) (length out) at h (no_room t cs vs rs (length out) at h n e l) in
-        record { reply = sym (ap encoded_of d); bytes = sym (ap (written out at) d) }
-
-    pub written_way : n ≤ length out - at → (out' : List ℕ) → out' ≡ sets out at (block_bytes t (block_in (arena cs vs rs))) → Encodes t (arena cs vs rs) at out out' (Written n)
-    unfolding written
-    written_way l out' k =
-        let d = encoded_good 8 t (arena cs vs rs) (length out) at h (room t cs vs rs (length out) at h n e l) in
-        record { reply = ap Written (sym (as_long t cs vs rs (length out) at h n e)) ∙ sym (ap encoded_of d); bytes = k ∙ sym (ap (written out at) d) }
+  pub encodes_good : {out' : List ℕ} {r : Result ℕ Refusal} → n ≤ length out - at → told r ≡ good n → out' ≡ sets out at (block_bytes t (block_in (arena cs vs rs))) → Encodes t (arena cs vs rs) at out out' r
+  encodes_good h k o =
+      let b = block_bytes t (block_in (arena cs vs rs)) in
+      encodes_found (l.left ∙ rw (le-ltb (length out) (at + length b) (room t cs vs rs (length out) at l n e h))) (k ∙ ap good (sym (bytes_long t cs vs rs (length out) at l n e))) o

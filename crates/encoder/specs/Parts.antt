@@ -1,29 +1,22 @@
 -- What the encoder's parts say and are asked: cited by the contracts of private functions only.
-use Rattle.std.specs.Prelude.{cond, not, ◌||◌, List, map, ℕ, ltb, sum_by}
-use Rattle.rules.specs.Answer.{Answer, good, refuse, refuse_first}
-use Rattle.rules.specs.Refusals.{past_end₁, over_limit₃, bad_table₁₄}
-use Rattle.rules.specs.Operations.{valued, good_table, op_fault}
-use Rattle.rules.specs.Checks.{structure_faults}
-use Rattle.rules.specs.Functions.{Arena, block_in, within}
-use Rattle.operation.specs.declared.Verdict.{Verdict}
-use Rattle.operation.specs.declared.Verdict.TheVariants as verdict
-use Rattle.encoder.specs.declared.Encoded.{Encoded}
-use Rattle.encoder.specs.declared.Encoded.TheVariants as whole
+use Rattle.std.specs.Prelude.{◌≡◌, cond, List, ℕ, ◌+◌, ◌/◌, ◌≤◌, ◌<◌, length, ltb, All, sum_by}
+use Rattle.rules.specs.Answer.{good, refuse}
+use Rattle.rules.specs.Refusals.{no_room₁₃}
+use Rattle.rules.specs.Operations.{valued}
+use Rattle.rules.specs.Record.{record_size}
+use Rattle.rules.specs.Block.{block_bytes}
+use Rattle.rules.specs.Functions.{Arena, block_in, encoded}
+use Rattle.checks.specs.Batch.{AllFit}
 
--- a refused check
-abbrev pub hand_verdict : Verdict → Encoded
-hand_verdict verdict.Passed = whole.Refused 0 0
-hand_verdict (verdict.Refused n p) = whole.Refused n p
-
--- what is looked at before the block's length: 3, 14, 1, 15, and 4 or 17
-unfoldable pub inputs_checked : ℕ → List ℕ → Arena → ℕ → ℕ → Answer Unit
-inputs_checked w t a size at =
-    refuse (not (within a) || ltb 1048576 size) over_limit₃ 0
-    (refuse (not (good_table t)) bad_table₁₄ 0
-    (refuse (ltb size at) past_end₁ 0
-    (refuse_first 0 (structure_faults w (block_in a))
-    (refuse_first 0 (map (op_fault t) (block_in a).ops)
-    (good tt)))))
+-- nothing was refused of what is looked at before the block's length
+pub record Looked (t : List ℕ) (a : Arena) (size at : ℕ) : Type 0 where
+  pub left : encoded 8 t a size at ≡ refuse (ltb size (at + length (block_bytes t (block_in a)))) no_room₁₃ 0 (good (block_bytes t (block_in a)))
+  pub inside : at ≤ size
+  pub equal : length a.codes ≡ length a.values
+  pub few : length a.codes ≤ 65535
+  pub batches : length a.records / record_size ≤ 16384
+  pub fit : AllFit a.records
+  pub assigned : All (λ c. c < 128) a.codes
 
 -- how many bytes an operation with this opcode takes: "1 or 9 per operation"
 abbrev pub op_size : List ℕ → ℕ → ℕ

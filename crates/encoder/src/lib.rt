@@ -1,99 +1,59 @@
 // The block encoder (document 01, "Block bytes").
 #![tactic(auto)]
 
-ghost use Rattle.std.specs.Prelude.{◌≡◌, ◌+◌, ◌*◌, ◌/◌, ◌≤◌, ◌<◌, length, All};
+ghost use Rattle.std.specs.Prelude.{◌≡◌, ◌+◌, ◌*◌, ◌/◌, ◌≤◌, ◌<◌, length, All, IfOk, IfErr};
 ghost use Rattle.std.proofs.lemmas.List.Edits.{sets};
 ghost use Rattle.rules.specs.Operations.{operations};
 ghost use Rattle.rules.specs.Record.{record_size, records_in};
 ghost use Rattle.rules.specs.Bytes.{more, ops_bytes, nibble_bytes, flag_bytes};
 ghost use Rattle.rules.specs.Block.{block_bytes};
-ghost use Rattle.rules.specs.Functions.{arena, block_in};
-ghost use Rattle.operation.specs.Verdict.{verdict_of};
-ghost use Rattle.checks.specs.Batch.{AllFit, Apt};
+ghost use Rattle.rules.specs.Functions.{arena, block_in, encoded};
+ghost use Rattle.rules.specs.Answer.{refused};
+ghost use Rattle.refusal.specs.Told.{number_of, place_of};
+ghost use Rattle.checks.specs.Batch.{AllFit};
 ghost use Rattle.encoder.specs.Replies.{Encodes};
-ghost use Rattle.encoder.specs.Parts.{hand_verdict, inputs_checked, op_size, ops_size};
+ghost use Rattle.encoder.specs.Parts.{Looked, op_size, ops_size};
 
 use op_batch::{RECORD, WIDTH};
-use operation::Verdict;
-
-// How many bytes were written; or a refusal's number and place.
-#[derive(Clone, Copy)]
-pub enum Encoded {
-    Written { length: usize },
-    Refused { number: u8, place: usize },
-}
+use refusal::Refusal;
 
 // ---- what is looked at first
 
-// A refused check, handed on.
-fn not_passed(v: Verdict) -> Encoded
-    ensures { result ≡ hand_verdict v }
-{
-    match v {
-        Verdict::Refused { number, place } => Encoded::Refused { number, place },
-        Verdict::Passed => Encoded::Refused {
-            number: 0,
-            place: 0,
-        },
-    }
-}
-
-// 3, 14, 1, 15, and 4 or 17 (M-101), for a buffer of this size.
-fn check_inputs(
-    width: usize,
-    table: &[u8],
+// 3, 14, 1, 15, and 4 or 17 (M-101), for a buffer of this size; and the table.
+fn check_inputs<'a>(
+    table: &'a [u8],
     codes: &[u8],
     values: &[u64],
     records: &[u8],
     size: usize,
     at: usize,
-) -> Verdict
-    requires { width ≤ 8 }
-    ensures { result ≡ verdict_of (inputs_checked width table.now (arena codes.now values.now records.now) size at) }
+) -> Result<&'a [u8; 128], Refusal>
+    ensures ok { IfOk result (λ t. (t.now ≡ table.now) × Looked table.now (arena codes.now values.now records.now) size at) }
+    ensures err { IfErr result (λ r. encoded 8 table.now (arena codes.now values.now records.now) size at ≡ refused (number_of r) (place_of r)) }
 {
-    if !checks::within(codes, values, records) {
-        return Verdict::Refused {
-            number: 3,
-            place: 0,
-        };
+    if !checks::within(codes, values, records) || 1048576 < size {
+        return Err(Refusal::OverLimit);
     }
-    if 1048576 < size {
-        return Verdict::Refused {
-            number: 3,
-            place: 0,
-        };
-    }
-    if !operation::good_table(table) {
-        return Verdict::Refused {
-            number: 14,
-            place: 0,
-        };
-    }
+    let table = operation::checked(table)?;
     if size < at {
-        return Verdict::Refused {
-            number: 1,
-            place: 0,
-        };
+        return Err(Refusal::PastEnd);
     }
-    let v = checks::structure_fault(width, codes, values, records);
-    let Verdict::Passed = v else {
-        return v;
-    };
-    operation::first_fault(table, codes, values)
+    checks::structure_fault(WIDTH, codes, values, records)?;
+    operation::first_fault(table, codes, values)?;
+    Ok(table)
 }
 
 // ---- the length
 
 // How many bytes an operation takes.
-fn op_len(table: &[u8], code: u8) -> usize
-    requires { (length table.now ≡ 128) × (code < 128) }
+fn op_len(table: &[u8; 128], code: u8) -> usize
+    requires { code < 128 }
     ensures { result ≡ op_size table.now code }
 {
     if table[code as usize] == 0 { 1 } else { 9 }
 }
 
-fn ops_len(table: &[u8], codes: &[u8]) -> usize
-    requires table { length table.now ≡ 128 }
+fn ops_len(table: &[u8; 128], codes: &[u8]) -> usize
     requires assigned { All (λ c. c < 128) codes.now }
     requires few { length codes.now ≤ 65535 }
     ensures { result ≡ ops_size table.now codes.now }
@@ -102,8 +62,9 @@ fn ops_len(table: &[u8], codes: &[u8]) -> usize
 }
 
 // How many bytes the block takes: 5 per batch, plus 4, plus the count's, plus 1 or 9 per operation.
-fn basic_block_data_len(table: &[u8], codes: &[u8], batches: usize) -> usize
-    requires { Apt table.now codes.now × (length codes.now ≤ 65535) × (batches ≤ 16384) }
+fn basic_block_data_len(table: &[u8; 128], codes: &[u8], batches: usize) -> usize
+    requires assigned { All (λ c. c < 128) codes.now }
+    requires few { (length codes.now ≤ 65535) × (batches ≤ 16384) }
     ensures { result ≡ 5 * batches + 4 + (more (length codes.now) + 1) + ops_size table.now codes.now }
 {
     5 * batches + 4 + wire::count_size(codes.len() as u64) + ops_len(table, codes)
@@ -111,8 +72,9 @@ fn basic_block_data_len(table: &[u8], codes: &[u8], batches: usize) -> usize
 
 // ---- the bytes, each item stored from `at` on; and the place after it
 
-fn write_ops(table: &[u8], codes: &[u8], values: &[u64], out: &mut [u8], at: usize) -> usize
-    requires apt { Apt table.now codes.now × (length codes.now ≡ length values.now) }
+fn write_ops(table: &[u8; 128], codes: &[u8], values: &[u64], out: &mut [u8], at: usize) -> usize
+    requires assigned { All (λ c. c < 128) codes.now }
+    requires equal { length codes.now ≡ length values.now }
     requires values_in_bounds { at + length (ops_bytes table.now (operations codes.now values.now)) ≤ length out.old }
     ensures place { result ≡ at + length (ops_bytes table.now (operations codes.now values.now)) }
     ensures bytes { out.new ≡ sets out.old at (ops_bytes table.now (operations codes.now values.now)) }
@@ -148,15 +110,19 @@ fn write_padding(records: &[u8], out: &mut [u8], at: usize)
 }
 
 // The five items, one after the other.
+#[tactic(auto, using(crate::proofs::Items::block_length, crate::proofs::Items::ops_length))]
 fn encode_basic_block(
-    table: &[u8],
+    table: &[u8; 128],
     codes: &[u8],
     values: &[u64],
     records: &[u8],
     out: &mut [u8],
     at: usize,
 )
-    requires apt { Apt table.now codes.now × (length codes.now ≡ length values.now) × (length codes.now ≤ 65535) × AllFit records.now }
+    requires assigned { All (λ c. c < 128) codes.now }
+    requires equal { length codes.now ≡ length values.now }
+    requires few { length codes.now ≤ 65535 }
+    requires fit { AllFit records.now }
     requires records_in_bounds { at + length (block_bytes table.now (block_in (arena codes.now values.now records.now))) ≤ length out.old }
     ensures { out.new ≡ sets out.old at (block_bytes table.now (block_in (arena codes.now values.now records.now))) }
 {
@@ -167,7 +133,7 @@ fn encode_basic_block(
     write_padding(records, out, flags);
 }
 
-// The block of these opcodes, values and records, into `out` from `at` on. A refused one writes no byte.
+// The block of these opcodes, values and records, into `out` from `at` on; and how many bytes it takes. A refused one writes no byte.
 pub fn encode(
     table: &[u8],
     codes: &[u8],
@@ -175,20 +141,14 @@ pub fn encode(
     records: &[u8],
     out: &mut [u8],
     at: usize,
-) -> Encoded
+) -> Result<usize, Refusal>
     ensures { Encodes table.now (arena codes.now values.now records.now) at out.old out.new result }
 {
-    let v = check_inputs(WIDTH, table, codes, values, records, out.len(), at);
-    let Verdict::Passed = v else {
-        return not_passed(v);
-    };
+    let table = check_inputs(table, codes, values, records, out.len(), at)?;
     let length = basic_block_data_len(table, codes, records.len() / RECORD);
     if out.len() - at < length {
-        return Encoded::Refused {
-            number: 13,
-            place: 0,
-        };
+        return Err(Refusal::NoRoom);
     }
     encode_basic_block(table, codes, values, records, out, at);
-    Encoded::Written { length }
+    Ok(length)
 }

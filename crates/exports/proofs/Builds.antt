@@ -24,7 +24,6 @@ use Rattle.exports.specs.declared.BuildReply.{BuildReply}
 use Rattle.exports.proofs.Whole.{whole, broken}
 use Rattle.exports.proofs.Rooms.{leb_min, arena_out}
 use Rattle.exports.proofs.Guards.{same_refuse, same_first, short_refuse, short_first}
-use Rattle.encoder.proofs.Inputs.{or_false}
 
 -- ---- refused where the values are not whole numbers, or too many
 
@@ -44,6 +43,10 @@ unfolding filled_bytes no_block codes values in_row
 cleared os ov rs os' ov' rs' x y z = rw (x, y, z)
 
 -- ---- a built block fits the work space
+
+or_false : (a b : Bool) → (not a || b) ≡ false → (a ≡ true) × (b ≡ false)
+or_false true b h = (refl, h)
+or_false false b h = let z : ◌≡◌ {A = ℕ} 0 1 = cc in absurd (omega arith)
 
 module _ (t cs vs : List ℕ) where
   abbrev block : Block

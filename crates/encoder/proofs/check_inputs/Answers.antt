@@ -1,39 +1,46 @@
-use mathlib.Core.Path.{sym, ap, ◌∙◌}
+use mathlib.Core.Path.{sym, ◌∙◌}
 use native.Mathlib.Omega.{arith}
-use Rattle.rules.proofs.Operations.{table_128}
-use Rattle.operation.specs.Verdict.{verdict_of}
+use Rattle.std.proofs.lemmas.Result.{err_from_is_err_and}
 use Rattle.checks.proofs.Walk.{equal_lengths}
-use Rattle.checks.proofs.Passed.{was_good}
-use Rattle.encoder.proofs.Inputs.{inputs_3, inputs_long, inputs_14, inputs_1, inputs_15, inputs_4}
+use Rattle.encoder.proofs.Ways.{encoded_3, encoded_14, encoded_1, encoded_15, encoded_4, looked}
 use Rattle.encoder.proofs.check_inputs.Goals as goal
 
-pub returns-then-not-within : goal.returns-then-not-within
-returns-then-not-within c = ap verdict_of (sym (inputs_3 _ _ _ _ _ (sym c.within.ensures ∙ c.if-not-within.true)))
+pub returns-then-not-within-clause-err : goal.returns-then-not-within-clause-err
+returns-then-not-within-clause-err c = encoded_3 _ _ _ _ _ _ _ c.within.ensures c.then-not-within.either
 
-pub returns-then-size-gt1048576 : goal.returns-then-size-gt1048576
-returns-then-size-gt1048576 c =
-    ap verdict_of (sym (inputs_long _ _ _ _ _ (sym c.within.ensures ∙ c.if-not-within.false) c.if-size-gt1048576.true))
+pub returns-in_err-table-clause-err : goal.returns-in_err-table-clause-err
+returns-in_err-table-clause-err c =
+    let w = sym c.within.ensures ∙ c.if-not-within.false in
+    let p = err_from_is_err_and c.from_residual.result c.from_residual.ensures.1 in
+    let e = c.in_err-table.ensures.err in
+    rw (p.1, p.2, e.0) (encoded_14 _ _ _ _ _ _ w c.if-size-gt1048576.false e.1)
 
-pub returns-then-not-good_table : goal.returns-then-not-good_table
-returns-then-not-good_table c =
-    ap verdict_of (sym (inputs_14 _ _ _ _ _ (sym c.within.ensures ∙ c.if-not-within.false) c.if-size-gt1048576.false (sym c.good_table.ensures ∙ c.if-not-good_table.true)))
+pub returns-then-size-at-clause-err : goal.returns-then-size-at-clause-err
+returns-then-size-at-clause-err c =
+    let w = sym c.within.ensures ∙ c.if-not-within.false in
+    encoded_1 _ _ _ _ _ _ w c.if-size-gt1048576.false c.in_ok-table.ensures.ok.1 c.if-size-at.true
 
-pub returns-then-size-at : goal.returns-then-size-at
-returns-then-size-at c =
-    ap verdict_of (sym (inputs_1 _ _ _ _ _ (sym c.within.ensures ∙ c.if-not-within.false) c.if-size-gt1048576.false (sym c.good_table.ensures ∙ c.if-not-good_table.false) c.if-size-at.true))
-
-pub structure_fault-v-requires : goal.structure_fault-v-requires
-structure_fault-v-requires c =
-    (omega arith, equal_lengths _ _ _ (sym c.within.ensures ∙ c.if-not-within.false))
-
-pub returns-in_default : goal.returns-in_default
-returns-in_default c =
-    inputs_15 _ _ _ _ _ (sym c.within.ensures ∙ c.if-not-within.false) c.if-size-gt1048576.false (sym c.good_table.ensures ∙ c.if-not-good_table.false) c.if-size-at.false _ _ _ c.structure_fault-v.ensures c.in_default.is
+pub structure_fault-requires : goal.structure_fault-requires
+structure_fault-requires c = (omega arith, equal_lengths _ _ _ (sym c.within.ensures ∙ c.if-not-within.false))
 
 pub first_fault-requires : goal.first_fault-requires
-first_fault-requires c =
-    (table_128 _ (sym c.good_table.ensures ∙ c.if-not-good_table.false), equal_lengths _ _ _ (sym c.within.ensures ∙ c.if-not-within.false))
+first_fault-requires c = equal_lengths _ _ _ (sym c.within.ensures ∙ c.if-not-within.false)
 
-pub returns : goal.returns
-returns c =
-    c.first_fault.ensures ∙ inputs_4 _ _ _ _ _ (sym c.within.ensures ∙ c.if-not-within.false) c.if-size-gt1048576.false (sym c.good_table.ensures ∙ c.if-not-good_table.false) c.if-size-at.false (was_good _ (sym c.structure_fault-v.ensures ∙ c.in-Passed.is))
+pub returns-in_err-structure_fault-clause-err : goal.returns-in_err-structure_fault-clause-err
+returns-in_err-structure_fault-clause-err c =
+    let w = sym c.within.ensures ∙ c.if-not-within.false in
+    let p = err_from_is_err_and c.from_residual-in_err-structure_fault.result c.from_residual-in_err-structure_fault.ensures.1 in
+    rw (p.1, p.2) (encoded_15 _ _ _ _ _ _ w c.if-size-gt1048576.false c.in_ok-table.ensures.ok.1 c.if-size-at.false _ _ c.in_err-structure_fault.ensures)
+
+pub returns-in_err-first_fault-clause-err : goal.returns-in_err-first_fault-clause-err
+returns-in_err-first_fault-clause-err c =
+    let w = sym c.within.ensures ∙ c.if-not-within.false in
+    let p = err_from_is_err_and c.from_residual-in_err-first_fault.result c.from_residual-in_err-first_fault.ensures.1 in
+    let t = c.in_ok-table.ensures.ok in
+    rw (p.1, p.2) (encoded_4 _ _ _ _ _ _ w c.if-size-gt1048576.false t.1 c.if-size-at.false c.in_ok-structure_fault.ensures _ _ (rw t.0 at c.in_err-first_fault.ensures))
+
+pub returns-clause-ok : goal.returns-clause-ok
+returns-clause-ok c =
+    let w = sym c.within.ensures ∙ c.if-not-within.false in
+    let t = c.in_ok-table.ensures.ok in
+    (t.0, looked _ _ _ _ _ _ w c.if-size-gt1048576.false t.1 c.if-size-at.false c.in_ok-structure_fault.ensures (rw t.0 at c.in_ok-first_fault.ensures))

@@ -1,6 +1,8 @@
+use Prim.Native.Nat.{◌<◌}
 use mathlib.Core.Path.{sym, ap, ◌∙◌}
 use native.Mathlib.Omega.{arith}
 use lib.ListN.{length, get_or, length-append}
+use Rattle.std.proofs.lemmas.List.Elements.{All-get_or}
 use Rattle.rules.specs.Bytes.{op_bytes}
 use Rattle.rules.proofs.Digits.{sets_append}
 use Rattle.rules.proofs.Operations.{op}
@@ -11,7 +13,7 @@ pub write_op-from-requires : goal.write_op-from-requires
 write_op-from-requires c =
     let l = c.loop-i in
     let m = ap length (ops_turn c.args.table.now c.args.codes.now c.args.values.now l.i (omega arith) (omega arith)) in
-    (c.requires.apt.0.table, c.requires.apt.0.codes l.i (omega arith), omega (arith, simp length-append at m))
+    (All-get_or (λ k. k < 128) _ l.i 0 (omega arith) c.requires.assigned, omega (arith, simp length-append at m))
 
 pub loop-i-preserved : goal.loop-i-preserved
 loop-i-preserved c =
