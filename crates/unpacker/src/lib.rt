@@ -21,7 +21,7 @@ mod ops;
 pub use ops::Ops;
 
 // The immediates of a group's operations, each into the next slot, which must be an empty group under the width; `deltas` has the sizes from the slot on.
-// The answer's value has the sizes from the next slot on.
+// The reply has the sizes from the next slot on, and that slot.
 fn place_immediates(
     width: usize,
     table: &[u8; 128],
@@ -54,7 +54,7 @@ fn place_immediates(
 }
 
 // The group numbers of a batch whose operations start at `at`: each non-empty group's number, and its immediates in the slots right after it.
-// The answer's value is the group count.
+// The reply has the group count, and the place after the batch's operations.
 fn decode_groups(
     width: usize,
     table: &[u8; 128],
