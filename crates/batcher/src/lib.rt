@@ -13,6 +13,26 @@ ghost use Rattle.batcher.specs.Model.{ended_work, ended_work_run, room_work, roo
 use accumulator::OpBatchAccumulator;
 use refusal::Refusal;
 
+// A list to batch: at most 16,384 operations, their table, and how many groups a batch may have.
+#[derive(Clone, Copy)]
+pub struct Input<'a> {
+    pub width: usize,
+    pub table: &'a [u8; 128],
+    pub codes: &'a [u8],
+    pub values: &'a [u64],
+    pub ghost whole: { length table.now ≡ 128 },
+    pub ghost wide: { (2 ≤ width) × (width ≤ record_groups) },
+    pub ghost even: { length values.now ≡ length codes.now },
+    pub ghost few: { length codes.now ≤ 16384 },
+}
+
+// How much a list comes to.
+#[derive(Clone, Copy, Debug, PartialEq, Eq)]
+pub struct Totals {
+    pub batches: usize,
+    pub operations: usize,
+}
+
 // The batch in hand, and how many padded operations and batches stand before it.
 #[derive(Clone, Copy)]
 struct Work {
@@ -21,59 +41,61 @@ struct Work {
     batches: usize,
 }
 
-// Ends the batch in hand and starts the next.
-fn end_batch(work: Work, records: &mut [u8]) -> Work
-    requires good { Good record_groups work.acc }
-    requires base_bound { (work.base < 2 ^ 32) × (work.batches < 2 ^ 20) }
-    ensures work { result ≡ ended_work work }
-    ensures run { records.new ≡ ended_work_run work records.old }
-{
-    let total = work.acc.into_batch(work.batches, records);
-    Work {
-        acc: OpBatchAccumulator::new(),
-        base: work.base + total as usize,
-        batches: work.batches + 1,
+impl Work {
+    // Ends the batch in hand and starts the next.
+    fn end_batch(self, records: &mut [u8]) -> Work
+        requires good { Good record_groups self.acc }
+        requires base_bound { (self.base < 2 ^ 32) × (self.batches < 2 ^ 20) }
+        ensures work { result ≡ ended_work self }
+        ensures run { records.new ≡ ended_work_run self records.old }
+    {
+        let total = self.acc.into_batch(self.batches, records);
+        Work {
+            acc: OpBatchAccumulator::new(),
+            base: self.base + total as usize,
+            batches: self.batches + 1,
+        }
     }
-}
 
-// Ends the batch in hand where the operation does not fit.
-fn make_room(width: usize, work: Work, imm: bool, records: &mut [u8]) -> Work
-    requires good { Good record_groups work.acc }
-    requires base_bound { (work.base < 2 ^ 32) × (work.batches < 2 ^ 20) }
-    ensures work { result ≡ room_work width imm work }
-    ensures run { records.new ≡ room_run width imm work records.old }
-{
-    if work.acc.can_accept_op(width, imm) {
-        work
-    } else {
-        end_batch(work, records)
+    // Ends the batch in hand where the operation does not fit.
+    fn make_room(self, width: usize, imm: bool, records: &mut [u8]) -> Work
+        requires good { Good record_groups self.acc }
+        requires base_bound { (self.base < 2 ^ 32) × (self.batches < 2 ^ 20) }
+        ensures work { result ≡ room_work width imm self }
+        ensures run { records.new ≡ room_run width imm self records.old }
+    {
+        if self.acc.can_accept_op(width, imm) {
+            self
+        } else {
+            self.end_batch(records)
+        }
     }
-}
 
-// One operation more.
-fn step(
-    width: usize,
-    work: Work,
-    code: u8,
-    imm: bool,
-    v: u64,
-    codes: &mut [u8],
-    values: &mut [u64],
-    records: &mut [u8],
-) -> Work
-    requires width_in_bounds { (2 ≤ width) × (width ≤ record_groups) × Good width work.acc }
-    requires base_bound { (work.base < 2 ^ 31) × (work.batches < 2 ^ 19) × (code < 128) }
-    ensures work { result ≡ stepped_work width code imm work }
-    ensures codes { codes.new ≡ set codes.old (last_place (stepped_work width code imm work)) code }
-    ensures values { values.new ≡ set values.old (last_place (stepped_work width code imm work)) v }
-    ensures run { records.new ≡ stepped_run width imm v work records.old }
-{
-    let r = make_room(width, work, imm, records);
-    let acc = r.acc.add_op(code, imm, v, r.batches, records);
-    let at = r.base + acc.total as usize - 1;
-    word::store(codes, at, code);
-    word::store(values, at, v);
-    Work { acc, ..r }
+    // One operation more.
+    fn step(
+        self,
+        width: usize,
+        code: u8,
+        imm: bool,
+        v: u64,
+        codes: &mut [u8],
+        values: &mut [u64],
+        records: &mut [u8],
+    ) -> Work
+        requires width_in_bounds { (2 ≤ width) × (width ≤ record_groups) × Good width self.acc }
+        requires base_bound { (self.base < 2 ^ 31) × (self.batches < 2 ^ 19) × (code < 128) }
+        ensures work { result ≡ stepped_work width code imm self }
+        ensures codes { codes.new ≡ set codes.old (last_place (stepped_work width code imm self)) code }
+        ensures values { values.new ≡ set values.old (last_place (stepped_work width code imm self)) v }
+        ensures run { records.new ≡ stepped_run width imm v self records.old }
+    {
+        let r = self.make_room(width, imm, records);
+        let acc = r.acc.add_op(code, imm, v, r.batches, records);
+        let at = r.base + acc.total as usize - 1;
+        word::store(codes, at, code);
+        word::store(values, at, v);
+        Work { acc, ..r }
+    }
 }
 
 // ---- the fast path
@@ -88,34 +110,6 @@ fn step(
 struct Taken {
     work: Work,
     upto: usize,
-}
-
-// How many slots an operation takes that joins the current group as it is, 0 or 1; none where it does not, or is left to `step`. At most `left` may
-// join, and the last of them has no immediate.
-fn slots(
-    width: usize,
-    table: &[u8; 128],
-    code: u8,
-    v: u64,
-    next: usize,
-    left: usize,
-) -> Option<usize>
-    requires { next ≤ record_groups }
-    ensures { IfSome result (λ k. (k < 2) × Joins width table.now code v next left k) }
-{
-    if 128 <= code {
-        return None;
-    }
-    let kind = table[code as usize];
-    let k = kind as usize;
-    // the greatest value, 0 for kind 0 and below the field's size for kind 1, by a product where `value_right` has a branch
-    if 1 < kind || u64::from(kind) * (operation::FIELD - 1) < v {
-        return None;
-    }
-    if left <= k || width < next + k {
-        return None;
-    }
-    Some(k)
 }
 
 // A value in the next free slot, if the record has one more.
@@ -139,152 +133,144 @@ fn room_ahead(from: usize, b: usize, codes: usize, values: usize, records: usize
         && from + accumulator::GROUP_SIZE <= values
 }
 
-// How many operations can join at most: what is left of the group, or of the list.
-fn most(inside: usize, i: usize, len: usize) -> usize
-    requires { (inside ≤ 9) × (i ≤ len) }
-    ensures { (inside + result ≤ 9) × (i + result ≤ len) }
-{
-    (len - i).min(accumulator::GROUP_SIZE - inside)
-}
-
-// Whether the last of n operations has an immediate: looked up once they have joined, so that the loop has one thing less in hand.
-fn last_imm(table: &[u8; 128], codes: &[u8], before: bool, i: usize, n: usize) -> bool
-    requires { (i + n ≤ length codes.now) × (0 < n → get_or codes.now (i + n - 1) 0 < 128) }
-    ensures { result ≡ last_imm table.now codes.now before i n }
-{
-    if n == 0 {
-        before
-    } else {
-        table[codes[i + n - 1] as usize] == 1
+impl Input<'_> {
+    // How many slots an operation takes that joins the current group as it is, 0 or 1; none where it does not, or is left to `step`. At most `left` may
+    // join, and the last of them has no immediate.
+    fn slots(self, code: u8, v: u64, next: usize, left: usize) -> Option<usize>
+        requires { next ≤ record_groups }
+        ensures { IfSome result (λ k. (k < 2) × Joins self.entry.width self.entry.table.now code v next left k) }
+    {
+        if 128 <= code {
+            return None;
+        }
+        let kind = self.table[code as usize];
+        let k = kind as usize;
+        // the greatest value, 0 for kind 0 and below the field's size for kind 1, by a product where `value_right` has a branch
+        if 1 < kind || u64::from(kind) * (operation::FIELD - 1) < v {
+            return None;
+        }
+        if left <= k || self.width < next + k {
+            return None;
+        }
+        Some(k)
     }
-}
 
-// The work put together again, with n operations that have joined from the i-th on.
-fn gather(
-    work: Work,
-    table: &[u8; 128],
-    codes: &[u8],
-    i: usize,
-    n: usize,
-    next: usize,
-    number: u64,
-    unit: u64,
-) -> Taken
-    requires inside { (i + n ≤ length codes.now) × (0 < n → get_or codes.now (i + n - 1) 0 < 128) }
-    requires good { Good record_groups (taken_work table.now codes.now work i n next number unit).acc }
-    ensures { (result.work ≡ taken_work table.now codes.now work i n next number unit) × (result.upto ≡ i + n) }
-{
-    let a = work.acc;
-    let acc = OpBatchAccumulator {
-        next,
-        inside: a.inside + n,
-        number,
-        unit,
-        total: a.total + n as u8,
-        tail: last_imm(table, codes, a.tail, i, n),
-        ..a
-    };
-    Taken {
-        work: Work { acc, ..work },
-        upto: i + n,
+    // How many operations from the i-th on can join at most: what is left of the group, or of the list.
+    fn most(self, inside: usize, i: usize) -> usize
+        requires { (inside ≤ 9) × (i ≤ length self.codes.now) }
+        ensures { (inside + result ≤ 9) × (i + result ≤ length self.entry.codes.now) }
+    {
+        (self.codes.len() - i).min(accumulator::GROUP_SIZE - inside)
     }
-}
 
-// The operations from the i-th on that join the current group as it is, up to the first that does not.
-fn join_ops(
-    width: usize,
-    work: Work,
-    i: usize,
-    table: &[u8; 128],
-    codes: &[u8],
-    values: &[u64],
-    out_codes: &mut [u8],
-    out_values: &mut [u64],
-    records: &mut [u8],
-) -> Taken
-    requires sizes { (length codes.now ≤ 16384) × (length values.now ≡ length codes.now) × (i ≤ length codes.now) × (2 ≤ width) × (width ≤ record_groups) }
-    requires going { Going width (arena out_codes.old out_values.old records.old) table.now codes.now values.now i work (arena out_codes.old out_values.old records.old) }
-    ensures place { (i ≤ result.upto) × (result.upto ≤ length codes.now) }
-    ensures going { Going width (arena out_codes.old out_values.old records.old) table.now codes.now values.now result.upto result.work (arena out_codes.new out_values.new records.new) }
-{
-    let a = work.acc;
-    let b = work.batches;
-    let from = work.base + a.total as usize;
-    if !room_ahead(from, b, out_codes.len(), out_values.len(), records.len()) {
-        return Taken { work, upto: i };
+    // Whether the last of n operations has an immediate: looked up once they have joined, so that the loop has one thing less in hand.
+    fn last_imm(self, before: bool, i: usize, n: usize) -> bool
+        requires { (i + n ≤ length self.codes.now) × (0 < n → get_or self.codes.now (i + n - 1) 0 < 128) }
+        ensures { result ≡ last_imm self.entry.table.now self.entry.codes.now before i n }
+    {
+        if n == 0 {
+            before
+        } else {
+            self.table[self.codes[i + n - 1] as usize] == 1
+        }
     }
-    let end = most(a.inside, i, codes.len());
-    let mut next = a.next;
-    let mut number = a.number;
-    let mut unit = a.unit;
-    for n in 0..end {
-        let code = codes[i + n];
-        let v = values[i + n];
-        let Some(k) = slots(width, table, code, v, next, end - n) else {
-            return gather(work, table, codes, i, n, next, number, unit);
+
+    // The work put together again, with n operations that have joined from the i-th on.
+    fn gather(self, work: Work, i: usize, n: usize, next: usize, number: u64, unit: u64) -> Taken
+        requires inside { (i + n ≤ length self.codes.now) × (0 < n → get_or self.codes.now (i + n - 1) 0 < 128) }
+        requires good { Good record_groups (taken_work self.table.now self.codes.now work i n next number unit).acc }
+        ensures { (result.work ≡ taken_work self.entry.table.now self.entry.codes.now work i n next number unit) × (result.upto ≡ i + n) }
+    {
+        let a = work.acc;
+        let acc = OpBatchAccumulator {
+            next,
+            inside: a.inside + n,
+            number,
+            unit,
+            total: a.total + n as u8,
+            tail: self.last_imm(a.tail, i, n),
+            ..a
         };
-        keep(v, b, next, records);
-        out_codes[from + n] = code;
-        out_values[from + n] = v;
-        number += u64::from(code) * unit;
-        unit *= 128;
-        next += k;
+        Taken {
+            work: Work { acc, ..work },
+            upto: i + n,
+        }
     }
-    gather(work, table, codes, i, end, next, number, unit)
-}
 
-// How much a list comes to.
-#[derive(Clone, Copy, Debug, PartialEq, Eq)]
-pub struct Totals {
-    pub batches: usize,
-    pub operations: usize,
-}
-
-// The batches of a list, written to runs that are all zero; or the refusal of its first operation that is not admissible. What the runs have no room for
-// falls away; what is replied does not.
-pub fn batch_ops(
-    width: usize,
-    table: &[u8; 128],
-    codes: &[u8],
-    values: &[u64],
-    out_codes: &mut [u8],
-    out_values: &mut [u64],
-    records: &mut [u8],
-) -> Result<Totals, Refusal>
-    requires sizes { (length codes.now ≤ 16384) × (length values.now ≡ length codes.now) × (2 ≤ width) × (width ≤ record_groups) }
-    requires zero { arena out_codes.old out_values.old records.old ≡ filled (arena out_codes.old out_values.old records.old) no_block }
-    ensures { Batched (listed width table.now codes.now values.now) result (arena out_codes.old out_values.old records.old) (arena out_codes.new out_values.new records.new) }
-{
-    let mut work = Work {
-        acc: OpBatchAccumulator::new(),
-        base: 0,
-        batches: 0,
-    };
-    let mut i = 0;
-    // no `for`: a turn goes on by as many operations as have joined
-    while i < codes.len() {
-        let code = codes[i];
-        let v = values[i];
-        operation::fault(table, code, v, i)?;
-        let imm = table[code as usize] == 1;
-        let s = step(width, work, code, imm, v, out_codes, out_values, records);
-        let t = join_ops(
-            width,
-            s,
-            i + 1,
-            table,
-            codes,
-            values,
-            out_codes,
-            out_values,
-            records,
-        );
-        work = t.work;
-        i = t.upto;
+    // The operations from the i-th on that join the current group as it is, up to the first that does not.
+    fn join_ops(
+        self,
+        work: Work,
+        i: usize,
+        codes: &mut [u8],
+        values: &mut [u64],
+        records: &mut [u8],
+    ) -> Taken
+        requires place { i ≤ length self.codes.now }
+        requires going { Going self.width (arena codes.old values.old records.old) self.table.now self.codes.now self.values.now i work (arena codes.old values.old records.old) }
+        ensures place { (i ≤ result.upto) × (result.upto ≤ length self.entry.codes.now) }
+        ensures going { Going self.entry.width (arena codes.old values.old records.old) self.entry.table.now self.entry.codes.now self.entry.values.now result.upto result.work (arena codes.new values.new records.new) }
+    {
+        let a = work.acc;
+        let b = work.batches;
+        let from = work.base + a.total as usize;
+        if !room_ahead(from, b, codes.len(), values.len(), records.len()) {
+            return Taken { work, upto: i };
+        }
+        let end = self.most(a.inside, i);
+        let mut next = a.next;
+        let mut number = a.number;
+        let mut unit = a.unit;
+        for n in 0..end {
+            let code = self.codes[i + n];
+            let v = self.values[i + n];
+            let Some(k) = self.slots(code, v, next, end - n) else {
+                return self.gather(work, i, n, next, number, unit);
+            };
+            keep(v, b, next, records);
+            codes[from + n] = code;
+            values[from + n] = v;
+            number += u64::from(code) * unit;
+            unit *= 128;
+            next += k;
+        }
+        self.gather(work, i, end, next, number, unit)
     }
-    let e = end_batch(work, records);
-    Ok(Totals {
-        batches: e.batches,
-        operations: e.base,
-    })
+
+    // ---- the driver
+
+    // The batches of the list, written to runs that are all zero; or the refusal of its first operation that is not admissible. What the runs have no room
+    // for falls away; what is replied does not.
+    pub fn batch_ops(
+        self,
+        codes: &mut [u8],
+        values: &mut [u64],
+        records: &mut [u8],
+    ) -> Result<Totals, Refusal>
+        requires { arena codes.old values.old records.old ≡ filled (arena codes.old values.old records.old) no_block }
+        ensures { Batched (listed self.entry.width self.entry.table.now self.entry.codes.now self.entry.values.now) result (arena codes.old values.old records.old) (arena codes.new values.new records.new) }
+    {
+        let mut work = Work {
+            acc: OpBatchAccumulator::new(),
+            base: 0,
+            batches: 0,
+        };
+        let mut i = 0;
+        // no `for`: a turn goes on by as many operations as have joined
+        while i < self.codes.len() {
+            let code = self.codes[i];
+            let v = self.values[i];
+            operation::fault(self.table, code, v, i)?;
+            let imm = self.table[code as usize] == 1;
+            let s = work.step(self.width, code, imm, v, codes, values, records);
+            let t = self.join_ops(s, i + 1, codes, values, records);
+            work = t.work;
+            i = t.upto;
+        }
+        let e = work.end_batch(records);
+        Ok(Totals {
+            batches: e.batches,
+            operations: e.base,
+        })
+    }
 }

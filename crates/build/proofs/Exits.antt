@@ -5,7 +5,6 @@ use mathlib.Core.List.{List, [], ◌∷◌, map}
 use Prim.Native.Nat.{ℕ, zero, suc, ◌+◌, ◌/◌}
 use lib.ListN.{length}
 use lib.Dec.{leb}
-use denote.Ref.{Bor}
 use Rattle.std.specs.Prelude.{Result, Ok, Err}
 use Rattle.std.specs.Result.{is_err}
 use Rattle.rules.specs.Answer.{Answer, good, refused, refuse, refuse_first}
@@ -21,7 +20,8 @@ use Rattle.refusal.specs.Told.{number_of, place_of, told}
 use Rattle.batcher.specs.declared.Totals.{Totals}
 use Rattle.batcher.specs.Batched.{listed, built_of, Batched}
 use Rattle.build.specs.Outcome.{Outcome}
-use Rattle.build.specs.Checked.{placed, block_for, Checked}
+use Rattle.batcher.specs.declared.Input.{Input}
+use Rattle.build.specs.Checked.{placed, block_for, left, left_of, Checked}
 
 -- ---- of the runs only the lengths matter
 
@@ -57,10 +57,6 @@ unfolding refuse_first
 walked_good i [] b t h = refl
 walked_good i (zero ∷ ns) b t h = walked_good (i + 1) ns b t h
 walked_good i (suc n ∷ ns) b t h = cc
-
--- what is left once the input has passed
-abbrev left : ℕ → List ℕ → List ℕ → List ℕ → Room → Answer Block
-left w t cs vs room = refuse_first 0 (map (op_fault t) (operations cs vs)) (placed (block_for w t cs vs) room)
 
 -- ---- batched: `a` are the runs all zero, `a'` as the driver leaves them
 
@@ -108,8 +104,8 @@ module _ (w : ℕ) (t cs vs : List ℕ) (r : Result Totals Refusal) (a a' : Aren
 outcome : {answer : Room → Answer Block} {r : Result Totals Refusal} {e a : Arena} (x : Answer Block) → answer (room_in e) ≡ x → told r ≡ built_of x → a ≡ filled e (leaves no_block x) → Outcome answer r e a
 outcome {e = e} x q p s = record { reply = p ∙ ap built_of (sym q); runs = s ∙ ap (λ (y : Answer Block). filled e (leaves no_block y)) (sym q) }
 
-pub input_refused : (w : ℕ) {t cs vs : List ℕ} {n : Refusal} {e a : Arena} → Checked t cs vs (Err n) → (r : Result Totals Refusal) → told r ≡ refused (number_of n) (place_of n) → a ≡ filled e no_block → Outcome (built w t cs vs) r e a
-input_refused w {n = n} {e = e} h r f z = outcome (refused (number_of n) (place_of n)) (h.decides w (room_in e)) f z
+pub input_refused : {t cs vs : List ℕ} {n : Refusal} {e a : Arena} → Checked t cs vs (Err n) → (r : Result Totals Refusal) → told r ≡ refused (number_of n) (place_of n) → a ≡ filled e no_block → Outcome (built 8 t cs vs) r e a
+input_refused {n = n} {e = e} h r f z = outcome (refused (number_of n) (place_of n)) (h.decides (room_in e)) f z
 
 gone : (r : Result Totals Refusal) (x : Answer Block) → told r ≡ built_of x → is_err r ≡ false → (b : Block) × (x ≡ good b)
 gone (Ok q) (good b) h f = (b, refl)
@@ -121,17 +117,17 @@ stopped (Ok q) x h f = cc
 stopped (Err n) (good b) h f = absurd (clash _ _ _ h)
 stopped (Err n) (refused m p) h f = refl
 
-module _ (w : ℕ) (t cs vs : List ℕ) (k : Bor (List ℕ)) (r : Result Totals Refusal) (e a a' : Arena) (h : Checked t cs vs (Ok k)) (z : a ≡ filled e no_block) (m : Batched (left w k.now cs vs (room_in a)) r a a') where
+module _ {t cs vs : List ℕ} {k : Input} {r : Result Totals Refusal} (e a a' : Arena) (h : Checked t cs vs (Ok k)) (z : a ≡ filled e no_block) (m : Batched (left_of k (room_in a)) r a a') where
   rooms : room_in a ≡ room_in e
   unfolding room_in
   rooms = let l = same e a no_block z in rw (l.0, l.1, l.2)
 
-  decides : built w t cs vs (room_in e) ≡ left w k.now cs vs (room_in a)
-  decides = h.decides w (room_in e) ∙ rw (h.fit.0, rooms)
+  decides : built 8 t cs vs (room_in e) ≡ left_of k (room_in a)
+  decides = let s = h.same in h.decides (room_in e) ∙ rw (s.0, s.1, s.2, s.3, rooms)
 
-  pub kept : is_err r ≡ false → Outcome (built w t cs vs) r e a'
+  pub kept : is_err r ≡ false → Outcome (built 8 t cs vs) r e a'
   kept f = let b = gone r _ m.reply f in outcome (good b.0) (decides ∙ b.1) (m.reply ∙ ap built_of b.1) (m.runs b.0 b.1 ∙ refill e a (same e a no_block z) b.0)
 
-  pub wiped : is_err r ≡ true → (a'' : Arena) → Same a' a → a'' ≡ filled a' no_block → Outcome (built w t cs vs) r e a''
+  pub wiped : is_err r ≡ true → (a'' : Arena) → Same a' a → a'' ≡ filled a' no_block → Outcome (built 8 t cs vs) r e a''
   wiped f a'' l y =
-      outcome (left w k.now cs vs (room_in a)) decides m.reply (y ∙ refill a a' l no_block ∙ refill e a (same e a no_block z) no_block ∙ ap (filled e) (sym (stopped r _ m.reply f)))
+      outcome (left_of k (room_in a)) decides m.reply (y ∙ refill a a' l no_block ∙ refill e a (same e a no_block z) no_block ∙ ap (filled e) (sym (stopped r _ m.reply f)))

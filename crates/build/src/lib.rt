@@ -1,23 +1,26 @@
 // The public entry of the batcher (document 01, "Numbers of refusal", build): refusals 3, 14, 12, 4 or 17 (M-101), and 13.
 #![tactic(auto)]
 
-ghost use Rattle.std.specs.Prelude.{◌≡◌, ◌&&◌, ◌/◌, ◌≤◌, map, length, leb};
-ghost use Rattle.rules.specs.Answer.{refuse_first};
-ghost use Rattle.rules.specs.Operations.{operations, op_fault};
+ghost use Rattle.std.specs.Prelude.{◌≡◌, ◌&&◌, ◌/◌, leb};
 ghost use Rattle.rules.specs.Record.{record_size, no_block};
 ghost use Rattle.rules.specs.Functions.{arena, room_in, filled, built};
 ghost use Rattle.batcher.specs.Batched.{Batched};
 ghost use Rattle.build.specs.Outcome.{Outcome};
-ghost use Rattle.build.specs.Checked.{Checked, placed, block_for};
+ghost use Rattle.build.specs.Checked.{Checked, left_of};
 
+use batcher::Input;
 pub use batcher::Totals;
 use refusal::Refusal;
 
 // The longest list.
 const MOST: usize = 16384;
 
-// The checks of the input that come before its operations, in order; the table.
-fn check_input<'a>(table: &'a [u8], codes: &[u8], values: &[u64]) -> Result<&'a [u8; 128], Refusal>
+// The checks of the input that come before its operations, in order.
+fn check_input<'a>(
+    table: &'a [u8],
+    codes: &'a [u8],
+    values: &'a [u64],
+) -> Result<Input<'a>, Refusal>
     ensures { Checked table.now codes.now values.now result }
 {
     if codes.len() != values.len() || MOST < codes.len() {
@@ -27,7 +30,12 @@ fn check_input<'a>(table: &'a [u8], codes: &[u8], values: &[u64]) -> Result<&'a 
     if codes.is_empty() {
         return Err(Refusal::EmptyList);
     }
-    Ok(table)
+    Ok(Input {
+        width: op_batch::WIDTH,
+        table,
+        codes,
+        values,
+    })
 }
 
 // Whether runs of these lengths hold so much.
@@ -48,29 +56,18 @@ fn clear(codes: &mut [u8], values: &mut [u64], records: &mut [u8])
     word::zero_after(records, 0);
 }
 
-// The batches of a list that has passed, written to runs that are all zero. What a refusal leaves there is not said.
+// The batches of a list, written to runs that are all zero. What a refusal leaves there is not said.
 fn batch(
-    table: &[u8; 128],
-    codes: &[u8],
-    values: &[u64],
-    out_codes: &mut [u8],
-    out_values: &mut [u64],
+    input: Input<'_>,
+    codes: &mut [u8],
+    values: &mut [u64],
     records: &mut [u8],
 ) -> Result<Totals, Refusal>
-    requires sizes { (length codes.now ≤ 16384) × (length values.now ≡ length codes.now) }
-    requires zero { arena out_codes.old out_values.old records.old ≡ filled (arena out_codes.old out_values.old records.old) no_block }
-    ensures { Batched (refuse_first 0 (map (op_fault table.now) (operations codes.now values.now)) (placed (block_for 8 table.now codes.now values.now) (room_in (arena out_codes.old out_values.old records.old)))) result (arena out_codes.old out_values.old records.old) (arena out_codes.new out_values.new records.new) }
+    requires { arena codes.old values.old records.old ≡ filled (arena codes.old values.old records.old) no_block }
+    ensures { Batched (left_of input.entry (room_in (arena codes.old values.old records.old))) result (arena codes.old values.old records.old) (arena codes.new values.new records.new) }
 {
-    let totals = batcher::batch_ops(
-        op_batch::WIDTH,
-        table,
-        codes,
-        values,
-        out_codes,
-        out_values,
-        records,
-    )?;
-    if room_for(totals, out_codes.len(), out_values.len(), records.len()) {
+    let totals = input.batch_ops(codes, values, records)?;
+    if room_for(totals, codes.len(), values.len(), records.len()) {
         Ok(totals)
     } else {
         Err(Refusal::NoRoom)
@@ -89,8 +86,8 @@ pub fn build(
     ensures { Outcome (built 8 table.now codes.now values.now) result (arena out_codes.old out_values.old records.old) (arena out_codes.new out_values.new records.new) }
 {
     clear(out_codes, out_values, records);
-    let table = check_input(table, codes, values)?;
-    let made = batch(table, codes, values, out_codes, out_values, records);
+    let input = check_input(table, codes, values)?;
+    let made = batch(input, out_codes, out_values, records);
     if made.is_err() {
         clear(out_codes, out_values, records);
     }

@@ -1,4 +1,7 @@
-use mathlib.Core.Path.{sym, ap, ◌∙◌, subst}
+use mathlib.Core.Path.{refl, sym, ap, ◌∙◌, subst}
+use lib.ListN.{length}
+use native.Mathlib.Omega.{arith}
+use Rattle.rules.proofs.Operations.{table_128}
 use borrow.Author.Tests.{le-ltb, lt-ltb, eq-eqb, ne_eqb}
 use Rattle.std.specs.Prelude.{Err}
 use Rattle.std.proofs.lemmas.Result.{err_from_is_err_and}
@@ -12,9 +15,9 @@ pub returns-then-codes-values : goal.returns-then-codes-values
 unfolding built
 returns-then-codes-values c =
     record {
-      fit = tt;
+      same = tt;
       decides =
-          λ w room. elim c.then-codes-values.branch [
+          λ room. elim c.then-codes-values.branch [
             | then-codes-values-via-then-codes-values k ↦ simp (ne_eqb _ _ k.if-codes-values.true)
             | then-codes-values-via-else-codes-values+then-codes-gt-MOST k ↦ simp (eq-eqb _ _ k.if-codes-values.false, lt-ltb _ _ k.if-codes-gt-MOST.true)
           ];
@@ -27,19 +30,23 @@ returns-in_err-table c =
     let e = c.in_err-table.ensures.err in
     let r = err_from_is_err_and _ c.from_residual.ensures.1 in
     subst (Checked a.table.now a.codes.now a.values.now) (sym (r.1 ∙ ap (λ (x : Refusal). Err x) (r.2 ∙ e.0)))
-    (record { fit = tt; decides = λ w room. simp (eq-eqb _ _ c.if-codes-values.false, le-ltb _ _ c.if-codes-gt-MOST.false, e.1) })
+    (record { same = tt; decides = λ room. simp (eq-eqb _ _ c.if-codes-values.false, le-ltb _ _ c.if-codes-gt-MOST.false, e.1) })
 
 pub returns-then-is_empty : goal.returns-then-is_empty
 unfolding built
 returns-then-is_empty c =
-    record { fit = tt; decides = λ w room. simp (eq-eqb _ _ c.if-codes-values.false, le-ltb _ _ c.if-codes-gt-MOST.false, c.in_ok-table.ensures.ok.1, sym c.is_empty.ensures ∙ c.if-is_empty.true) }
+    record { same = tt; decides = λ room. simp (eq-eqb _ _ c.if-codes-values.false, le-ltb _ _ c.if-codes-gt-MOST.false, c.in_ok-table.ensures.ok.1, sym c.is_empty.ensures ∙ c.if-is_empty.true) }
+
+pub invariant_of-result : goal.invariant_of-result
+invariant_of-result c =
+    let k = c.in_ok-table.ensures.ok in
+    record { whole = ap length k.0 ∙ table_128 _ k.1; wide = (omega arith, omega arith); even = sym c.if-codes-values.false; few = c.if-codes-gt-MOST.false }
 
 pub returns : goal.returns
 unfolding built
 returns c =
     let k = c.in_ok-table.ensures.ok in
-    let e = c.if-codes-values.false in
     record {
-      fit = (k.0, c.if-codes-gt-MOST.false, sym e);
-      decides = λ w room. simp (eq-eqb _ _ e, le-ltb _ _ c.if-codes-gt-MOST.false, k.1, sym c.is_empty.ensures ∙ c.if-is_empty.false);
+      same = (refl, k.0, refl, refl);
+      decides = λ room. simp (eq-eqb _ _ c.if-codes-values.false, le-ltb _ _ c.if-codes-gt-MOST.false, k.1, sym c.is_empty.ensures ∙ c.if-is_empty.false);
     }

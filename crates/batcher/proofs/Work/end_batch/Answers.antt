@@ -1,5 +1,5 @@
 use Rattle.batcher.specs.Model.{ended_work, ended_work_run}
-use Rattle.batcher.proofs.end_batch.Goals as goal
+use Rattle.batcher.proofs.Work.end_batch.Goals as goal
 
 pub returns : goal.returns
 unfolding ended_work ended_work_run

@@ -4,7 +4,7 @@ use Prim.Native.Nat.{◌+◌, ◌-◌}
 use native.Mathlib.Omega.{arith}
 use Rattle.batcher.proofs.InHand.{going_good}
 use Rattle.batcher.proofs.Join.{joins_small, going_more}
-use Rattle.batcher.proofs.join_ops.Goals as goal
+use Rattle.batcher.proofs.Input.join_ops.Goals as goal
 
 pub overflow_mul-number : goal.overflow_mul-number
 overflow_mul-number c =
@@ -25,5 +25,8 @@ loop-n-preserved c =
     let e : a.i + (l.n + 1) - 1 ≡ a.i + l.n = omega arith in (
       λ h. rw e (joins_small j),
       rw c.from.ensures
-          (going_more a.work a.i l.n l.next l.number l.unit l.invariant.1 c.requires.sizes.3 c.requires.sizes.4 (omega arith) j c.in-Some.ensures.0 (omega (arith, c.most-end.ensures, c.loop-n-test.true)) (omega (arith, c.most-end.ensures, c.loop-n-test.true)) (omega (arith, c.requires.sizes, c.most-end.ensures, c.loop-n-test.true)) c.keep.ensures),
+          (going_more a.work a.i l.n l.next l.number l.unit l.invariant.1 a.self.wide.0 a.self.wide.1 a.self.whole j c.in-Some.ensures.0 (omega (arith, c.most-end.ensures, c.loop-n-test.true)) (omega (arith, c.most-end.ensures, c.loop-n-test.true)) (omega (arith, a.self.few, c.most-end.ensures, c.loop-n-test.true)) c.keep.ensures),
     )
+
+pub slots-requires : goal.slots-requires
+slots-requires c = omega (arith, (going_good c.loop-n.invariant.1).high, c.args.self.wide)
