@@ -1,26 +1,21 @@
--- Laws of bytes and words read from a run: one element, and the walk along them. Assumes nothing.
-use Rattle.std.proofs.Common.{◌≡◌, ℕ, suc, ◌+◌, ◌-◌, ◌*◌, ◌%◌, ◌<◌, ◌≤◌, Bool, true, false, ◌&&◌, eqb, leb, List, ◌∷◌, length, get_or, sym, refl, ap, ◌∙◌, ap₂, add-zero, zero-add, arith, ext_get_or, le-leb, leb-true}
+-- Laws of bytes and words read from a run, and of the tests over a record's flags and starts. Assumes nothing.
+use Rattle.std.proofs.Common.{◌≡◌, ℕ, suc, ◌+◌, ◌-◌, ◌*◌, ◌%◌, ◌<◌, ◌≤◌, Bool, true, false, ◌&&◌, leb, List, [], ◌∷◌, length, get_or, take, drop, fold, sym, refl, ap, ◌∙◌, arith, ext_get_or, length-drop, length-take-le, get_or-take, get_or-drop, drop-cons, drop_of_length-le, le-leb, leb-true}
 use borrow.Author.Tests.{lt-leb}
 use Rattle.rules.specs.Lists.{every}
 use Rattle.rules.specs.Record.{bytes_at}
-use Rattle.rules.specs.Checks.{starts_right, record_right}
+use Rattle.rules.specs.Checks.{starts_right}
 use Rattle.rules.proofs.Digits.{split}
-use Rattle.rules.proofs.Operations.{true_left, true_right, swap, none_left}
-use Rattle.op_batch.specs.OpBatch.{layout}
+use Rattle.rules.proofs.Operations.{none_left}
 use Rattle.rules.proofs.Sizes.{length_bytes_at}
 use Rattle.rules.proofs.Loads.{byte}
 
--- a whole list read byte by byte
-pub bytes_all : (s : List ℕ) (n : ℕ) → length s ≡ n → bytes_at n s 0 ≡ s
-bytes_all s n h = ext_get_or 0 (bytes_at n s 0) s (length_bytes_at n s 0 ∙ sym h) (λ i l. byte n s 0 i (rw (length_bytes_at n s 0) at l) ∙ ap (λ (k : ℕ). get_or s k 0) (zero-add i))
-
--- the bytes from the i-th of n on
-pub bytes_turn : (n : ℕ) (s : List ℕ) (at i : ℕ) → i < n → bytes_at (n - i) s (at + i) ≡ get_or s (at + i) 0 ∷ bytes_at (n - (i + 1)) s (at + (i + 1))
-unfolding bytes_at
-bytes_turn n s at i h =
-    let e : n - i ≡ suc (n - (i + 1)) = omega arith in
-    let f : at + i + 1 ≡ at + (i + 1) = omega arith in
-    rw e (ap (λ (k : ℕ). get_or s (at + i) 0 ∷ bytes_at (n - (i + 1)) s k) f)
+-- a part of a run, byte by byte
+pub part_bytes : (s : List ℕ) (at end n : ℕ) → at + n ≡ end → end ≤ length s → take (end - at) (drop at s) ≡ bytes_at n s at
+part_bytes s at end n e h =
+    let d : end - at ≡ n = omega arith in
+    let l : length (take n (drop at s)) ≡ n = length-take-le n (drop at s) (omega (arith, length-drop at s)) in
+    rw d
+    (ext_get_or 0 (take n (drop at s)) (bytes_at n s at) (l ∙ sym (length_bytes_at n s at)) (λ i k. let b : i < n = omega (arith, l) in get_or-take n (drop at s) i 0 b ∙ get_or-drop at s i 0 ∙ sym (byte n s at i b)))
 
 -- ---- tests that go on whatever they find
 
@@ -28,75 +23,62 @@ join : (a b c : Bool) → ((a && b) && c) ≡ (a && (b && c))
 join true b c = refl
 join false b c = refl
 
--- ---- flags, one after the other
+-- ---- flags
 
-abbrev pub flags_from : List ℕ → ℕ → ℕ → Bool
-flags_from s at i = every (λ (f : ℕ). leb f 1) (bytes_at (8 - i) s (at + i))
-
-pub flag_turn : (s : List ℕ) (at i : ℕ) (ok : Bool) → i < 8 → ((leb (get_or s (at + i) 0) 1 && ok) && flags_from s at (i + 1)) ≡ (ok && flags_from s at i)
+pub fold_every : (test : ℕ → Bool) (ok : Bool) (xs : List ℕ) → fold (λ (a : Bool) (x : ℕ). a && test x) ok xs ≡ (ok && every test xs)
 unfolding every
-flag_turn s at i ok h = swap (leb (get_or s (at + i) 0) 1) ok (flags_from s at (i + 1)) ∙ rw (bytes_turn 8 s at i h)
-
-pub flags_end : (s : List ℕ) (at i : ℕ) (ok : Bool) → 8 ≤ i → ok ≡ (ok && flags_from s at i)
-unfolding every bytes_at
-flags_end s at i ok h = let e : 8 - i ≡ 0 = omega arith in rw e (none_left ok)
+fold_every test ok [] = none_left ok
+fold_every test ok (x ∷ xs) = fold_every test (ok && test x) xs ∙ join ok (test x) (every test xs)
 
 -- ---- starts, one pair after the other
 
-abbrev pub starts_left : List ℕ → ℕ → ℕ → Bool
-starts_left s at i = starts_right (bytes_at (9 - i) s (at + i))
-
 -- a difference that wraps, where the lower start is not near the top
-near : (a b : ℕ) → a ≤ 63 → b < 256 → leb ((b + 256 - a) % 256) 9 ≡ (leb a b && leb b (a + 9))
+near : (a b : ℕ) → a ≤ 63 → b < 256 → leb ((b + (256 - a)) % 256) 9 ≡ (leb a b && leb b (a + 9))
 near a b h k =
     split b a
-    (λ l. rw (lt-leb a b l, lt-leb ((b + 256 - a) % 256) 9 (omega arith)))
+    (λ l. rw (lt-leb a b l, lt-leb ((b + (256 - a)) % 256) 9 (omega arith)))
     (λ l.
     split (a + 9) b
-    (λ m. rw (le-leb a b l, lt-leb b (a + 9) m, lt-leb ((b + 256 - a) % 256) 9 (omega arith)))
-    (λ m. rw (le-leb a b l, le-leb b (a + 9) m, le-leb ((b + 256 - a) % 256) 9 (omega arith))))
+    (λ m. rw (le-leb a b l, lt-leb b (a + 9) m, lt-leb ((b + (256 - a)) % 256) 9 (omega arith)))
+    (λ m. rw (le-leb a b l, le-leb b (a + 9) m, le-leb ((b + (256 - a)) % 256) 9 (omega arith))))
 
-module _ (s : List ℕ) (at i : ℕ) (h : i < 8) where
-  two : bytes_at (9 - i) s (at + i) ≡ get_or s (at + i) 0 ∷ get_or s (at + i + 1) 0 ∷ bytes_at (9 - (i + 2)) s (at + (i + 2))
-  two =
-      bytes_turn 9 s at i (omega arith)
-      ∙ ap (λ (r : List ℕ). get_or s (at + i) 0 ∷ r) (bytes_turn 9 s at (i + 1) (omega arith) ∙ ap₂ (λ (j k : ℕ). get_or s j 0 ∷ bytes_at (9 - k) s (at + k)) (omega arith) (omega arith))
+module _ (s : List ℕ) (l : length s ≡ 9) (i : ℕ) (h : i < 8) where
+  abbrev a : ℕ
+  a = get_or s i 0
 
-  one : bytes_at (9 - (i + 1)) s (at + (i + 1)) ≡ get_or s (at + i + 1) 0 ∷ bytes_at (9 - (i + 2)) s (at + (i + 2))
-  one = bytes_turn 9 s at (i + 1) (omega arith) ∙ ap₂ (λ (j k : ℕ). get_or s j 0 ∷ bytes_at (9 - k) s (at + k)) (omega arith) (omega arith)
+  abbrev b : ℕ
+  b = get_or s (i + 1) 0
 
-  step : starts_left s at i ≡ (leb (get_or s (at + i) 0) (get_or s (at + i + 1) 0) && (leb (get_or s (at + i + 1) 0) (get_or s (at + i) 0 + 9) && starts_left s at (i + 1)))
+  one : drop (i + 1) s ≡ b ∷ drop (i + 2) s
+  one = let e : i + 2 ≡ suc (i + 1) = omega arith in rw e (drop-cons s (i + 1) 0 (omega arith))
+
+  two : drop i s ≡ a ∷ b ∷ drop (i + 2) s
+  two = drop-cons s i 0 (omega arith) ∙ ap (λ (r : List ℕ). a ∷ r) (let e : suc i ≡ i + 1 = omega arith in rw e one)
+
+  step : starts_right (drop i s) ≡ (leb a b && (leb b (a + 9) && starts_right (drop (i + 1) s)))
   unfolding starts_right
   step = rw (two, one)
 
   abbrev rise : Bool
-  rise = leb ((get_or s (at + i + 1) 0 + 256 - get_or s (at + i) 0) % 256) 9
+  rise = leb ((b + (256 - a)) % 256) 9
 
   -- either something was not right before, or the starts have risen by 9 at most
-  pub start_turn : (ok : Bool) → (ok ≡ true → get_or s (at + i) 0 ≤ 9 * i) → get_or s (at + i + 1) 0 < 256
-      → (((rise && ok) && starts_left s at (i + 1)) ≡ (ok && starts_left s at i)) × ((rise && ok) ≡ true → get_or s (at + (i + 1)) 0 ≤ 9 * (i + 1))
+  pub start_turn : (ok : Bool) → (ok ≡ true → a ≤ 9 * i) → b < 256
+      → (((ok && rise) && starts_right (drop (i + 1) s)) ≡ (ok && starts_right (drop i s))) × ((ok && rise) ≡ true → b ≤ 9 * (i + 1))
   start_turn true u k =
-      let a = get_or s (at + i) 0 in
-      let b = get_or s (at + i + 1) 0 in
       let low : a ≤ 9 * i = u refl in
-      let more = starts_left s at (i + 1) in
-      let n = near a b (omega arith) k in
-      let there : at + (i + 1) ≡ at + i + 1 = omega arith in (
-        swap rise true more ∙ ap (λ (x : Bool). x && more) n ∙ join (leb a b) (leb b (a + 9)) more ∙ sym step,
-        λ t. rw there (omega (arith, leb-true ((b + 256 - a) % 256) 9 (true_left rise true t))),
+      let more = starts_right (drop (i + 1) s) in
+      let n = near a b (omega arith) k in (
+        ap (λ (x : Bool). x && more) n ∙ join (leb a b) (leb b (a + 9)) more ∙ sym step,
+        λ t. omega (arith, leb-true ((b + (256 - a)) % 256) 9 t),
       )
-  start_turn false u k = (swap rise false (starts_left s at (i + 1)), λ t. let y = true_right rise false t in let z : ◌≡◌ {A = ℕ} 0 1 = cc in absurd (omega arith))
+  start_turn false u k = (refl, λ t. cc)
 
-pub starts_end : (s : List ℕ) (at i : ℕ) (ok : Bool) → i ≡ 8 → ok ≡ (ok && starts_left s at i)
-unfolding starts_right bytes_at
-starts_end s at i ok h = rw h (none_left ok)
+pub starts_end : (s : List ℕ) (ok : Bool) → length s ≡ 9 → ok ≡ (ok && starts_right (drop 8 s))
+unfolding starts_right
+starts_end s ok h = rw (drop-cons s 8 0 (omega arith), drop_of_length-le s {i = 9} (omega arith)) (none_left ok)
 
--- ---- the last of the structure test
+-- ---- five tests, each of which looks at the next where those before hold
 
-pub last_test : (w : ℕ) (s : List ℕ) (at : ℕ) (flags : List ℕ) (count : ℕ) → w ≤ 8
-    → count ≤ w → every (λ (f : ℕ). leb f 1) flags ≡ true → get_or s at 0 ≡ 0 → starts_right (bytes_at 9 s at) ≡ true
-    → record_right w (layout (bytes_at 9 s at) flags count) ≡ eqb (get_or s (at + count) 0) (get_or s (at + 8) 0)
-unfolding record_right
-last_test w s at flags count few h f z r =
-    let first : get_or (bytes_at 9 s at) 0 0 ≡ 0 = byte 9 s at 0 (omega arith) ∙ ap (λ (i : ℕ). get_or s i 0) (add-zero at) ∙ z in
-    rw (le-leb count w h, f, first, r, byte 9 s at count (omega arith), byte 9 s at 8 (omega arith))
+pub all_tests : (a b c d e v₁ v₂ v₃ : Bool) → v₁ ≡ (a && b) → v₂ ≡ (v₁ && c) → v₃ ≡ (v₂ && d) → (a && (b && (c && (d && e)))) ≡ (v₃ && e)
+all_tests a b c d e v₁ v₂ v₃ x y z = rw (z, y, x) (sym (join (a && b && c) d e ∙ join (a && b) c (d && e) ∙ join a b (c && (d && e))))

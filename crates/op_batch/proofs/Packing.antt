@@ -1,5 +1,7 @@
 -- Digits of a number walked by a loop, from the lowest on to take them apart and from the highest on to put them together. Assumes nothing.
-use Rattle.std.proofs.Common.{◌≡◌, ℕ, zero, suc, ◌+◌, ◌-◌, ◌*◌, ◌^◌, ◌<◌, ◌≤◌, Bool, true, ◌&&◌, leb, List, [], ◌∷◌, length, get_or, drop, refl, ap, ◌∙◌, add-zero, pow-suc, arith, drop_of_length-le, drop-cons, leb-true}
+use Rattle.std.proofs.Common.{◌≡◌, ℕ, zero, suc, ◌+◌, ◌-◌, ◌*◌, ◌^◌, ◌<◌, ◌≤◌, Bool, true, ◌&&◌, leb, List, [], ◌∷◌, ◌++◌, length, get_or, sym, refl, ap, ◌∙◌, append_assoc, add-zero, pow-suc, arith, length-append, leb-true}
+use Rattle.std.specs.List.{push}
+use lib.Seq.{get_or-append_seam}
 use native.Mathlib.Nat.{pow-le-pow_right}
 use Rattle.rules.specs.Lists.{every}
 use Rattle.rules.specs.Digits.{number, le_at}
@@ -15,16 +17,19 @@ power_turn b n i h k = let e : n - (i - 1) ≡ suc (n - i) = omega arith in rw (
 pub power_most : (b n m i : ℕ) → 0 < b → n ≤ m → b ^ (n - i) ≤ b ^ m
 power_most b n m i h k = let l : n - i ≤ m = omega arith in pow-le-pow_right h l
 
--- of a list
-pub number_turn : (b : ℕ) (cs : List ℕ) (i : ℕ) → 0 < i → i ≤ length cs → number b (drop (i - 1) cs) ≡ get_or cs (i - 1) 0 + b * number b (drop i cs)
-unfolding number
-number_turn b cs i h k =
-    let e : suc (i - 1) ≡ i = omega arith in
-    ap (number b) (drop-cons cs (i - 1) 0 (omega arith)) ∙ ap (λ (j : ℕ). get_or cs (i - 1) 0 + b * number b (drop j cs)) e
+-- of a list, whose last code that is left comes before those that are done
+module _ (codes rest rest' done : List ℕ) (x : ℕ) (e : codes ≡ rest ++ done) (f : rest ≡ push rest' x) where
+  pub more_done : codes ≡ rest' ++ (x ∷ done)
+  more_done = e ∙ rw f (append_assoc rest' (x ∷ []) done)
 
-pub number_end : (b : ℕ) (cs : List ℕ) → number b (drop (length cs) cs) ≡ 0
-unfolding number
-number_end b cs = rw (drop_of_length-le cs {i = length cs} (omega arith))
+  pub code_at : get_or codes (length rest') 0 ≡ x
+  code_at = rw more_done (get_or-append_seam rest' x done 0)
+
+  pub more_length : length rest' + suc (length done) ≡ length codes
+  more_length = rw more_done (sym (length-append rest' (x ∷ done)))
+
+pub code_power : (done : List ℕ) → length done ≤ 8 → 128 ^ length done ≤ 128 ^ 8
+code_power done h = pow-le-pow_right (omega arith) h
 
 -- of n bytes in a run
 pub bytes_back : (b n : ℕ) (s : List ℕ) (at i : ℕ) → 0 < i → i ≤ n

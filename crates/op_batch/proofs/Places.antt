@@ -1,9 +1,11 @@
 -- The lookups in one batch, group by group. Assumes nothing.
 use Rattle.std.proofs.Common.{◌≡◌, ℕ, zero, suc, ◌+◌, ◌-◌, ◌<◌, ◌≤◌, List, [], ◌∷◌, length, get_or, take, drop, sym, refl, ap, ◌∙◌, add-one, arith, drop_of_length-le, length-take, drop-cons, get_or-take, le-ltb, lt-ltb}
 use mathlib.Core.Option.{none, some}
+use Rattle.std.specs.Prelude.{MatchOption, Option, None, Some}
+use Rattle.rules.proofs.Digits.{split}
 use Rattle.rules.specs.Record.{differences}
 use Rattle.rules.specs.Lookups.{group_from, next_from}
-use Rattle.op_batch.specs.OpBatch.{first_full}
+use Rattle.op_batch.specs.OpBatch.{first_full, next_in}
 
 drop_next : (s : List ℕ) (g : ℕ) → g < length s → drop g s ≡ get_or s g 0 ∷ drop (g + 1) s
 drop_next s g h = rw (add-one g) (drop-cons s g 0 h)
@@ -62,6 +64,23 @@ module _ (count : ℕ) (s : List ℕ) (h : count + 1 ≤ length s) where
   pub full_end : (g : ℕ) → count ≤ g → first_full g (drop g (sizes count s)) ≡ none
   unfolding first_full
   full_end g k = rw (drop_of_length-le (sizes count s) {i = g} (omega (arith, sizes_length)))
+
+  -- groups that are not full are passed
+  walked : (k d : ℕ) → k + d ≤ count → ((j : ℕ) → k ≤ j → j < k + d → get_or s (j + 1) 0 ≤ get_or s j 0) → first_full (k + d) (drop (k + d) (sizes count s)) ≡ first_full k (drop k (sizes count s))
+  walked k zero l q = let e : k + 0 ≡ k = omega arith in rw e
+  walked k (suc d) l q =
+      let e : k + suc d ≡ k + d + 1 = omega arith in
+      rw e (full_turn (k + d) (omega arith) (q (k + d) (omega arith) (omega arith)) ∙ walked k d (omega arith) (λ j a b. q j a (omega arith)))
+
+  reached : (k g : ℕ) → k ≤ g → g ≤ count → ((j : ℕ) → k ≤ j → j < g → get_or s (j + 1) 0 ≤ get_or s j 0) → first_full g (drop g (sizes count s)) ≡ first_full k (drop k (sizes count s))
+  reached k g l m q = let e : k + (g - k) ≡ g = omega arith in rw e at (walked k (g - k) (omega arith) (λ j a b. q j a (omega arith)))
+
+  -- what a search of the groups from k on finds
+  pub next_found : (k : ℕ) (r : Option ℕ)
+      → MatchOption r ((g : ℕ) → k ≤ g → g < count → get_or s (g + 1) 0 ≤ get_or s g 0) (λ g. (k ≤ g) × (g < count) × (get_or s g 0 < get_or s (g + 1) 0) × ((j : ℕ) → k ≤ j → j < g → get_or s (j + 1) 0 ≤ get_or s j 0))
+      → r ≡ next_in (first_full k (drop k (sizes count s)))
+  next_found k None m = ap next_in (split count k (λ l. sym (full_end k (omega arith))) (λ l. sym (full_end count (omega arith)) ∙ reached k count l (omega arith) m))
+  next_found k (Some g) m = ap next_in (sym (full_stop g m.1 m.2) ∙ reached k g m.0 (omega arith) m.3)
 
 -- ---- the next group after g is the first full one from g + 1 on
 

@@ -9,8 +9,11 @@ ghost use Rattle.rules.specs.Record.{starts_from, differences, record_size, word
 ghost use Rattle.rules.specs.Checks.{starts_right, record_right};
 ghost use Rattle.rules.specs.Lookups.{group_from};
 ghost use Rattle.rules.specs.Functions.{group_lookup, next_lookup};
+ghost use Rattle.refusal.specs.Told.{told};
 ghost use Rattle.op_batch.specs.OpBatch.{layout, record_in, found_in, lookup_of, first_full, next_in, next_of};
 ghost use Rattle.op_batch.specs.Stores.{start_set, starts_set, flag_set, number_set, count_set, record_set, packed};
+
+use refusal::Refusal;
 
 // A record's bytes in a run, and where its flags, its numbers and its count stand among them. No other crate knows.
 pub const RECORD: usize = 82;
@@ -25,7 +28,7 @@ const COUNT: usize = 81;
 pub const WIDTH: usize = 8;
 
 // A batch's record: nine starts, eight padding flags, eight group numbers, the group count.
-#[derive(Clone, Copy)]
+#[derive(Clone, Copy, Debug, PartialEq, Eq)]
 pub struct OpBatch {
     pub starts: [u8; 9],
     pub flags: [u8; 8],
@@ -33,87 +36,42 @@ pub struct OpBatch {
     pub count: u8,
 }
 
-// Where an operation stands in its batch.
-#[derive(Clone, Copy)]
-pub enum Lookup {
-    Found { group: usize, place: usize },
-    Nothing,
-    Refused { number: u8, place: usize },
+// Where an operation stands in its batch: the group, and the place in it.
+#[derive(Clone, Copy, Debug, PartialEq, Eq)]
+pub struct Place {
+    pub group: usize,
+    pub place: usize,
 }
 
-// A group of a batch.
-#[derive(Clone, Copy)]
-pub enum NextGroup {
-    At(usize),
-    Nothing,
-    Refused { number: u8, place: usize },
-}
+// ---- the structure test: all flags and all starts are looked at, whatever the first ones say, so that the machine can look at them abreast
 
-// ---- the structure test, where nine starts lie from one place of a run on and eight flags from a place of a run on: all flags and all starts are looked
-// at, whatever the first ones say, so that the machine can look at them abreast
-
-fn flag_right(ok: bool, flag: u8) -> bool
-    ensures { result ≡ (nat_le flag 1 && ok) }
+fn flags_right(flags: &[u8]) -> bool
+    ensures { result ≡ every (λ (f : ℕ). leb f 1) flags.now }
 {
-    if 1 < flag {
-        return false;
-    }
-    ok
-}
-
-fn flags_right(s: &[u8], at: usize) -> bool
-    requires { at + 8 ≤ length s.now }
-    ensures { result ≡ every (λ (f : ℕ). leb f 1) (bytes_at 8 s.now at) }
-{
-    let mut ok = true;
-    let mut i: usize = 0;
-    while i < 8 {
-        ok = flag_right(ok, s[at + i]);
-        i += 1;
-    }
-    ok
+    flags.iter().fold(true, |ok, flag| ok & (*flag <= 1))
 }
 
 // The difference wraps where starts fall. Where the first is 0 and the ones before this rise by 9 at most, it is then over 9.
-fn start_right(ok: bool, start: u8, end: u8) -> bool
-    ensures { result ≡ (nat_le ((end + 256 - start) % 256) 9 && ok) }
-{
-    if 9 < std::num::wrapping_sub_u8(end, start) {
-        return false;
-    }
-    ok
-}
-
-fn starts_right(s: &[u8], at: usize) -> bool
-    requires { (at + 9 ≤ length s.now) × (slice_index s.now at ≡ 0) }
-    ensures { result ≡ starts_right (bytes_at 9 s.now at) }
+fn starts_right(starts: &[u8]) -> bool
+    requires { (length starts.now ≡ 9) × (slice_index starts.now 0 ≡ 0) }
+    ensures { result ≡ starts_right starts.now }
 {
     let mut ok = true;
-    let mut i: usize = 0;
-    while i < 8 {
-        ok = start_right(ok, s[at + i], s[at + i + 1]);
-        i += 1;
+    for i in 0..8 {
+        ok &= starts[i + 1].wrapping_sub(starts[i]) <= 9;
     }
     ok
 }
 
-fn layout_right(width: usize, s: &[u8], at: usize, flags: &[u8], from: usize, count: u8) -> bool
-    requires { (width ≤ 8) × (at + 9 ≤ length s.now) × (from + 8 ≤ length flags.now) }
-    ensures { result ≡ record_right width (layout (bytes_at 9 s.now at) (bytes_at 8 flags.now from) count) }
+fn layout_right(width: usize, starts: &[u8], flags: &[u8], count: u8) -> bool
+    requires { (width ≤ 8) × (length starts.now ≡ 9) }
+    ensures { result ≡ record_right width (layout starts.now flags.now count) }
 {
-    if width < count as usize {
-        return false;
-    }
-    if !flags_right(flags, from) {
-        return false;
-    }
-    if s[at] != 0 {
-        return false;
-    }
-    if !starts_right(s, at) {
-        return false;
-    }
-    s[at + count as usize] == s[at + 8]
+    usize::from(count) <= width
+        && flags_right(flags)
+        && starts[0] == 0
+        && starts_right(starts)
+        && starts[usize::from(count)] == starts[8]
 }
 
 // Whether the b-th record of a run passes the structure check by itself, where a batch has at most `width` groups.
@@ -122,7 +80,12 @@ pub fn record_right(width: usize, records: &[u8], b: usize) -> bool
     ensures { result ≡ record_right width (record_at records.now b) }
 {
     let at = RECORD * b;
-    layout_right(width, records, at, records, at + FLAGS, records[at + COUNT])
+    layout_right(
+        width,
+        &records[at..at + FLAGS],
+        &records[at + FLAGS..at + NUMBERS],
+        records[at + COUNT],
+    )
 }
 
 // ---- what the b-th record of a run says
@@ -131,8 +94,7 @@ pub fn start(records: &[u8], b: usize, g: usize) -> usize
     requires { (record_size * b + record_size ≤ length records.now) × (g < 9) }
     ensures { (result ≡ slice_index (record_at records.now b).starts g) × (result < 256) }
 {
-    let at = RECORD * b + g;
-    records[at] as usize
+    usize::from(records[RECORD * b + g])
 }
 
 pub fn flag(records: &[u8], b: usize, g: usize) -> u8
@@ -170,8 +132,7 @@ pub fn count(records: &[u8], b: usize) -> usize
     requires { record_size * b + record_size ≤ length records.now }
     ensures { (result ≡ (record_at records.now b).count) × (result < 256) }
 {
-    let at = RECORD * b + COUNT;
-    records[at] as usize
+    usize::from(records[RECORD * b + COUNT])
 }
 
 // ---- stores to the b-th record of a run; what the run has no room for falls away
@@ -229,13 +190,11 @@ fn unpack_indptr_deltas(v: u64, out: &mut [u8], at: usize)
     ensures { out.new ≡ sets out.old at (starts_from 0 (digits 16 8 v)) }
 {
     let mut left = v;
-    let mut sum: u8 = 0;
-    let mut i: usize = 0;
-    while i < 8 {
+    let mut sum = 0;
+    for i in 0..8 {
         out[at + i] = sum;
-        sum = sum + (left % 16) as u8;
-        left = left / 16;
-        i += 1;
+        sum += (left % 16) as u8;
+        left /= 16;
     }
     out[at + 8] = sum;
 }
@@ -246,23 +205,19 @@ fn unpack_padding(v: u8, out: &mut [u8], at: usize)
     ensures { out.new ≡ sets out.old at (digits 2 8 v) }
 {
     let mut left = v;
-    let mut i: usize = 0;
-    while i < 8 {
+    for i in 0..8 {
         out[at + i] = left % 2;
-        left = left / 2;
-        i += 1;
+        left /= 2;
     }
 }
 
 // Eight numbers as 64 bytes, from `at` on.
 fn put_groups(groups: &[u64; 8], out: &mut [u8], at: usize)
-    requires { (at + 64 ≤ length out.old) × (length groups.now ≡ 8) }
+    requires { at + 64 ≤ length out.old }
     ensures { out.new ≡ sets out.old at (word_bytes groups.now) }
 {
-    let mut i: usize = 0;
-    while i < 8 {
-        word::put::<8>(out, at + 8 * i, groups[i]);
-        i += 1;
+    for (i, group) in groups.iter().enumerate() {
+        word::put::<8>(out, at + 8 * i, *group);
     }
 }
 
@@ -275,7 +230,7 @@ pub fn store_packed(
     records: &mut [u8],
     b: usize,
 )
-    requires { (record_size * b + record_size ≤ length records.old) × (length groups.now ≡ 8) }
+    requires { record_size * b + record_size ≤ length records.old }
     ensures { records.new ≡ record_set b (packed deltas flags groups.now count) records.old }
 {
     let at = RECORD * b;
@@ -291,10 +246,8 @@ pub fn pack_indptr_deltas(records: &[u8], b: usize) -> u64
     ensures { result ≡ number 16 (differences (record_at records.now b).starts) }
 {
     let at = RECORD * b;
-    let mut v: u64 = 0;
-    let mut i: usize = 8;
-    while 0 < i {
-        i = i - 1;
+    let mut v = 0;
+    for i in (0..8).rev() {
         v = v * 16 + u64::from(records[at + i + 1] - records[at + i]);
     }
     v
@@ -306,10 +259,8 @@ pub fn pack_padding(records: &[u8], b: usize) -> u8
     ensures { result ≡ number 2 (record_at records.now b).flags }
 {
     let at = RECORD * b + FLAGS;
-    let mut v: u8 = 0;
-    let mut i: usize = 8;
-    while 0 < i {
-        i = i - 1;
+    let mut v = 0;
+    for i in (0..8).rev() {
         v = v * 2 + records[at + i];
     }
     v
@@ -320,40 +271,21 @@ pub fn group_number(codes: &[u8]) -> u64
     requires { (length codes.now ≤ 9) × ((i : ℕ) → i < length codes.now → slice_index codes.now i < 128) }
     ensures { result ≡ number 128 codes.now }
 {
-    let mut v: u64 = 0;
-    let mut i = codes.len();
-    while 0 < i {
-        i = i - 1;
-        v = v * 128 + u64::from(codes[i]);
+    let mut v = 0;
+    for code in codes.iter().rev() {
+        v = v * 128 + u64::from(*code);
     }
     v
 }
 
 // ---- a record by value
 
-fn load9(s: &[u8], at: usize) -> [u8; 9]
-    requires { at + 9 ≤ length s.now }
-    ensures { result ≡ bytes_at 9 s.now at }
+fn load_bytes<const N: usize>(s: &[u8], at: usize) -> [u8; N]
+    requires { at + N ≤ length s.now }
+    ensures { result ≡ bytes_at N s.now at }
 {
-    let mut out = [0u8; 9];
-    let mut i: usize = 0;
-    while i < 9 {
-        out[i] = s[at + i];
-        i += 1;
-    }
-    out
-}
-
-fn load8(s: &[u8], at: usize) -> [u8; 8]
-    requires { at + 8 ≤ length s.now }
-    ensures { result ≡ bytes_at 8 s.now at }
-{
-    let mut out = [0u8; 8];
-    let mut i: usize = 0;
-    while i < 8 {
-        out[i] = s[at + i];
-        i += 1;
-    }
+    let mut out = [0; N];
+    out.copy_from_slice(&s[at..at + N]);
     out
 }
 
@@ -361,13 +293,7 @@ fn load_words(s: &[u8], at: usize) -> [u64; 8]
     requires { at + 64 ≤ length s.now }
     ensures { result ≡ words_at 8 s.now at }
 {
-    let mut out = [0u64; 8];
-    let mut i: usize = 0;
-    while i < 8 {
-        out[i] = word::le::<8>(s, at + 8 * i);
-        i += 1;
-    }
-    out
+    std::array::from_fn(|i| word::le::<8>(s, at + 8 * i))
 }
 
 // The b-th record of a run.
@@ -376,92 +302,66 @@ pub fn load(records: &[u8], b: usize) -> OpBatch
     ensures { record_in result ≡ record_at records.now b }
 {
     let at = RECORD * b;
-    let starts = load9(records, at);
-    let flags = load8(records, at + FLAGS);
-    let groups = load_words(records, at + NUMBERS);
-    let count = records[at + COUNT];
     OpBatch {
-        starts,
-        flags,
-        groups,
-        count,
+        starts: load_bytes(records, at),
+        flags: load_bytes(records, at + FLAGS),
+        groups: load_words(records, at + NUMBERS),
+        count: records[at + COUNT],
     }
 }
 
 // The first group whose end is greater than an operation number; a walk, since a batch has only eight.
-fn group_of(starts: &[u8], index: usize) -> Lookup
+fn group_of(starts: &[u8], index: usize) -> Option<Place>
     requires { (length starts.now ≡ 9) × (slice_index starts.now 0 ≡ 0) }
     ensures { result ≡ found_in (group_from 0 starts.now index) }
 {
-    let mut g: usize = 0;
-    while g < 8 {
-        let end = starts[g + 1] as usize;
-        if index < end {
-            let start = starts[g] as usize;
-            return Lookup::Found {
-                group: g,
-                place: index - start,
-            };
+    for group in 0..8 {
+        if index < usize::from(starts[group + 1]) {
+            return Some(Place {
+                group,
+                place: index - usize::from(starts[group]),
+            });
         }
-        g += 1;
     }
-    Lookup::Nothing
+    None
 }
 
 // The first non-empty group from k on and under the count.
-fn next_from(starts: &[u8], count: usize, k: usize) -> NextGroup
+fn next_from(starts: &[u8], count: usize, k: usize) -> Option<usize>
     requires { (length starts.now ≡ 9) × (count ≤ 8) × (k ≤ 8) }
     ensures { result ≡ next_in (first_full k (drop k (take count (differences starts.now)))) }
 {
-    let mut g = k;
-    while g < count {
-        if starts[g] < starts[g + 1] {
-            return NextGroup::At(g);
-        }
-        g += 1;
-    }
-    NextGroup::Nothing
+    (k..count).find(|group| starts[*group] < starts[*group + 1])
 }
 
 impl OpBatch {
-    fn right(self, width: usize) -> bool
+    fn right(&self, width: usize) -> bool
         requires { width ≤ 8 }
-        ensures { result ≡ record_right width (record_in self) }
+        ensures { result ≡ record_right width (record_in self.now) }
     {
-        let starts = self.starts;
-        let flags = self.flags;
-        layout_right(width, &starts, 0, &flags, 0, self.count)
+        layout_right(width, &self.starts, &self.flags, self.count)
     }
 
     // The group of an operation number in the batch, and its place there.
-    pub fn op_idx_in_batch_to_group(self, index: usize) -> Lookup
-        ensures { result ≡ lookup_of (group_lookup 8 (record_in self) index) }
+    pub fn op_idx_in_batch_to_group(self, index: usize) -> Result<Option<Place>, Refusal>
+        ensures { told result ≡ lookup_of (group_lookup 8 (record_in self) index) }
     {
         if !self.right(WIDTH) {
-            return Lookup::Refused {
-                number: 15,
-                place: 0,
-            };
+            return Err(Refusal::BadStructure { batch: 0 });
         }
-        let starts = self.starts;
-        group_of(&starts, index)
+        Ok(group_of(&self.starts, index))
     }
 
     // The next group with operations after a group.
-    pub fn next_op_group_index(self, group: usize) -> NextGroup
-        ensures { result ≡ next_of (next_lookup 8 (record_in self) group) }
+    pub fn next_op_group_index(self, group: usize) -> Result<Option<usize>, Refusal>
+        ensures { told result ≡ next_of (next_lookup 8 (record_in self) group) }
     {
         if !self.right(WIDTH) {
-            return NextGroup::Refused {
-                number: 15,
-                place: 0,
-            };
+            return Err(Refusal::BadStructure { batch: 0 });
         }
         if 7 <= group {
-            return NextGroup::Nothing;
+            return Ok(None);
         }
-        let starts = self.starts;
-        let count = self.count;
-        next_from(&starts, count as usize, group + 1)
+        Ok(next_from(&self.starts, usize::from(self.count), group + 1))
     }
 }

@@ -1,18 +1,11 @@
-use Rattle.op_batch.proofs.Bytes.{flags_from, flag_turn, flags_end}
-use Rattle.std.proofs.Common.{◌+◌, Bool, ◌&&◌, ap, ◌∙◌, add-zero, arith}
+use Rattle.std.proofs.Common.{ℕ, Bool, true, ◌&&◌, leb, ◌∙◌, rules}
+use borrow.Author.Tests.{tests}
+use Rattle.std.proofs.lemmas.Iterator.{YieldsList-from_slice}
+use Rattle.std.proofs.lemmas.Iterator.Consumers.{fold_from_yields_List}
+use Rattle.op_batch.proofs.Bytes.{fold_every}
 use Rattle.op_batch.proofs.flags_right.Goals as goal
-
-pub loop-i-init : goal.loop-i-init
-loop-i-init c = (omega arith, rw add-zero)
-
-pub loop-i-preserved : goal.loop-i-preserved
-loop-i-preserved c =
-    let l = c.loop-i in
-    let a = c.args in
-    (omega arith, ap (λ (x : Bool). x && flags_from a.s.now a.at (l.i + 1)) c.flag_right-ok.ensures ∙ flag_turn a.s.now a.at l.i l.ok (omega arith) ∙ l.invariant.1)
 
 pub returns : goal.returns
 returns c =
-    let l = c.loop-i in
-    let a = c.args in
-    flags_end a.s.now a.at l.i l.ok (omega arith) ∙ l.invariant.1
+    fold_from_yields_List _ (λ (a : Bool) (x : ℕ). a && leb x 1) true _ c.fold.ensures.ran (YieldsList-from_slice c.args.flags.now cc) (λ a x b q k. search (rules, tests))
+    ∙ fold_every (λ (f : ℕ). leb f 1) true c.args.flags.now

@@ -1,9 +1,6 @@
-use Rattle.std.proofs.Common.{◌≡◌, ◌-◌, ◌^◌, ◌<◌, ◌≤◌, length, drop}
+use Rattle.std.proofs.Common.{◌≡◌, ℕ, ◌^◌, ◌<◌, List, ◌++◌, length}
 use Rattle.rules.specs.Digits.{number}
 use Rattle.op_batch.proofs.group_number.Given as goal
 
-abbrev pub invariant-loop-i : goal.invariant-loop-i
-invariant-loop-i l = (l.i ≤ length l.codes) × (l.v < 128 ^ (length l.codes - l.i)) × (l.v ≡ number 128 (drop l.i l.codes))
-
-abbrev pub decreases-loop-i : goal.decreases-loop-i
-decreases-loop-i l = l.i
+abbrev pub invariant-loop-code : goal.invariant-loop-code
+invariant-loop-code l = (done : List ℕ) × (l.codes ≡ l.code-iterator.iter.rest.now ++ done) × (l.v < 128 ^ length done) × (l.v ≡ number 128 done)

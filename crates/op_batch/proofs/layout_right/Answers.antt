@@ -1,46 +1,29 @@
-use Rattle.std.proofs.Common.{sym, ◌∙◌, add-zero, arith, eq-eqb, ne_eqb, le-leb}
+use Rattle.std.proofs.Common.{◌≡◌, ℕ, Bool, ◌&&◌, eqb, leb, get_or, sym, ◌∙◌, arith, le-leb}
 use borrow.Author.Tests.{lt-leb}
-use Rattle.rules.specs.Record.{bytes_at}
-use Rattle.rules.specs.Checks.{record_right}
-use Rattle.rules.proofs.Loads.{byte}
-use Rattle.op_batch.proofs.Bytes.{last_test}
+use Rattle.rules.specs.Lists.{every}
+use Rattle.rules.specs.Checks.{starts_right, record_right}
+use Rattle.op_batch.proofs.Bytes.{all_tests}
 use Rattle.op_batch.proofs.layout_right.Goals as goal
+use Rattle.op_batch.proofs.layout_right.Goals.{then-from-width, else-from-width, then-flags_right, else-flags_right, then-starts-eq0, else-starts-eq0}
 
-pub returns-then-width-count : goal.returns-then-width-count
+pub returns-then-starts_right : goal.returns-then-starts_right
 unfolding record_right
-returns-then-width-count c = simp (lt-leb _ _ c.if-width-count.true)
-
-pub returns-then-not-flags_right : goal.returns-then-not-flags_right
-unfolding record_right
-returns-then-not-flags_right c =
-    simp (le-leb _ _ c.if-width-count.false, sym c.flags_right.ensures ∙ c.if-not-flags_right.true)
-
-pub returns-then-s-at-ne0 : goal.returns-then-s-at-ne0
-unfolding record_right
-returns-then-s-at-ne0 c =
+returns-then-starts_right c =
     let a = c.args in
-    simp (
-      le-leb _ _ c.if-width-count.false,
-      sym c.flags_right.ensures ∙ c.if-not-flags_right.false,
-      byte 9 a.s.now a.at 0 (omega arith),
-      add-zero a.at,
-      ne_eqb _ _ c.if-s-at-ne0.true,
-    )
+    let s = a.starts.now in
+    let x : c.if-from-width.value ≡ (leb a.count a.width && every (λ (f : ℕ). leb f 1) a.flags.now) = elim c.if-from-width.branch [ then-from-width w ↦ rw (le-leb a.count a.width (omega (arith, w.if-from-width.true))) (w.value-is ∙ w.flags_right.ensures) | else-from-width w ↦ rw (lt-leb a.count a.width (omega (arith, w.if-from-width.false))) (w.value-is ∙ lt-leb c.from.result a.width w.if-from-width.false) ] in
+    let y : c.if-flags_right.value ≡ (c.if-from-width.value && eqb (get_or s 0 0) 0) = elim c.if-flags_right.branch [ then-flags_right w ↦ rw w.if-flags_right.true w.value-is | else-flags_right w ↦ rw w.if-flags_right.false (w.value-is ∙ w.if-flags_right.false) ] in
+    let z : c.if-starts-eq0.value ≡ (c.if-flags_right.value && starts_right s) = elim c.if-starts-eq0.branch [ then-starts-eq0 w ↦ rw w.if-starts-eq0.true (w.value-is ∙ w.starts_right.ensures) | else-starts-eq0 w ↦ rw w.if-starts-eq0.false (w.value-is ∙ w.if-starts-eq0.false) ] in
+    let t = all_tests _ _ _ _ (eqb (get_or s a.count 0) (get_or s 8 0)) _ _ _ x y z in
+    sym (t ∙ rw (c.if-starts_right.true, c.from-then-starts_right.ensures))
 
-pub returns-then-not-starts_right : goal.returns-then-not-starts_right
+pub returns-else-starts_right : goal.returns-else-starts_right
 unfolding record_right
-returns-then-not-starts_right c =
+returns-else-starts_right c =
     let a = c.args in
-    simp (
-      le-leb _ _ c.if-width-count.false,
-      sym c.flags_right.ensures ∙ c.if-not-flags_right.false,
-      byte 9 a.s.now a.at 0 (omega arith),
-      add-zero a.at,
-      eq-eqb _ _ c.if-s-at-ne0.false,
-      sym c.starts_right.ensures ∙ c.if-not-starts_right.true,
-    )
-
-pub returns : goal.returns
-returns c =
-    let a = c.args in
-    sym (last_test a.width a.s.now a.at (bytes_at 8 a.flags.now a.from) a.count (omega arith) (omega arith) (sym c.flags_right.ensures ∙ c.if-not-flags_right.false) c.if-s-at-ne0.false (sym c.starts_right.ensures ∙ c.if-not-starts_right.false))
+    let s = a.starts.now in
+    let x : c.if-from-width.value ≡ (leb a.count a.width && every (λ (f : ℕ). leb f 1) a.flags.now) = elim c.if-from-width.branch [ then-from-width w ↦ rw (le-leb a.count a.width (omega (arith, w.if-from-width.true))) (w.value-is ∙ w.flags_right.ensures) | else-from-width w ↦ rw (lt-leb a.count a.width (omega (arith, w.if-from-width.false))) (w.value-is ∙ lt-leb c.from.result a.width w.if-from-width.false) ] in
+    let y : c.if-flags_right.value ≡ (c.if-from-width.value && eqb (get_or s 0 0) 0) = elim c.if-flags_right.branch [ then-flags_right w ↦ rw w.if-flags_right.true w.value-is | else-flags_right w ↦ rw w.if-flags_right.false (w.value-is ∙ w.if-flags_right.false) ] in
+    let z : c.if-starts-eq0.value ≡ (c.if-flags_right.value && starts_right s) = elim c.if-starts-eq0.branch [ then-starts-eq0 w ↦ rw w.if-starts-eq0.true (w.value-is ∙ w.starts_right.ensures) | else-starts-eq0 w ↦ rw w.if-starts-eq0.false (w.value-is ∙ w.if-starts-eq0.false) ] in
+    let t = all_tests _ _ _ _ (eqb (get_or s a.count 0) (get_or s 8 0)) _ _ _ x y z in
+    c.if-starts_right.false ∙ sym (t ∙ rw c.if-starts_right.false)

@@ -3,4 +3,4 @@ use Rattle.op_batch.proofs.load.Goals as goal
 
 pub returns : goal.returns
 unfolding record_at
-returns c = rw (c.load9-starts.ensures, c.load8-flags.ensures, c.load_words-groups.ensures)
+returns c = rw (c.load_bytes.ensures, c.load_bytes-2.ensures, c.load_words.ensures)

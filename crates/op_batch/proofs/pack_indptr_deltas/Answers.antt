@@ -6,7 +6,7 @@ use Rattle.op_batch.proofs.pack_indptr_deltas.Goals as goal
 
 pub loop-i-init : goal.loop-i-init
 unfolding number steps
-loop-i-init c = (omega arith, omega arith, refl)
+loop-i-init c = (omega arith, refl)
 
 pub overflow_mul-v : goal.overflow_mul-v
 overflow_mul-v c =
@@ -33,7 +33,6 @@ loop-i-preserved c =
     let l = c.loop-i in
     let a = c.args in
     let f = starts_at 8 a.records.now (record_size * a.b) c.requires.1 (l.i - 1) (omega arith) in (
-      omega arith,
       omega (arith, power_turn 16 8 l.i (omega arith) (omega arith)),
       omega (arith, steps_back 16 8 a.records.now (record_size * a.b) l.i (omega arith) (omega arith)),
     )
@@ -44,4 +43,4 @@ returns c =
     let l = c.loop-i in
     let a = c.args in
     let e : l.i ≡ 0 = omega arith in
-    (rw (e, add-zero) at l.invariant.2) ∙ ap (number 16) (sym (differences_steps 8 a.records.now (record_size * a.b)))
+    (rw (e, add-zero) at l.invariant.1) ∙ ap (number 16) (sym (differences_steps 8 a.records.now (record_size * a.b)))

@@ -6,7 +6,7 @@ use Rattle.op_batch.proofs.pack_padding.Goals as goal
 
 pub loop-i-init : goal.loop-i-init
 unfolding number bytes_at
-loop-i-init c = (omega arith, omega arith, refl)
+loop-i-init c = (omega arith, refl)
 
 pub overflow_mul-v : goal.overflow_mul-v
 overflow_mul-v c =
@@ -27,7 +27,6 @@ loop-i-preserved c =
     let l = c.loop-i in
     let a = c.args in
     let f = leb-true (get_or a.records.now (record_size * a.b + flags_place + (l.i - 1)) 0) 1 (every_at (λ (f : ℕ). leb f 1) 8 a.records.now (record_size * a.b + flags_place) c.requires.1 (l.i - 1) (omega arith)) in (
-      omega arith,
       omega (arith, power_turn 2 8 l.i (omega arith) (omega arith)),
       omega (arith, bytes_back 2 8 a.records.now (record_size * a.b + flags_place) l.i (omega arith) (omega arith)),
     )
@@ -37,4 +36,4 @@ unfolding record_at
 returns c =
     let l = c.loop-i in
     let e : l.i ≡ 0 = omega arith in
-    rw (e, add-zero) at l.invariant.2
+    rw (e, add-zero) at l.invariant.1

@@ -1,10 +1,7 @@
-use Rattle.std.proofs.Common.{◌≡◌, ◌+◌, ◌-◌, ◌*◌, ◌≤◌, length, drop}
+use Rattle.std.proofs.Common.{◌≡◌, ◌+◌, ◌*◌, drop}
 use lib.Seq.{sets}
 use Rattle.rules.specs.Record.{word_bytes}
 use Rattle.op_batch.proofs.put_groups.Given as goal
 
 abbrev pub invariant-loop-i : goal.invariant-loop-i
-invariant-loop-i l = (l.i ≤ 8) × (length l.out ≡ length l.initial.out) × (sets l.out (l.at + 8 * l.i) (word_bytes (drop l.i l.groups)) ≡ sets l.initial.out l.at (word_bytes l.groups))
-
-abbrev pub decreases-loop-i : goal.decreases-loop-i
-decreases-loop-i l = 8 - l.i
+invariant-loop-i l = sets l.out (l.at + 8 * l.i) (word_bytes (drop l.i l.groups)) ≡ sets l.initial.out l.at (word_bytes l.groups)

@@ -1,4 +1,4 @@
-use Rattle.std.proofs.Common.{arith, length-set}
+use Rattle.std.proofs.Common.{arith, length-set, rules}
 use Rattle.op_batch.proofs.Stores.{packed_stored}
 use Rattle.op_batch.proofs.store_packed.Goals as goal
 
@@ -9,4 +9,4 @@ pub returns : goal.returns
 returns c =
     let a = c.args in
     rw (c.put_groups.ensures, c.unpack_padding.ensures, c.unpack_indptr_deltas.ensures)
-    (packed_stored a.deltas a.flags a.groups.now a.count c.requires.1 a.records.now a.b)
+    (packed_stored a.deltas a.flags a.groups.now a.count (search rules) a.records.now a.b)

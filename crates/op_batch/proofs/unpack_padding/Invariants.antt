@@ -1,10 +1,7 @@
-use Rattle.std.proofs.Common.{◌≡◌, ◌+◌, ◌-◌, ◌≤◌, length}
+use Rattle.std.proofs.Common.{◌≡◌, ◌+◌, ◌-◌}
 use lib.Seq.{sets}
 use Rattle.rules.specs.Digits.{digits}
 use Rattle.op_batch.proofs.unpack_padding.Given as goal
 
 abbrev pub invariant-loop-i : goal.invariant-loop-i
-invariant-loop-i l = (l.i ≤ 8) × (length l.out ≡ length l.initial.out) × (sets l.out (l.at + l.i) (digits 2 (8 - l.i) l.left) ≡ sets l.initial.out l.at (digits 2 8 l.v))
-
-abbrev pub decreases-loop-i : goal.decreases-loop-i
-decreases-loop-i l = 8 - l.i
+invariant-loop-i l = sets l.out (l.at + l.i) (digits 2 (8 - l.i) l.left) ≡ sets l.initial.out l.at (digits 2 8 l.v)

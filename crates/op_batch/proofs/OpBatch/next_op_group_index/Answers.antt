@@ -1,4 +1,6 @@
-use Rattle.std.proofs.Common.{◌≡◌, ◌+◌, length, take, sym, ap, ◌∙◌, arith, rules}
+use Rattle.std.proofs.Common.{◌≡◌, ℕ, ◌+◌, length, take, sym, ap, ◌∙◌, arith, rules}
+use mathlib.Core.Option.{Option}
+use Rattle.rules.specs.Answer.{good}
 use Rattle.rules.specs.Record.{differences}
 use Rattle.rules.specs.Lookups.{next_group}
 use Rattle.rules.specs.Functions.{next_lookup}
@@ -19,7 +21,7 @@ returns-then-group-ge7 c =
     let s : length b.starts ≡ 9 = search rules in
     let r = sym c.right.ensures ∙ c.if-not-right.false in
     let k = (sound 8 (record_in b) r).count in
-    rw r (ap next_in (sym (next_after (take b.count (differences b.starts)) a.group ∙ full_end b.count b.starts (omega arith) (a.group + 1) (omega arith))))
+    rw r (ap (λ (o : Option ℕ). good (next_in o)) (sym (next_after (take b.count (differences b.starts)) a.group ∙ full_end b.count b.starts (omega arith) (a.group + 1) (omega arith))))
 
 pub next_from-requires : goal.next_from-requires
 next_from-requires c =
@@ -33,4 +35,4 @@ unfolding next_lookup next_group
 returns c =
     let a = c.args in
     let b = a.self in
-    rw (sym c.right.ensures ∙ c.if-not-right.false) (c.next_from.ensures ∙ ap next_in (sym (next_after (take b.count (differences b.starts)) a.group)))
+    rw (sym c.right.ensures ∙ c.if-not-right.false) (ap good (c.next_from.ensures ∙ rw c.from.ensures (ap next_in (sym (next_after (take b.count (differences b.starts)) a.group)))))

@@ -1,4 +1,5 @@
-use Rattle.std.proofs.Common.{◌≡◌, length, sym, ◌∙◌, rules}
+use Rattle.std.proofs.Common.{◌≡◌, length, sym, ap, ◌∙◌, rules}
+use Rattle.rules.specs.Answer.{good}
 use Rattle.rules.specs.Lookups.{group_of}
 use Rattle.rules.specs.Functions.{group_lookup}
 use Rattle.op_batch.specs.OpBatch.{record_in}
@@ -17,4 +18,4 @@ group_of-requires c =
 
 pub returns : goal.returns
 unfolding group_lookup group_of
-returns c = rw (sym c.right.ensures ∙ c.if-not-right.false) c.group_of.ensures
+returns c = rw (sym c.right.ensures ∙ c.if-not-right.false) (ap good c.group_of.ensures)
