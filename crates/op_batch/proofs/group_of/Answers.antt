@@ -1,4 +1,4 @@
-use Rattle.std.proofs.Common.{◌+◌, sym, ap, ◌∙◌, arith}
+use Rattle.std.proofs.Common.{sym, ap, ◌∙◌, arith}
 use Rattle.op_batch.specs.OpBatch.{found_in}
 use Rattle.op_batch.proofs.Places.{group_turn, group_stop, group_end}
 use Rattle.op_batch.proofs.group_of.Goals as goal
