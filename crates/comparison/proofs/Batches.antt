@@ -1,43 +1,37 @@
 -- The batches of two arenas, one after the other, are the definitions' batches. Assumes nothing.
 use mathlib.Core.Path.{◌≡◌, refl, sym, ap, ◌∙◌}
-use mathlib.Core.Bool.{Bool, true, false, cond}
+use mathlib.Core.Bool.{Bool, true, false, cond, not}
 use mathlib.Core.List.{List, [], ◌∷◌, ◌++◌, append_assoc, append-nil}
 use Prim.Native.Nat.{ℕ, zero, suc, ◌+◌, ◌-◌, min}
 use native.Mathlib.Nat.{add-zero, sub-zero}
 use native.Mathlib.Omega.{arith}
-use lib.ListN.{length, drop}
+use lib.ListN.{drop}
 use lib.Seq.{drop-drop}
 use lib.Dec.{eqb}
 use Rattle.rules.specs.Operations.{Op, operations}
 use Rattle.rules.specs.Record.{record_at, records_from, differences}
 use Rattle.rules.specs.Checks.{ninth}
 use Rattle.rules.specs.Functions.{Arena}
-use Rattle.rules.specs.Compare.{Entry, other_count₅, entry_at, unless, Whole, same_op, wholes_of, batch_apart, batches_apart}
-use Rattle.comparison.specs.Model.{whole_at, apart_of, noted, entries_for, common_from, missing_from}
-use Rattle.comparison.proofs.Alike.{apart_noted}
+use Rattle.rules.specs.Compare.{Entry, entry_at, unless, Whole, same_op, wholes_of, batch_apart, batches_apart}
+use Rattle.comparison.specs.Model.{whole_at, apart_of, entries_for, common_from, missing_from}
+use Rattle.comparison.proofs.Places.{apart_noted}
 
 -- ---- one batch
 
-count_noted : (b : ℕ) (t : Bool) → unless t (entry_at other_count₅ b 0) ≡ noted other_count₅ b 0 (cond t 0 1)
-unfolding unless noted
-count_noted b true = refl
-count_noted b false = refl
+count_noted : (e : Entry) (t : Bool) → unless t e ≡ cond (not t) (e ∷ []) []
+unfolding unless
+count_noted e true = refl
+count_noted e false = refl
 
-pub record Eight (p : Whole) : Type 0 where
-  pub numbers : length p.batch.numbers ≡ 8
-  pub flags : length p.batch.flags ≡ 8
-  pub lengths : length (differences p.batch.starts) ≡ 8
-  pub ops : length p.ops ≡ ninth p.batch
-
-pub batch_entries : (b : ℕ) (p q : Whole) → Eight p → Eight q → batch_apart b p q ≡ entries_for b (apart_of p q)
+pub batch_entries : (b : ℕ) (p q : Whole) → batch_apart b p q ≡ entries_for b (apart_of p q)
 unfolding batch_apart entries_for apart_of
-batch_entries b p q h k =
+batch_entries b p q =
     rw (
-      apart_noted eqb 1 b 8 p.batch.numbers q.batch.numbers (omega (arith, h.numbers, k.numbers)),
-      apart_noted eqb 2 b 8 p.batch.flags q.batch.flags (omega (arith, h.flags, k.flags)),
-      apart_noted eqb 3 b 8 (differences p.batch.starts) (differences q.batch.starts) (omega (arith, h.lengths, k.lengths)),
-      apart_noted same_op 4 b (min (ninth p.batch) (ninth q.batch)) p.ops q.ops (omega (arith, h.ops, k.ops)),
-      count_noted b (eqb p.batch.count q.batch.count),
+      apart_noted eqb 1 b 0 p.batch.numbers q.batch.numbers,
+      apart_noted eqb 2 b 0 p.batch.flags q.batch.flags,
+      apart_noted eqb 3 b 0 (differences p.batch.starts) (differences q.batch.starts),
+      apart_noted same_op 4 b 0 p.ops q.ops,
+      count_noted (entry_at 5 b 0) (eqb p.batch.count q.batch.count),
     )
 
 -- ---- all batches

@@ -1,20 +1,21 @@
 -- What the structure check says of one block's arena, batch by batch. Assumes nothing.
 use mathlib.Core.Path.{◌≡◌, sym, ap, ◌∙◌}
-use mathlib.Core.Bool.{Bool, true, false, cond}
+use mathlib.Core.Bool.{true}
 use mathlib.Core.List.{List, [], ◌∷◌, map}
 use Prim.Native.Nat.{ℕ, suc, ◌+◌, ◌-◌, ◌*◌, ◌/◌, ◌≤◌, ◌<◌}
 use native.Mathlib.Nat.{sub-zero}
 use native.Mathlib.Omega.{arith}
-use lib.IntN.{ℤ}
-use lib.ListN.{length, drop, length-take, length-drop}
+use Rattle.std.specs.Prelude.{Option}
+use lib.ListN.{length, get_or, drop, length-take}
 use lib.Dec.{eqb}
 use Rattle.rules.specs.Lists.{total}
-use Rattle.rules.specs.Digits.{number, digits}
+use Rattle.std.specs.Int.{to_le_bytes, w64}
+use Rattle.rules.specs.Digits.{number}
 use Rattle.rules.specs.Operations.{operations}
-use Rattle.rules.specs.Record.{Record, differences, record_size, record_at, records_from, records_in}
+use Rattle.rules.specs.Record.{Record, differences, part, record_size, record_at, records_from, records_in}
 use Rattle.rules.specs.Checks.{ninth, starts_right}
 use Rattle.rules.specs.Functions.{Arena, arena, block_in}
-use Rattle.rules.specs.Compare.{batch_total, padded_total, paddings_in, padding_total, raw_total, Entry, Whole, batch_apart}
+use Rattle.rules.specs.Compare.{batch_total, padded_total, paddings_in, padding_total, raw_total, Entry, Whole, same_op}
 use Rattle.rules.proofs.Operations.{length_operations}
 use Rattle.rules.proofs.Sizes.{length_records}
 use Rattle.op_batch.proofs.Right.{ninth_small}
@@ -26,9 +27,14 @@ use Rattle.checks.proofs.Groups.{Laid, laid, right_starts, Bytes, differences_by
 use Rattle.claims.proofs.ItemsWrittenThenRead.{digits_number}
 use Rattle.comparison.specs.declared.Apart.{Apart}
 use Rattle.comparison.specs.declared.Totals.{Totals}
-use Rattle.comparison.specs.Model.{whole_at, alike, apart_of, entries_for, common_from, totals_of, Few, Adds, Taken}
+use Rattle.comparison.specs.declared.Report.{Report}
+use Rattle.comparison.specs.Model.{FirstApart, apart_from, whole_at, apart_of, Near, entries_for, common_from, totals_of, Few, Adds, Taken}
+use Rattle.comparison.proofs.Places.{numbers_found, apart_near, bytes_are}
 use Rattle.comparison.proofs.Entries.{Ahead, ahead_turn, ahead_none}
-use Rattle.comparison.proofs.Batches.{Eight, batch_entries}
+use Rattle.comparison.proofs.Batches.{batch_entries}
+
+pub structured : {a : Arena} → Taken a → Structured a
+structured t = record { width = 8; room = omega arith; passed = t.structured }
 
 -- ---- the limits
 
@@ -70,22 +76,28 @@ module _ (cs vs rs : List ℕ) (b from : ℕ) (x : Lies (arena cs vs rs) b from)
   pub flags_bytes : Bytes r.flags
   flags_bytes = flags_small r.flags of_eight.sound.flags
 
-  pub eight : Eight (whole_at (arena cs vs rs) b from)
-  eight =
-      record {
-        numbers = of_eight.numbers;
-        flags = of_eight.flags;
-        lengths = sizes_bytes.0;
-        ops = length-take (ninth r) (drop from (operations cs vs)) ∙ omega (arith, length-drop from (operations cs vs), length_operations cs vs x.equal, x.inside);
-      }
+  -- what is found of it has a place in it
+  pub near : (q : Whole) (d : Apart) → d ≡ apart_of (whole_at (arena cs vs rs) b from) q → Near d
+  unfolding apart_of
+  near q d e =
+      rw e
+      (record {
+        number = apart_near eqb 0 72 r.numbers q.batch.numbers (omega (arith, of_eight.numbers));
+        flag = apart_near eqb 0 72 r.flags q.batch.flags (omega (arith, of_eight.flags));
+        length = apart_near eqb 0 72 (differences r.starts) (differences q.batch.starts) (omega (arith, sizes_bytes.0));
+        operation = apart_near same_op 0 72 (part (ninth r) (operations cs vs) from) q.ops (omega (arith, length-take (ninth r) (drop from (operations cs vs)), small));
+      })
 
--- eight bytes by their number
-pub by_bytes : (xs ys : List ℕ) (x y n : ℕ) → length xs ≡ 8 → Bytes xs → length ys ≡ 8 → Bytes ys → x ≡ number 256 xs → y ≡ number 256 ys
-    → n ≡ alike eqb (digits 256 8 x) (digits 256 8 y) → n ≡ alike eqb xs ys
-by_bytes xs ys x y n l h m k e f g =
-    let p : digits 256 8 x ≡ xs = rw (e, sym l) (digits_number 256 xs h) in
-    let q : digits 256 8 y ≡ ys = rw (f, sym m) (digits_number 256 ys k) in
-    g ∙ (λ j. alike eqb (p j) (q j))
+-- eight bytes, from the numbers that they make
+pub bytes_found : (xs ys : List ℕ) (x y : List ℕ) (m n : ℕ) (r : Option ℕ) → length xs ≡ 8 → Bytes xs → length ys ≡ 8 → Bytes ys → x ≡ to_le_bytes w64 m → m ≡ number 256 xs → y ≡ to_le_bytes w64 n → n ≡ number 256 ys
+    → FirstApart 8 (λ i. get_or x i 0 ≡ get_or y i 0) r → r ≡ apart_from eqb 0 xs ys
+bytes_found xs ys x y m n r l h k g d e f i o =
+    let p : x ≡ xs = d ∙ back xs m l h e in
+    let q : y ≡ ys = f ∙ back ys n k g i in
+    numbers_found 8 x y r (ap length p ∙ l) (ap length q ∙ k) o ∙ (λ j. apart_from eqb 0 (p j) (q j))
+  where
+    back : (xs : List ℕ) (v : ℕ) → length xs ≡ 8 → Bytes xs → v ≡ number 256 xs → to_le_bytes w64 v ≡ xs
+    back xs v l h e = bytes_are v ∙ rw (e, sym l) (digits_number 256 xs h)
 
 -- ---- paddings, batch by batch
 
@@ -113,8 +125,8 @@ pub record Along (cs vs rs : List ℕ) (k b from : ℕ) : Type 0 where
   ahead : from + rest (length rs / record_size) rs b ≡ length cs
 
 module _ (cs vs rs : List ℕ) (k : ℕ) where
-  pub along_first : Structured (arena cs vs rs) → record_size * k ≤ length rs → Along cs vs rs k 0 0
-  along_first c h = record { structured = c; whole = h; ahead = omega (arith, rest_all cs vs rs c) }
+  pub along_first : Taken (arena cs vs rs) → record_size * k ≤ length rs → Along cs vs rs k 0 0
+  along_first t h = let c = structured t in record { structured = c; whole = h; ahead = omega (arith, rest_all cs vs rs c) }
 
   module _ (b from : ℕ) (w : Along cs vs rs k b from) where
     pub few : k ≤ 16384
@@ -131,34 +143,18 @@ module _ (cs vs rs : List ℕ) (k : ℕ) where
       along_next s e = record { structured = w.structured; whole = w.whole; ahead = omega (arith, w.ahead, rest_turn (length rs / record_size) rs b (omega (arith, w.whole))) }
 
 -- and along those of another
-module _ (k : ℕ) (cs vs rs ds us ss : List ℕ) (all : List Entry) (m : ℕ) (u : List ℤ) where
-  abbrev a : Arena
-  a = arena cs vs rs
-
-  abbrev c : Arena
-  c = arena ds us ss
-
-  pub common_turn : (b from at n r : ℕ) (s t : List ℤ) → b < k → Ahead (common_from (k - b) a from c at b) n s all m u → Lies a b from → Lies c b at
-      → (q : Apart) → q ≡ apart_of (whole_at a b from) (whole_at c b at) → Adds (entries_for b q) n r s t
-      → (x y : ℕ) → x ≡ ninth (record_at rs b) → y ≡ ninth (record_at ss b) → Ahead (common_from (k - (b + 1)) a (from + x) c (at + y) (b + 1)) r t all m u
+module _ (k : ℕ) (a c : Arena) (all : List Entry) (first : Report) where
+  pub common_turn : (b from at : ℕ) (x y : Report) → b < k → Ahead (common_from (k - b) a from c at b) x all first → Adds (entries_for b (apart_of (whole_at a b from) (whole_at c b at))) x y
+      → Ahead (common_from (k - (b + 1)) a (from + ninth (record_at a.records b)) c (at + ninth (record_at c.records b)) (b + 1)) y all first
   unfolding common_from
-  common_turn b from at n r s t h x p q d e f i j g l =
+  common_turn b from at x y h e f =
       let o : k - b ≡ suc (k - (b + 1)) = omega arith in
-      let z : batch_apart b (whole_at a b from) (whole_at c b at) ≡ entries_for b d = batch_entries b _ _ (eight cs vs rs b from p) (eight ds us ss b at q) ∙ ap (entries_for b) (sym e) in
-      rw (g, l) (ahead_turn (entries_for b d) (common_from (k - (b + 1)) a (from + ninth (record_at rs b)) c (at + ninth (record_at ss b)) (b + 1)) n r s t all m u (rw (o, z) at x) f)
+      ahead_turn (entries_for b (apart_of (whole_at a b from) (whole_at c b at))) (common_from (k - (b + 1)) a (from + ninth (record_at a.records b)) c (at + ninth (record_at c.records b)) (b + 1)) x y all first
+      (rw (o, batch_entries b (whole_at a b from) (whole_at c b at)) at e) f
 
-  pub common_end : (b from at n : ℕ) (s : List ℤ) → k ≤ b → Ahead (common_from (k - b) a from c at b) n s all m u → Adds all m n u s
+  pub common_end : (b from at : ℕ) (x : Report) → k ≤ b → Ahead (common_from (k - b) a from c at b) x all first → Adds all first x
   unfolding common_from
-  common_end b from at n s h x = let o : k - b ≡ 0 = omega arith in ahead_none n s all m u (rw o at x)
-
--- what is found of a batch is small
-pub apart_small : (cs vs rs : List ℕ) (b from : ℕ) (q : Whole) (d : Apart) → d ≡ apart_of (whole_at (arena cs vs rs) b from) q → Lies (arena cs vs rs) b from → (d.both < 1048576) × (d.counts < 1048576)
-unfolding apart_of
-apart_small cs vs rs b from q d e x = rw e (omega (arith, small cs vs rs b from x), go (eqb (record_at rs b).count q.batch.count))
-  where
-    go : (t : Bool) → cond t 0 1 < 1048576
-    go true = omega arith
-    go false = omega arith
+  common_end b from at x h e = let o : k - b ≡ 0 = omega arith in ahead_none x all first (rw o at e)
 
 -- the totals
 abbrev pub totals : ℕ → ℕ → ℕ → ℕ → Totals
@@ -168,7 +164,7 @@ pub totals_are : (cs vs rs : List ℕ) (p : ℕ) → Taken (arena cs vs rs) → 
     → (totals (length rs / record_size) (length cs) (length cs - p) p ≡ totals_of (block_in (arena cs vs rs))) × Few (totals (length rs / record_size) (length cs) (length cs - p) p)
 unfolding batch_total padded_total raw_total block_in
 totals_are cs vs rs p x e =
-    let c = x.structured in
+    let c = structured x in
     let n = sym (length_operations cs vs (equal cs vs rs c)) in
     let k = sym (length_records rs) in (
       λ j. totals (k j) (n j) (n j - e j) (e j),

@@ -1,17 +1,28 @@
 -- Entries written one after the other. Assumes nothing.
-use mathlib.Core.Path.{◌≡◌, refl, sym, ap, ◌∙◌}
+use mathlib.Core.Path.{◌≡◌, refl, sym, ◌∙◌}
 use mathlib.Core.List.{List, [], ◌∷◌, ◌++◌, append_assoc}
 use Prim.Native.Nat.{ℕ, suc, ◌+◌, ◌-◌, ◌*◌, ◌≤◌, ◌<◌}
 use native.Mathlib.Nat.{add-zero}
 use native.Mathlib.Omega.{arith}
-use borrow.Author.Tests.{lt-ltb, le-ltb, eq-eqb, ne_eqb}
-use lib.IntN.{ℤ, sub_ℕ}
+use denote.Enum.Declared.{tag_of}
+use mir.Syntax.{w32}
+use mir.Val.{to_z, of_z, SFits}
+use mir.ValLaws.{to_z_pos, to_z-of_z}
+use lib.IntN.{ℤ, pos, sub_ℕ, ◌+ℤ◌, ◌-ℤ◌}
 use lib.ListN.{length, set, length-append}
 use lib.Seq.{sets}
 use Rattle.rules.specs.Lists.{in_row}
-use Rattle.rules.specs.Compare.{Entry, missing₆, entry_at, entry_by, unless, total_apart, entry_size, entry_numbers}
+use Rattle.rules.specs.Compare.{Entry, missing₆, entry_at, entry_size, entry_numbers}
 use Rattle.rules.proofs.Digits.{sets_append}
-use Rattle.comparison.specs.Model.{noted, missing_from, Adds}
+use Rattle.claims.proofs.Compare.{minus_is, sub_small}
+use Rattle.comparison.specs.contracts.Kind.{the_type}
+use Rattle.comparison.specs.contracts.Side.{the_type as side_type}
+use Rattle.comparison.specs.declared.Side.{Side}
+use Rattle.comparison.specs.declared.Side.TheVariants as side
+use Rattle.comparison.specs.declared.Kind.{Kind}
+use Rattle.comparison.specs.declared.Kind.TheVariants as kind
+use Rattle.comparison.specs.declared.Report.{Report}
+use Rattle.comparison.specs.Model.{number_of, side_number, missing_from, Adds}
 
 abbrev pub numbers : List Entry → List ℤ
 numbers = in_row entry_numbers
@@ -31,76 +42,81 @@ numbers_next s n es fs =
     let k : entry_size * (n + length es) ≡ entry_size * n + length (numbers es) = omega (arith, numbers_length es) in
     rw (k, numbers_append es fs) (sym (sets_append s (entry_size * n) (numbers es) (numbers fs)))
 
-pub adds_none : (n : ℕ) (s : List ℤ) → Adds [] n n s s
+pub adds_none : (x : Report) → Adds [] x x
 unfolding in_row
-adds_none n s = record { count = sym (add-zero n); run = refl }
+adds_none x = record { lent = refl; count = sym (add-zero x.entries); run = refl }
 
-pub adds_one : (e : Entry) (n : ℕ) (s t : List ℤ) → t ≡ sets s (entry_size * n) (entry_numbers e) → Adds (e ∷ []) n (n + 1) s t
-unfolding in_row entry_numbers
-adds_one e n s t h = record { count = refl; run = h }
-
-pub adds_both : (es fs : List Entry) (n m k : ℕ) (s t u : List ℤ) → Adds es n m s t → Adds fs m k t u → Adds (es ++ fs) n k s u
-adds_both es fs n m k s t u a b =
+pub adds_both : (es fs : List Entry) (x y z : Report) → Adds es x y → Adds fs y z → Adds (es ++ fs) x z
+adds_both es fs x y z a b =
     record {
+      lent = b.lent ∙ a.lent;
       count = omega (arith, a.count, b.count, length-append es fs);
-      run = b.run ∙ (rw (a.run, a.count) (numbers_next s n es fs));
+      run = b.run ∙ (rw (a.run, a.count) (numbers_next x.numbers.now x.entries es fs));
     }
 
--- ---- a loop that adds entries: what is ahead of it, from the n-th entry on, comes to the same as all of them from the m-th on
+-- ---- a loop that adds entries: what is ahead of it comes to the same as all of them from its beginning on
 
-pub record Ahead (es : List Entry) (n : ℕ) (s : List ℤ) (all : List Entry) (m : ℕ) (u : List ℤ) : Type 0 where
-  pub count : n + length es ≡ m + length all
-  pub run : sets s (entry_size * n) (numbers es) ≡ sets u (entry_size * m) (numbers all)
+pub record Ahead (es : List Entry) (x : Report) (all : List Entry) (first : Report) : Type 0 where
+  pub lent : x.numbers.ghost_name ≡ first.numbers.ghost_name
+  pub count : x.entries + length es ≡ first.entries + length all
+  pub run : sets x.numbers.now (entry_size * x.entries) (numbers es) ≡ sets first.numbers.now (entry_size * first.entries) (numbers all)
 
-pub ahead_all : (es : List Entry) (n : ℕ) (s : List ℤ) → Ahead es n s es n s
-ahead_all es n s = record { count = refl; run = refl }
+pub ahead_all : (es : List Entry) (x : Report) → Ahead es x es x
+ahead_all es x = record { lent = refl; count = refl; run = refl }
 
-pub ahead_turn : (es fs : List Entry) (n r : ℕ) (s t : List ℤ) (all : List Entry) (m : ℕ) (u : List ℤ) → Ahead (es ++ fs) n s all m u → Adds es n r s t → Ahead fs r t all m u
-ahead_turn es fs n r s t all m u h a =
+pub ahead_turn : (es fs : List Entry) (x y : Report) (all : List Entry) (first : Report) → Ahead (es ++ fs) x all first → Adds es x y → Ahead fs y all first
+ahead_turn es fs x y all first h a =
     record {
+      lent = a.lent ∙ h.lent;
       count = omega (arith, h.count, a.count, length-append es fs);
-      run = (rw (a.run, a.count) (numbers_next s n es fs)) ∙ h.run;
+      run = (rw (a.run, a.count) (numbers_next x.numbers.now x.entries es fs)) ∙ h.run;
     }
 
-pub ahead_none : (n : ℕ) (s : List ℤ) (all : List Entry) (m : ℕ) (u : List ℤ) → Ahead [] n s all m u → Adds all m n u s
+pub ahead_none : (x : Report) (all : List Entry) (first : Report) → Ahead [] x all first → Adds all first x
 unfolding in_row
-ahead_none n s all m u h = record { count = sym (add-zero n) ∙ h.count; run = h.run }
+ahead_none x all first h = record { lent = h.lent; count = sym (add-zero x.entries) ∙ h.count; run = h.run }
 
--- ---- what each function adds
+-- ---- one entry
 
-pub put_numbers : (s t u v w : List ℤ) (at : ℕ) (k b p d : ℤ) → t ≡ set s at k → u ≡ set t (at + 1) b → v ≡ set u (at + 2) p → w ≡ set v (at + 3) d
-    → w ≡ sets s at (k ∷ b ∷ p ∷ d ∷ [])
-put_numbers s t u v w at k b p d e f g h =
+pub kind_stored : (k : Kind) → to_z w32 (of_z w32 (to_z w32 (tag_of the_type k) +ℤ pos 1)) ≡ pos (number_of k)
+kind_stored kind.Number = refl
+kind_stored kind.Flag = refl
+kind_stored kind.Length = refl
+kind_stored kind.Operation = refl
+kind_stored kind.Count = refl
+kind_stored kind.Missing = refl
+kind_stored kind.Batches = refl
+kind_stored kind.Padded = refl
+kind_stored kind.Raw = refl
+kind_stored kind.Paddings = refl
+
+pub side_stored : (x : Side) → tag_of side_type x + 1 ≡ side_number x
+side_stored side.First = refl
+side_stored side.Second = refl
+
+pub difference_is : (m n : ℕ) → m < 1048576 → n < 1048576 → to_z w32 (of_z w32 (to_z w32 n -ℤ to_z w32 m)) ≡ sub_ℕ n m
+difference_is m n h k =
+    let small : SFits w32 (to_z w32 n -ℤ to_z w32 m) = rw (to_z_pos w32 n (omega arith), to_z_pos w32 m (omega arith), minus_is m n) (record { sfits = sub_small m n (omega arith) (omega arith) }) in
+    to_z-of_z w32 _ small ∙ rw (to_z_pos w32 n (omega arith), to_z_pos w32 m (omega arith)) (minus_is m n)
+
+pub entry_run : (s t u v w : List ℤ) (at k b p : ℕ) (d : ℤ) → t ≡ set s at (pos k) → u ≡ set t (at + 1) (pos b) → v ≡ set u (at + 2) (pos p) → w ≡ set v (at + 3) d
+    → w ≡ sets s at (numbers (record { kind = k; batch = b; place = p; difference = d } ∷ []))
+unfolding in_row entry_numbers
+entry_run s t u v w at k b p d e f g h =
     let i : at + 1 ≡ suc at = omega arith in
     let j : at + 2 ≡ suc (suc at) = omega arith in
     let l : at + 3 ≡ suc (suc (suc at)) = omega arith in
     rw (h, g, f, e, i, j, l)
 
-pub noted_none : (kind b place end n : ℕ) (s : List ℤ) → end ≤ place → Adds (noted kind b place end) n n s s
-unfolding noted
-noted_none kind b place end n s h = rw (le-ltb place end h) (adds_none n s)
+-- ---- batches that a side lacks, up to one
 
-pub noted_one : (kind b place end n : ℕ) (s t : List ℤ) → place < end → t ≡ sets s (entry_size * n) (entry_numbers (entry_at kind b place)) → Adds (noted kind b place end) n (n + 1) s t
-unfolding noted
-noted_one kind b place end n s t h e = rw (lt-ltb place end h) (adds_one (entry_at kind b place) n s t e)
-
-pub total_none : (kind m k n : ℕ) (s : List ℤ) → m ≡ k → Adds (total_apart kind m k) n n s s
-unfolding total_apart unless
-total_none kind m k n s e = rw (eq-eqb m k e) (adds_none n s)
-
-pub total_one : (kind m k n : ℕ) (s t : List ℤ) (d : ℤ) → (m ≡ k → ⊥) → d ≡ sub_ℕ k m → t ≡ sets s (entry_size * n) (entry_numbers (entry_by kind d)) → Adds (total_apart kind m k) n (n + 1) s t
-unfolding total_apart unless
-total_one kind m k n s t d h e f = rw (ne_eqb m k h) (adds_one (entry_by kind (sub_ℕ k m)) n s t (f ∙ ap (λ (z : ℤ). sets s (entry_size * n) (entry_numbers (entry_by kind z))) e))
-
--- batches that a side lacks, up to one
-module _ (to side : ℕ) (all : List Entry) (n : ℕ) (u : List ℤ) where
-  pub missing_turn : (b m : ℕ) (s t : List ℤ) → b < to → Ahead (missing_from (to - b) b side) m s all n u → t ≡ sets s (entry_size * m) (entry_numbers (entry_at missing₆ b side))
-      → Ahead (missing_from (to - (b + 1)) (b + 1) side) (m + 1) t all n u
+module _ (to m : ℕ) (all : List Entry) (first : Report) where
+  pub missing_turn : (b : ℕ) (x y : Report) → b < to → Ahead (missing_from (to - b) b m) x all first → Adds (entry_at missing₆ b m ∷ []) x y → Ahead (missing_from (to - (b + 1)) (b + 1) m) y all first
   unfolding missing_from
-  missing_turn b m s t h x e =
+  missing_turn b x y l h a =
       let k : to - b ≡ suc (to - (b + 1)) = omega arith in
-      ahead_turn (entry_at missing₆ b side ∷ []) (missing_from (to - (b + 1)) (b + 1) side) m (m + 1) s t all n u (rw k at x) (adds_one (entry_at missing₆ b side) m s t e)
+      ahead_turn (entry_at missing₆ b m ∷ []) (missing_from (to - (b + 1)) (b + 1) m) x y all first (rw k at h) a
 
-  pub missing_end : (b m : ℕ) (s : List ℤ) → to ≤ b → Ahead (missing_from (to - b) b side) m s all n u → Adds all n m u s
+  pub missing_end : (b : ℕ) (x : Report) → to ≤ b → Ahead (missing_from (to - b) b m) x all first → Adds all first x
   unfolding missing_from
-  missing_end b m s h x = let k : to - b ≡ 0 = omega arith in ahead_none m s all n u (rw k at x)
+  missing_end b x l h = let k : to - b ≡ 0 = omega arith in ahead_none x all first (rw k at h)

@@ -7,7 +7,7 @@ use native.Mathlib.Nat.{zero-add, suc-add}
 use native.Mathlib.Numerals.{add-one}
 use native.Mathlib.Omega.{arith}
 use borrow.Author.Tests.{eq-eqb}
-use lib.ListN.{length, get_or, take, drop}
+use lib.ListN.{length, get_or, take, drop, replicate}
 use lib.Seq.{take-suc, length-take-le}
 use lib.Dec.{eqb}
 use Rattle.rules.specs.Lists.{fitted}
@@ -48,7 +48,7 @@ flags_turn fs g h l = rw (add-one g, take-suc fs g 0 h) (flags_snoc (take g fs) 
 
 -- ---- zeros over the front of a run
 
-pub front_zeroed : (n : ℕ) (s z : List ℕ) → n ≤ length s → z ≡ fitted (length (take n s)) (take 0 (take n s)) → z ++ drop n s ≡ zeros_over n s
+pub front_zeroed : (n : ℕ) (s z : List ℕ) → n ≤ length s → z ≡ replicate (length (take n s)) 0 → z ++ drop n s ≡ zeros_over n s
 front_zeroed n s z h e = rw (e, length-take-le n s h)
 
 -- decode's zeros behind them, the run is empty

@@ -1,6 +1,6 @@
-pub mod Alike
+pub mod Places
 pub mod Entries
 pub mod Batches
-pub mod Flags
 pub mod Blocks
+pub mod Flags
 pub mod Ways

@@ -1,15 +1,15 @@
 -- From the inner functions' contracts to compare's. Assumes nothing.
 use mathlib.Core.Path.{◌≡◌, refl, sym, ap, ap₂, ◌∙◌}
-use mathlib.Core.Bool.{Bool, true, false, cond}
 use mathlib.Core.List.{List, ◌++◌}
-use Prim.Native.Nat.{ℕ, ◌+◌, ◌-◌, ◌*◌, ◌/◌, ◌≤◌, min}
+use Prim.Native.Nat.{ℕ, ◌+◌, ◌-◌, ◌*◌, ◌/◌, ◌≤◌, ◌<◌, min}
 use native.Mathlib.Nat.{zero-add}
 use native.Mathlib.Omega.{arith}
-use borrow.Author.Tests.{ltb-false}
+use borrow.Author.Tests.{lt-ltb, le-ltb}
 use lib.IntN.{ℤ}
-use lib.ListN.{length, take, drop}
-use lib.Seq.{sets-eq, length-sets, take-append_seam}
-use lib.Dec.{ltb}
+use lib.ListN.{length, drop}
+use lib.Seq.{sets, sets-eq, take-append_seam}
+use Rattle.std.specs.Prelude.{Result, Ok, Err, IsErrAnd}
+use Rattle.std.specs.Result.{result_unwrap_or}
 use Rattle.rules.specs.Lists.{in_row}
 use Rattle.rules.specs.Answer.{Read}
 use Rattle.rules.specs.Operations.{codes, values}
@@ -19,6 +19,8 @@ use Rattle.rules.specs.Functions as rule
 use Rattle.rules.specs.Functions.{Arena, arena, block_in, room_in, filled, decoded, Side, marked, reported, refused_by, report_left}
 use Rattle.rules.proofs.Records.{records_length}
 use Rattle.rules.proofs.Sizes.{length_codes, length_values, length_records}
+use Rattle.refusal.specs.declared.Refusal.{Refusal}
+use Rattle.refusal.specs.Told.{number_of, place_of}
 use Rattle.word.specs.Numbers.{zeroed}
 use Rattle.claims.specs.Demand3.{lent}
 use Rattle.claims.proofs.ReadThenChecked.{encodable}
@@ -26,15 +28,15 @@ use Rattle.claims.proofs.Passes.{decode_passes}
 use Rattle.claims.proofs.Arena.{block_in_lem}
 use Rattle.claims.proofs.Compare.{compare}
 use Rattle.decoder.specs.declared.Decoded.{Decoded}
-use Rattle.decoder.specs.declared.Decoded.TheVariants as whole
 use Rattle.decoder.specs.Replies.{Decodes}
 use Rattle.decoder.specs.Stages.{tailless}
 use Rattle.decoder.proofs.Taken.{refused_answer, Took, took, taken_left, lengths, room, begins}
+use Rattle.comparison.specs.declared.Report as lent_report
 use Rattle.comparison.specs.declared.Totals.{Totals}
-use Rattle.comparison.specs.declared.Compared.{Compared}
-use Rattle.comparison.specs.declared.Compared.TheVariants as reply
-use Rattle.comparison.specs.Replies.{room_for, Reports}
-use Rattle.comparison.specs.Model.{common_from, missing_from, totals_of, totals_for, Adds, answer_in, handed, Taken, front, Begins, headless}
+use Rattle.comparison.specs.declared.Refused.{Refused}
+use Rattle.comparison.specs.declared.Refused.TheVariants.{First, Second, Report}
+use Rattle.comparison.specs.Replies.{Marked, room_for, Reports}
+use Rattle.comparison.specs.Model.{common_from, missing_from, totals_of, totals_for, Adds, answer_in, Written, Taken, front, Begins, headless}
 use Rattle.comparison.proofs.Entries.{numbers, numbers_length}
 use Rattle.comparison.proofs.Batches.{all_batches}
 use Rattle.comparison.proofs.Flags.{all_zeroed}
@@ -61,68 +63,82 @@ module _ (cs vs rs ds us ss : List ℕ) where
       (batches_are x.batches y.batches m (ap (λ (t : Totals). t.batches) e ∙ length_records rs) (ap (λ (t : Totals). t.batches) f ∙ length_records ss) h)
       (ap₂ totals_for e f)
 
-pub adds_as : (es fs : List Entry) (n r : ℕ) (s t : List ℤ) → es ≡ fs → Adds es n r s t → Adds fs n r s t
-adds_as es fs n r s t e h = rw e at h
+pub adds_as : (es fs : List Entry) (x y : lent_report.Report) → es ≡ fs → Adds es x y → Adds fs x y
+adds_as es fs x y e h = rw e at h
 
 -- batches that a block has are whole records
 pub whole_records : (cs vs rs : List ℕ) (x : Totals) (m : ℕ) → x ≡ totals_of (block_in (arena cs vs rs)) → m ≤ x.batches → record_size * m ≤ length rs
 unfolding batch_total block_in
 whole_records cs vs rs x m e h = let k = ap (λ (t : Totals). t.batches) e ∙ length_records rs in omega arith
 
--- ---- what is left of the report
+-- ---- what is written of them, where there is room and where there is not
 
-none_left : (n : ℕ) (s : List ℤ) (m p q : ℕ) → length s ≡ n → zeroed s 0 ≡ report_left n (refused_by m p q)
+module _ (es : List Entry) (before after : List ℤ) (n : ℕ) (count : n ≡ length es) (run : after ≡ sets before 0 (numbers es)) where
+  pub too_many : room_for before < n → Written (answer_in (room_for before) es) after (Err Report)
+  unfolding in_row
+  too_many h = rw (lt-ltb (room_for before) (length es) (omega arith)) (record { reply = refl; front = refl })
+
+  pub enough : n ≤ room_for before → Written (answer_in (room_for before) es) after (Ok n)
+  enough h =
+      let e = numbers_length es in
+      rw (le-ltb (room_for before) (length es) (omega arith))
+      (record {
+        reply = ap (λ (k : ℕ). Ok k) count;
+        front = rw (run, sets-eq (numbers es) before 0 (omega arith), sym e) (take-append_seam (numbers es) (drop (0 + length (numbers es)) before));
+      })
+
+pub written_as : (x y : rule.Compared) (after : List ℤ) (r : Result ℕ Refused) → x ≡ y → Written x after r → Written y after r
+written_as x y after r e h = rw e at h
+
+-- ---- and what is left of it
+
+told_count : {m n : ℕ} → ◌≡◌ {A = Result ℕ Marked} (Ok m) (Ok n) → m ≡ n
+told_count e = cc
+
+clash_told : {x : Marked} {n : ℕ} → ◌≡◌ {A = Result ℕ Marked} (Err x) (Ok n) → ⊥
+clash_told e = cc
+
+clash_back : {x : Marked} {n : ℕ} → ◌≡◌ {A = Result ℕ Marked} (Ok n) (Err x) → ⊥
+clash_back e = cc
+
+pub settled : (x : rule.Compared) (before mid : List ℤ) (r : Result ℕ Refused) → length mid ≡ length before → Written x mid r → Reports x before (zeroed mid (entry_size * result_unwrap_or r 0)) r
 unfolding report_left in_row
-none_left n s m p q h = rw h
-
-all_left : (n : ℕ) (s : List ℤ) (es : List Entry) → length s ≡ n → take (entry_size * length es) s ≡ numbers es → zeroed s (entry_size * length es) ≡ report_left n (reported es)
-unfolding report_left
-all_left n s es h e = rw (h, e)
-
-pub settled : (es : List Entry) (before mid after : List ℤ) (n : ℕ) (r : Compared) → Adds es 0 n before mid
-    → r ≡ cond (ltb (room_for mid) n) (reply.Refused 0 13 0) (reply.Reported n)
-    → after ≡ zeroed mid (cond (ltb (room_for mid) n) 0 (entry_size * n))
-    → Reports (answer_in (room_for before) es) before after r
-settled es before mid after n r x h k =
-    go (ltb (length before / entry_size) (length es)) refl
-    (h ∙ (λ j. cond (ltb (same j / entry_size) (count j)) (reply.Refused 0 13 0) (reply.Reported (count j))))
-    (k ∙ (λ j. zeroed mid (cond (ltb (same j / entry_size) (count j)) 0 (entry_size * count j))))
-  where
-    count : n ≡ length es
-    count = x.count ∙ zero-add (length es)
-
-    same : length mid ≡ length before
-    same = rw x.run (length-sets before 0 (numbers es))
-
-    front_is : entry_size * length es ≤ length before → take (entry_size * length es) mid ≡ numbers es
-    front_is l =
-        let e = numbers_length es in
-        rw (x.run, sets-eq (numbers es) before 0 (omega arith), sym e) (take-append_seam (numbers es) (drop (0 + length (numbers es)) before))
-
-    go : (t : Bool) → ltb (length before / entry_size) (length es) ≡ t → r ≡ cond t (reply.Refused 0 13 0) (reply.Reported (length es))
-        → after ≡ zeroed mid (cond t 0 (entry_size * length es)) → Reports (cond t (refused_by 0 13 0) (reported es)) before after r
-    go true e f g = record { reply = f; report = g ∙ none_left (length before) mid 0 13 0 same }
-    go false e f g = record { reply = f; report = g ∙ all_left (length before) mid es same (front_is (omega (arith, ltb-false (length before / entry_size) (length es) e))) }
-
--- another way to say the answer
-pub reports_as : (x y : rule.Compared) (before after : List ℤ) (r : Compared) → x ≡ y → Reports x before after r → Reports y before after r
-reports_as x y before after r e h = rw e at h
+settled (reported es) before mid (Ok n) l w = let e : n ≡ length es = told_count w.reply in record { reply = w.reply; report = rw (e, l, w.front) }
+settled (reported es) before mid (Err e) l w = absurd (clash_told w.reply)
+settled (refused_by m n p) before mid (Ok k) l w = absurd (clash_back w.reply)
+settled (refused_by m n p) before mid (Err e) l w = record { reply = w.reply; report = rw l }
 
 -- ---- one block, by decode's contract
 
-module _ (t s : List ℕ) (at : ℕ) (before after : Arena) (r : Decoded) (d : Decodes t s at before after r) where
+module _ (t s : List ℕ) (at : ℕ) (before after : Arena) (r : Result Decoded Refusal) (d : Decodes t s at before after r) where
   abbrev answer : Read Block
   answer = decoded 8 t s at (room_in before)
 
-  pub refused_reports : (n p : ℕ) → r ≡ whole.Refused n p → (mark : ℕ) (f : Block → rule.Compared) (out left : List ℤ) (a : Compared) → a ≡ handed mark r → left ≡ zeroed out 0
-      → Reports (marked mark answer f) out left a
-  refused_reports n p h mark f out left a g e =
-      let q = refused_answer t s at before after r d n p h in
-      rw q (record { reply = g ∙ ap (handed mark) h; report = e ∙ none_left (length out) out mark n p refl })
+  pub refused_marked : (e : Refusal) → r ≡ Err e → (mark : ℕ) (f : Block → rule.Compared) → marked mark answer f ≡ refused_by mark (number_of e) (place_of e)
+  refused_marked e h mark f = rw (refused_answer t s at before after r d e h)
 
-  module _ (k n u : ℕ) (h : r ≡ whole.Made k n u) where
+  pub first_written : (f : Block → rule.Compared) (out : List ℤ) (e : Refusal) → r ≡ Err e → Written (marked 1 answer f) out (Err (First e))
+  unfolding in_row
+  first_written f out e h = rw (refused_marked e h 1 f) (record { reply = refl; front = refl })
+
+  pub second_written : (f : Block → rule.Compared) (out : List ℤ) (q : Result ℕ Refused) → IsErrAnd r (λ e. IsErrAnd q (λ y. y ≡ Second e)) → Written (marked 2 answer f) out q
+  unfolding in_row
+  second_written f out q h = go r refl q h
+    where
+      go : (r' : Result Decoded Refusal) → r ≡ r' → (q : Result ℕ Refused) → IsErrAnd r' (λ e. IsErrAnd q (λ y. y ≡ Second e)) → Written (marked 2 answer f) out q
+      go (Ok m) h q k = absurd k
+      go (Err e) h (Ok n) k = absurd k
+      go (Err e) h (Err y) k = rw (refused_marked e h 2 f, k) (record { reply = refl; front = refl })
+
+  module _ (m : Decoded) (h : r ≡ Ok m) where
+    abbrev n : ℕ
+    n = m.operations
+
+    abbrev k : ℕ
+    k = m.batches
+
     x : Took t s at before after r d k n
-    x = took t s at before after r d k n u h
+    x = took t s at before after r d m h
 
     abbrev b : Block
     b = x.block
@@ -140,7 +156,7 @@ module _ (t s : List ℕ) (at : ℕ) (before after : Arena) (r : Decoded) (d : D
         let raw = (compare 8 (omega arith)).raw side b x.next x.is in
         let e = encodable 8 t s at (room_in before) b x.next x.is in
         record {
-          structured = record { width = 8; room = omega arith; passed = (decode_passes 8 t s at (room_in before) b x.next x.is).structure };
+          structured = (decode_passes 8 t s at (room_in before) b x.next x.is).structure;
           paddings = rw (block_in_lem b e.sized) (omega (arith, raw, length_codes b.ops));
         }
 
@@ -155,7 +171,7 @@ module _ (t s : List ℕ) (at : ℕ) (before after : Arena) (r : Decoded) (d : D
     emptied z e =
         let w = room t s at before after r d k n x in
         let l = lengths t s at before after r d k n x in
-        let long = records_length b.records (encodable 8 t s at (room_in before) b x.next x.is).sized ∙ ap (λ (m : ℕ). record_size * m) x.batches in
+        let long = records_length b.records (encodable 8 t s at (room_in before) b x.next x.is).sized ∙ ap (λ (j : ℕ). record_size * j) x.batches in
         let p = all_zeroed (length before.codes) n (codes b.ops) (length_codes b.ops ∙ x.ops) (omega (arith, w, l)) in
         let q = all_zeroed (length before.values) n (values b.ops) (length_values b.ops ∙ x.ops) (omega (arith, w, l)) in
         let o = all_zeroed (length before.records) (record_size * k) (records_bytes b.records) long (omega (arith, w, l)) in
