@@ -3,14 +3,11 @@ use mathlib.Core.Path.{◌≡◌, sym, ap, ◌∙◌}
 use mathlib.Core.Bool.{true}
 use mathlib.Core.List.{List, map}
 use Prim.Native.Nat.{ℕ}
-use Rattle.rules.specs.Answer.{Answer, good, refuse_first}
+use Rattle.rules.specs.Answer.{Answer, good, refused, refuse_first}
 use Rattle.rules.specs.Operations.{operations, good_table, op_fault}
 use Rattle.rules.specs.Checks.{structure_faults, commitment_faults}
 use Rattle.rules.specs.Functions.{Arena, block_in, within, structure_checked, commitment_checked}
-use Rattle.operation.specs.declared.Verdict.{Verdict}
-use Rattle.operation.specs.declared.Verdict.TheVariants.{Passed, Refused}
-use Rattle.operation.specs.Verdict.{verdict_of}
-use Rattle.checks.proofs.Passed.{and_then, first_then, went_on, handed_on, structure_stage, admissible_stage}
+use Rattle.checks.proofs.Passed.{and_then, first_then, went_on, structure_stage, admissible_stage}
 use Rattle.commitment.specs.Walk.{AllRight}
 
 abbrev pub commitment_stage : List ℕ → Arena → Answer Unit
@@ -26,22 +23,22 @@ module _ (w : ℕ) (t : List ℕ) (a : Arena) (inside : within a ≡ true) (know
       ∙ first_then 0 s (good tt) (and_then (admissible_stage t a) (commitment_stage t a)))
 
   -- the ways out
-  pub no_structure : (v : Verdict) (n p : ℕ) → v ≡ verdict_of (structure_stage w a) → v ≡ Refused n p → v ≡ verdict_of (commitment_checked w t a)
-  no_structure v n p e h = e ∙ sym (ap verdict_of stages ∙ handed_on (structure_stage w a) (and_then (admissible_stage t a) (commitment_stage t a)) n p (sym e ∙ h))
+  pub no_structure : (n p : ℕ) → refused n p ≡ structure_stage w a → refused n p ≡ commitment_checked w t a
+  no_structure n p e = rw (stages, ← e)
 
-  module _ (s : structure_stage w a ≡ good tt) where
+  module _ (s : good tt ≡ structure_stage w a) where
     pub structure_passed : structure_checked w a ≡ good tt
     unfolding structure_checked
-    structure_passed = rw inside s
+    structure_passed = rw inside (sym s)
 
     rest : commitment_checked w t a ≡ and_then (admissible_stage t a) (commitment_stage t a)
-    rest = stages ∙ went_on (structure_stage w a) (and_then (admissible_stage t a) (commitment_stage t a)) s
+    rest = stages ∙ went_on (structure_stage w a) (and_then (admissible_stage t a) (commitment_stage t a)) (sym s)
 
-    pub all_well : AllRight t a → Passed ≡ verdict_of (commitment_checked w t a)
-    all_well r = sym (ap verdict_of (rest ∙ went_on (admissible_stage t a) (commitment_stage t a) r.admissible ∙ r.commitment))
+    pub all_well : AllRight t a → good tt ≡ commitment_checked w t a
+    all_well r = sym (rest ∙ went_on (admissible_stage t a) (commitment_stage t a) r.admissible ∙ r.commitment)
 
-    pub not_admissible : (v : Verdict) (n p : ℕ) → v ≡ verdict_of (admissible_stage t a) → v ≡ Refused n p → v ≡ verdict_of (commitment_checked w t a)
-    not_admissible v n p e h = e ∙ sym (ap verdict_of rest ∙ handed_on (admissible_stage t a) (commitment_stage t a) n p (sym e ∙ h))
+    pub not_admissible : (n p : ℕ) → refused n p ≡ admissible_stage t a → refused n p ≡ commitment_checked w t a
+    not_admissible n p e = rw (rest, ← e)
 
-    pub by_batches : admissible_stage t a ≡ good tt → verdict_of (commitment_stage t a) ≡ verdict_of (commitment_checked w t a)
-    by_batches f = sym (ap verdict_of (rest ∙ went_on (admissible_stage t a) (commitment_stage t a) f))
+    pub by_batches : good tt ≡ admissible_stage t a → commitment_stage t a ≡ commitment_checked w t a
+    by_batches f = sym (rest ∙ went_on (admissible_stage t a) (commitment_stage t a) (sym f))

@@ -1,5 +1,5 @@
 -- The walk over an arena where all is right: cited by the contracts of private functions only.
-use Rattle.std.specs.Prelude.{◌≡◌, cond, List, [], ◌∷◌, map, ℕ, ◌+◌, get_or, drop, leb, eqb}
+use Rattle.std.specs.Prelude.{◌≡◌, Option, None, Some, option_and_then, cond, ◌&&◌, List, [], ◌∷◌, map, ℕ, zero, suc, ◌+◌, get_or, drop, ltb, eqb}
 use Rattle.rules.specs.Answer.{Answer, good, refuse_first}
 use Rattle.rules.specs.Operations.{Op, operations, kind_of, field, op_fault}
 use Rattle.rules.specs.Record.{record_at}
@@ -7,24 +7,18 @@ use Rattle.rules.specs.Checks.{ninth, commitment_fault, commitment_faults}
 use Rattle.rules.specs.Functions.{Arena, block_in}
 use Rattle.checks.specs.Batch.{held_at}
 
--- the group after an operation's immediate, by the operation's kind and value and the eight groups' numbers, where the immediate belongs in the j-th; 9
+-- the group after an operation's immediate, by the operation's kind and value and the eight groups' numbers, where the immediate belongs in the j-th; none
 -- where something is not right. No width: the walk over the groups holds the slots to the count.
-unfoldable pub slot_after : ℕ → ℕ → List ℕ → ℕ → ℕ
-slot_after k v ns j =
-    cond (eqb k 0) (cond (eqb v 0) j 9)
-    (cond (leb 3 k) 9
-    (cond (leb field v) 9
-    (cond (eqb k 2) j
-    (cond (leb 8 j) 9
-    (cond (eqb (get_or ns j 0) v) (j + 1) 9)))))
-
-unfoldable pub op_after : List ℕ → Op → List ℕ → ℕ → ℕ
-op_after t x ns j = cond (leb 128 x.code) 9 (slot_after (kind_of t x.code) x.value ns j)
+unfoldable pub slot_after : ℕ → ℕ → List ℕ → ℕ → Option ℕ
+slot_after zero v ns j = cond (eqb v 0) (Some j) None
+slot_after (suc zero) v ns j = cond (ltb v field && (ltb j 8 && eqb (get_or ns j 0) v)) (Some (j + 1)) None
+slot_after (suc (suc zero)) v ns j = cond (ltb v field) (Some j) None
+slot_after (suc (suc (suc k))) v ns j = None
 
 -- the same for operations one after the other
-unfoldable pub slots_after : List ℕ → List Op → List ℕ → ℕ → ℕ
-slots_after t [] ns j = j
-slots_after t (x ∷ xs) ns j = cond (leb (op_after t x ns j) 8) (slots_after t xs ns (op_after t x ns j)) 9
+unfoldable pub slots_after : List ℕ → List Op → List ℕ → ℕ → Option ℕ
+slots_after t [] ns j = Some j
+slots_after t (x ∷ xs) ns j = option_and_then (λ (k : ℕ). slots_after t xs ns k) (slot_after (kind_of t x.code) x.value ns j)
 
 -- the first operation from the i-th on that is not admissible
 abbrev pub admissible_from : List ℕ → List ℕ → List ℕ → ℕ → Answer Unit

@@ -1,0 +1,17 @@
+use mathlib.Core.Path.{◌≡◌}
+use Prim.Native.Nat.{◌≤◌}
+use lib.ListN.{drop}
+use Rattle.rules.specs.Record.{immediates}
+use Rattle.rules.specs.Checks.{begins}
+use Rattle.commitment.specs.View.{ops_in, record_of}
+use Rattle.commitment.proofs.Numbers.{from_on}
+use Rattle.commitment.proofs.Batch.values_right.Given as goal
+
+abbrev pub invariant-loop-i : goal.invariant-loop-i
+invariant-loop-i l =
+    record {
+      low : l.j ≤ 8;
+      same :
+        begins (drop l.j (record_of l.self).numbers) (immediates l.self.table.now (from_on l.group.codes.now l.group.values.now l.i))
+        ≡ begins (drop l.g (record_of l.self).numbers) (immediates l.self.table.now (ops_in l.group));
+    }

@@ -1,0 +1,17 @@
+use mathlib.Core.Path.{◌≡◌}
+use Prim.Native.Nat.{◌+◌, ◌*◌, ◌^◌, ◌≤◌, ◌<◌}
+use Rattle.rules.specs.Record.{codes_number}
+use Rattle.commitment.specs.Walk.{slots_after}
+use Rattle.commitment.specs.View.{ops_in, record_of}
+use Rattle.commitment.proofs.Numbers.{from_on}
+use Rattle.commitment.proofs.Batch.walk_group.Given as goal
+
+abbrev pub invariant-loop-i : goal.invariant-loop-i
+invariant-loop-i l =
+    record {
+      low : l.next ≤ 8;
+      unit : l.unit ≡ 128 ^ l.i;
+      below : l.number < l.unit;
+      number : l.number + l.unit * codes_number (from_on l.group.codes.now l.group.values.now l.i) ≡ codes_number (ops_in l.group);
+      slots : slots_after l.self.table.now (from_on l.group.codes.now l.group.values.now l.i) (record_of l.self).numbers l.next ≡ slots_after l.self.table.now (ops_in l.group) (record_of l.self).numbers l.g;
+    }
