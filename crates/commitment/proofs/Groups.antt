@@ -13,18 +13,21 @@ use Rattle.std.specs.Prelude.{◌↔◌}
 use Rattle.rules.specs.Answer.{or_else}
 use Rattle.rules.specs.Digits.{number}
 use Rattle.rules.specs.Operations.{Op, operations, codes}
-use Rattle.rules.specs.Record.{Record, differences, record_at, codes_number, cut, immediates}
+use Rattle.rules.specs.Record.{Record, differences, codes_number, cut, immediates}
 use Rattle.rules.specs.Checks.{placing_fault, begins, groups_fault, empty_zero, under_count, commitment_fault}
 use Rattle.rules.proofs.Operations.{length_operations, drop_operations, codes_operations}
 use Rattle.op_batch.proofs.Right.{rise}
 use Rattle.checks.specs.Batch.{held_at, Apt, under, span}
-use Rattle.checks.proofs.Groups.{Lying, lying, group, under_start, under_turn, under_none, in_order, within_codes, bounds}
+use Rattle.checks.proofs.Groups.{Lying, lying, group, under_start, under_turn, under_none, within_codes}
 use Rattle.commitment.specs.declared.Batch.{Batch}
 use Rattle.commitment.specs.View.{arena_of, record_of, ops_of}
 
 -- what a batch's record and operations are known to be
 pub batch_lies : (k : Batch) → Lying (record_of k) k.codes.now k.values.now k.from
-batch_lies k = lying (arena_of k) k.b k.from (record { equal = k.same; whole = k.whole; fits = record { width = 8; room = omega arith; right = k.right }; inside = k.inside })
+batch_lies k = lying (arena_of k) k.b k.from (record { equal = k.same; whole = k.whole; fits = record { width = 8; room = omega arith; right = k.sound }; inside = k.inside })
+
+pub count_low : (k : Batch) → (record_of k).count ≤ 8
+count_low k = (batch_lies k).laid.count
 
 -- ---- the operations of a group, as they are lent
 

@@ -2,7 +2,7 @@
 use mathlib.Core.Path.{◌≡◌, refl, sym, ap, ◌∙◌}
 use mathlib.Core.Bool.{Bool, true, false, cond}
 use mathlib.Core.List.{List, [], ◌∷◌}
-use Prim.Native.Nat.{ℕ, zero, suc, ◌+◌, ◌*◌, ◌≤◌, ◌<◌}
+use Prim.Native.Nat.{ℕ, ◌+◌, ◌*◌, ◌≤◌, ◌<◌}
 use native.Mathlib.Numerals.{add-one}
 use native.Mathlib.Omega.{arith}
 use borrow.Author.Tests.{eq-eqb, ne_eqb}
@@ -15,7 +15,7 @@ use Rattle.rules.specs.Digits.{number}
 use Rattle.rules.specs.Operations.{Op, operations, codes, kind_of, has_immediate}
 use Rattle.rules.specs.Record.{codes_number, immediates}
 use Rattle.rules.specs.Checks.{begins}
-use Rattle.rules.proofs.Operations.{op, length_operations, operations_turn, operations_end}
+use Rattle.rules.proofs.Operations.{length_operations, operations_turn, operations_end}
 
 -- whether an opcode's value is placed in a group
 abbrev pub is_placed : List ℕ → ℕ → Bool

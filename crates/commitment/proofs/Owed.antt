@@ -10,10 +10,10 @@ use Rattle.rules.specs.Answer.{or_else}
 use Rattle.rules.specs.Operations.{Op, operations}
 use Rattle.rules.specs.Record.{Record, codes_number, immediates}
 use Rattle.rules.specs.Checks.{placing_fault, begins}
-use Rattle.checks.specs.Batch.{under, span}
+use Rattle.checks.specs.Batch.{under}
 use Rattle.checks.proofs.Groups.{Lying, group, in_order, within_codes}
 use Rattle.commitment.specs.declared.Batch.{Batch}
-use Rattle.commitment.specs.View.{arena_of, record_of, ops_of}
+use Rattle.commitment.specs.View.{arena_of, record_of}
 use Rattle.commitment.specs.Walk.{slots_after, admissible_from, BatchRight}
 use Rattle.commitment.proofs.Groups.{batch_lies, span_length, slot_free, slots_done, groups_left, empty_left, groups_done, empty_done, group_skip, empty_held, empty_right, empty_skip, counted, fault_last, empty_begin}
 use Rattle.commitment.proofs.Slots.{all_right}

@@ -3,7 +3,7 @@ use mathlib.Core.Path.{◌≡◌, refl, sym, ap, ◌∙◌}
 use mathlib.Core.Bool.{Bool, true, false, cond, ◌&&◌}
 use mathlib.Core.List.{List, ◌∷◌}
 use Prim.Native.Nat.{ℕ, zero, suc, ◌+◌, ◌-◌, ◌*◌, ◌^◌, ◌≤◌, ◌<◌}
-use native.Mathlib.Nat.{mul_assoc, mul_comm, mul-le-mul_right, pow-suc, pow-zero, pow-le-pow_right}
+use native.Mathlib.Nat.{mul_assoc, mul_comm, mul-le-mul_right, pow-suc, pow-le-pow_right}
 use native.Mathlib.Omega.{arith}
 use borrow.Author.Tests.{lt-ltb, ltb-true, ne_eqb, eqb-true}
 use lib.ListN.{length, get_or, drop}
@@ -14,7 +14,7 @@ use Rattle.rules.specs.Operations.{Op, operations, kind_of, has_immediate, field
 use Rattle.rules.specs.Record.{codes_number, immediates}
 use Rattle.rules.specs.Checks.{begins}
 use Rattle.rules.proofs.Digits.{split}
-use Rattle.rules.proofs.Operations.{op, operations_turn, operations_end, kind_at, true_left, true_right}
+use Rattle.rules.proofs.Operations.{op, operations_turn, operations_end}
 use Rattle.operation.proofs.Scan as scan
 use Rattle.checks.specs.Batch.{span}
 use Rattle.commitment.specs.Walk.{slot_after, slots_after, admissible_from}
@@ -61,9 +61,6 @@ module _ (t cs vs ns : List ℕ) (e : length cs ≡ length vs) (i j : ℕ) where
       slots_turn m n = rw (operations_turn cs vs i h (omega arith), of_kind t ns (get_or cs i 0) (get_or vs i 0) j k l d, ← n)
 
 -- ---- the number so far, and what the opcodes ahead add to it: n is the number, p the next opcode's unit
-
-pub unit_first : 1 ≡ 128 ^ 0
-unit_first = rw pow-zero
 
 pub unit_next : (p i : ℕ) → p ≡ 128 ^ i → p * 128 ≡ 128 ^ (i + 1)
 unit_next p i e = let d : i + 1 ≡ suc i = omega arith in rw (d, pow-suc 128 i, e)

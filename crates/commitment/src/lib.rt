@@ -18,19 +18,19 @@ use refusal::Refusal;
 
 // ---- the operations of a group
 
+// Whether an opcode's value is placed in a group: kind 1.
+fn placed(table: &[u8; 128], code: u8) -> bool
+    ensures { result ≡ nat_eq (kind_of table.now code) 1 }
+{
+    table.get(code as usize) == Some(&1)
+}
+
 #[derive(Clone, Copy)]
 struct Group<'a> {
     codes: &'a [u8],
     values: &'a [u64],
     ghost same: { length codes.now ≡ length values.now },
     ghost few: { length codes.now ≤ 9 },
-}
-
-// Whether an opcode's value is placed in a group: kind 1.
-fn placed(table: &[u8; 128], code: u8) -> bool
-    ensures { result ≡ nat_eq (kind_of table.now code) 1 }
-{
-    table.get(code as usize) == Some(&1)
 }
 
 impl<'a> Group<'a> {
@@ -47,7 +47,10 @@ impl<'a> Group<'a> {
         ensures count { result ≡ length (immediates table.now (ops_in self.entry)) }
         ensures few { result ≤ 9 }
     {
-        self.codes.iter().filter(|code| placed(table, **code)).count()
+        self.codes
+            .iter()
+            .filter(|code| placed(table, **code))
+            .count()
     }
 }
 
@@ -64,7 +67,7 @@ struct Batch<'a> {
     ghost known: { length table.now ≡ 128 },
     ghost same: { length codes.now ≡ length values.now },
     ghost whole: { record_size * b + record_size ≤ length records.now },
-    ghost right: { record_right 8 (record_at records.now b) ≡ true },
+    ghost sound: { record_right 8 (record_at records.now b) ≡ true },
     ghost inside: { from + ninth (record_at records.now b) ≤ length codes.now },
 }
 
@@ -78,6 +81,7 @@ struct Walked {
 impl<'a> Batch<'a> {
     ghost use Rattle.commitment.specs.View.{ops_in, arena_of, record_of, ops_of, group_of};
 
+    #[tactic(auto, using(crate::proofs::Groups::count_low))]
     fn count(self) -> usize
         ensures { (result ≡ (record_of self.entry).count) × (result ≤ 8) }
     {
@@ -92,6 +96,7 @@ impl<'a> Batch<'a> {
     }
 
     // The g-th group's operations.
+    #[tactic(auto, using(crate::proofs::Groups::group_bounds))]
     fn group(self, g: usize) -> Group<'a>
         requires { g < 8 }
         ensures { ops_in result ≡ group_of self.entry g }
@@ -203,6 +208,7 @@ impl<'a> Batch<'a> {
     }
 
     // A group's operations, their immediates in the groups from the g-th on. None where something is not right.
+    #[tactic(auto, using(crate::proofs::Slots::unit_small, crate::proofs::Slots::product_small))]
     fn walk_group(self, g: usize, group: Group<'_>) -> Option<Walked>
         requires { g ≤ 8 }
         ensures next { option_map (λ (w : Walked). w.next) result ≡ slots_after self.entry.table.now (ops_in group.entry) (record_of self.entry).numbers g }
@@ -306,12 +312,7 @@ fn all_right(table: &[u8; 128], codes: &[u8], values: &[u64], records: &[u8]) ->
 // ---- the check
 
 // Commitment: refusals 3, 14, 15, 4 or 17 (M-101), then batch by batch 16, 8 or 9. Where not all is right, the walks above say what goes first.
-pub fn commitment(
-    table: &[u8],
-    codes: &[u8],
-    values: &[u64],
-    records: &[u8],
-) -> Result<(), Refusal>
+pub fn commitment(table: &[u8], codes: &[u8], values: &[u64], records: &[u8]) -> Result<(), Refusal>
     ensures { told result ≡ commitment_checked 8 table.now (arena codes.now values.now records.now) }
 {
     if !checks::within(codes, values, records) {

@@ -2,7 +2,7 @@ use mathlib.Core.Path.{refl, sym, ◌∙◌}
 use native.Mathlib.Omega.{arith}
 use Rattle.rules.specs.Checks.{commitment_faults}
 use Rattle.operation.proofs.Scan as scan
-use Rattle.checks.proofs.Batches.{came_first, came_last, came_lies, came_room, came_next}
+use Rattle.checks.proofs.Batches.{came_first, came_last, came_lies, came_next}
 use Rattle.checks.proofs.Passed.{checked}
 use Rattle.commitment.proofs.all_right.Goals as goal
 
@@ -13,7 +13,7 @@ pub invariant_of-batch : goal.invariant_of-batch
 invariant_of-batch c =
     let l = c.loop-b in
     let x = came_lies _ _ _ _ _ _ _ l.invariant.came (omega arith) in
-    record { known = omega arith; same = x.equal; whole = x.whole; right = (checked _ _ _ _ c.requires).1.right l.b (omega arith); inside = x.inside }
+    record { known = omega arith; same = x.equal; whole = x.whole; sound = (checked _ _ _ _ c.requires).1.right l.b (omega arith); inside = x.inside }
 
 pub loop-b-preserved : goal.loop-b-preserved
 loop-b-preserved c =

@@ -6,6 +6,6 @@ use Rattle.commitment.proofs.all_right.Given as goal
 
 abbrev pub invariant-loop-b : goal.invariant-loop-b
 invariant-loop-b l = record {
-      came : Came (commitment_fault l.table) l.codes l.values l.records l.b-end l.b l.from;
-      scan : admissible_from l.table l.codes l.values l.from ≡ admissible_from l.table l.codes l.values 0;
-    }
+  came : Came (commitment_fault l.table) l.codes l.values l.records l.b-end l.b l.from;
+  scan : admissible_from l.table l.codes l.values l.from ≡ admissible_from l.table l.codes l.values 0;
+}

@@ -1,9 +1,6 @@
-use mathlib.Core.Path.{◌≡◌, sym, ap, ◌∙◌}
-use mathlib.Core.List.{List}
+use mathlib.Core.Path.{sym, ◌∙◌}
 use native.Mathlib.Omega.{arith}
-use Prim.Native.Nat.{ℕ}
 use Rattle.rules.specs.Functions.{commitment_checked}
-use Rattle.rules.specs.Operations.{good_table}
 use Rattle.refusal.proofs.Told.{handed}
 use Rattle.checks.proofs.Walk.{equal_lengths}
 use Rattle.checks.proofs.Passed.{apt}

@@ -3,7 +3,7 @@ use native.Mathlib.Omega.{arith}
 use Rattle.rules.specs.Checks.{commitment_faults}
 use Rattle.operation.proofs.Faults.{faultless}
 use Rattle.refusal.proofs.Told.{handed}
-use Rattle.checks.proofs.Batches.{came_first, came_last, came_lies, came_stop, came_room, came_next}
+use Rattle.checks.proofs.Batches.{came_first, came_last, came_lies, came_stop, came_next}
 use Rattle.checks.proofs.Passed.{checked}
 use Rattle.commitment.proofs.commitment_fault.Goals as goal
 
@@ -14,7 +14,7 @@ pub invariant_of-batch : goal.invariant_of-batch
 invariant_of-batch c =
     let l = c.loop-b in
     let x = came_lies _ _ _ _ _ _ _ l.invariant (omega arith) in
-    record { known = c.requires.known.table; same = x.equal; whole = x.whole; right = (checked _ _ _ _ c.requires.structure).1.right l.b (omega arith); inside = x.inside }
+    record { known = c.requires.known.table; same = x.equal; whole = x.whole; sound = (checked _ _ _ _ c.requires.structure).1.right l.b (omega arith); inside = x.inside }
 
 pub returns-in_err-fault : goal.returns-in_err-fault
 unfolding commitment_faults

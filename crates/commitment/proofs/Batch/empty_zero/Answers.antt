@@ -18,12 +18,12 @@ loop-g-preserved c =
     let x = batch_lies k in
     let t = k.table.now in
     elim c.if-not-is_empty.branch [
-      then-not-is_empty w ↦
-      empty_skip t _ _ _ _ x l.g (omega (arith, c.count-g-end.ensures.0)) _ c.group-group.ensures (full_group _ _ c.is_empty.ensures w.if-not-is_empty.true) l.held c.if-not-is_empty.held (w.held-is ∙ w.immediates-held.ensures.count) ∙ l.invariant
-    | else-not-is_empty+then-held-gt0 w ↦
-      rw w.held-is (empty_held t _ _ _ _ x l.g (omega (arith, c.count-g-end.ensures.0)) _ c.group-group.ensures (c.is_empty.ensures.0 w.if-not-is_empty.false) l.held w.if-held-gt0.true ∙ l.invariant)
-    | else-not-is_empty+else-held-gt0+else-number-ne0 w ↦
-      rw w.held-is (empty_right t _ _ _ _ x l.g (omega (arith, c.count-g-end.ensures.0)) _ c.group-group.ensures (c.is_empty.ensures.0 w.if-not-is_empty.false) l.held (omega (arith, w.if-held-gt0.false)) (sym w.number.ensures ∙ w.if-number-ne0.false) ∙ l.invariant)
+      | then-not-is_empty w ↦
+          empty_skip t _ _ _ _ x l.g (omega (arith, c.count-g-end.ensures.0)) _ c.group-group.ensures (full_group _ _ c.is_empty.ensures w.if-not-is_empty.true) l.held c.if-not-is_empty.held (w.held-is ∙ w.immediates-held.ensures.count) ∙ l.invariant
+      | else-not-is_empty+then-held-gt0 w ↦
+          rw w.held-is (empty_held t _ _ _ _ x l.g (omega (arith, c.count-g-end.ensures.0)) _ c.group-group.ensures (c.is_empty.ensures.0 w.if-not-is_empty.false) l.held w.if-held-gt0.true ∙ l.invariant)
+      | else-not-is_empty+else-held-gt0+else-number-ne0 w ↦
+          rw w.held-is (empty_right t _ _ _ _ x l.g (omega (arith, c.count-g-end.ensures.0)) _ c.group-group.ensures (c.is_empty.ensures.0 w.if-not-is_empty.false) l.held (omega (arith, w.if-held-gt0.false)) (sym w.number.ensures ∙ w.if-number-ne0.false) ∙ l.invariant)
     ]
 
 pub returns : goal.returns

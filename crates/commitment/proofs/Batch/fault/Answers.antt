@@ -1,7 +1,6 @@
-use mathlib.Core.Path.{◌≡◌, refl, sym, ap, ◌∙◌}
-use Prim.Native.Nat.{ℕ, ◌+◌}
+use mathlib.Core.Path.{refl, sym, ap, ◌∙◌}
+use Prim.Native.Nat.{ℕ}
 use native.Mathlib.Omega.{arith}
-use Rattle.rules.specs.Checks.{placing_fault}
 use Rattle.operation.specs.Verdict.{one_fault}
 use Rattle.operation.proofs.Faults.{faultless, faulted}
 use Rattle.refusal.proofs.Told.{handed}
@@ -35,7 +34,7 @@ returns-in_err-placing_fault c =
     let g = c.group-group.result in
     let f = faulted _ _ _ _ c.in_err-placing_fault.ensures in
     let e = group_unplaced k.table.now _ _ _ _ (batch_lies k) l.g (omega (arith, c.count-g-end.ensures.0)) _ c.group-group.ensures (full_group _ _ c.is_empty.ensures c.if-is_empty.false)
-        (sym c.number.ensures ∙ c.if-number-group_number.false ∙ c.group_number.ensures ∙ lent_number _ _ g.same) _ c.immediates.ensures.count _ refl f.some in
+    (sym c.number.ensures ∙ c.if-number-group_number.false ∙ c.group_number.ensures ∙ lent_number _ _ g.same) _ c.immediates.ensures.count _ refl f.some in
     handed _ _ c.from_residual.ensures.1 ∙ c.in_err-placing_fault.ensures ∙ ap (λ (n : ℕ). one_fault n k.b) (sym (fault_at k.table.now k _ (sym e ∙ l.invariant) f.some))
 
 pub returns-then-not-values_right : goal.returns-then-not-values_right
@@ -44,7 +43,7 @@ returns-then-not-values_right c =
     let k = c.args.self in
     let g = c.group-group.result in
     let e = group_unequal k.table.now _ _ _ _ (batch_lies k) l.g (omega (arith, c.count-g-end.ensures.0)) _ c.group-group.ensures (full_group _ _ c.is_empty.ensures c.if-is_empty.false)
-        (sym c.number.ensures ∙ c.if-number-group_number.false ∙ c.group_number.ensures ∙ lent_number _ _ g.same) _ c.immediates.ensures.count (faultless _ _ c.in_ok-placing_fault.ensures) (sym c.values_right.ensures ∙ c.if-not-values_right.true) in
+    (sym c.number.ensures ∙ c.if-number-group_number.false ∙ c.group_number.ensures ∙ lent_number _ _ g.same) _ c.immediates.ensures.count (faultless _ _ c.in_ok-placing_fault.ensures) (sym c.values_right.ensures ∙ c.if-not-values_right.true) in
     rw (fault_at k.table.now k 16 (sym e ∙ l.invariant) (λ z. omega arith))
 
 pub loop-g-preserved : goal.loop-g-preserved

@@ -18,9 +18,9 @@ loop-g-preserved-then-is_empty c =
       held = i.held;
       gone =
           elim c.else-held-g.branch [
-            else-held-g-via-then-held-g+else-number-ne0 w ↦
-            gone_free _ _ _ _ _ x l.held l.g i.gone (omega (arith, c.count-count.ensures.0)) _ c.group-group.ensures e w.if-held-g.true (sym c.number-number.ensures ∙ w.if-number-ne0.false)
-          | else-held-g-via-else-held-g w ↦ gone_held _ _ _ _ _ x l.held l.g i.gone (omega (arith, c.count-count.ensures.0)) _ c.group-group.ensures e w.if-held-g.false
+            | else-held-g-via-then-held-g+else-number-ne0 w ↦
+                gone_free _ _ _ _ _ x l.held l.g i.gone (omega (arith, c.count-count.ensures.0)) _ c.group-group.ensures e w.if-held-g.true (sym c.number-number.ensures ∙ w.if-number-ne0.false)
+            | else-held-g-via-else-held-g w ↦ gone_held _ _ _ _ _ x l.held l.g i.gone (omega (arith, c.count-count.ensures.0)) _ c.group-group.ensures e w.if-held-g.false
           ];
     }
 

@@ -17,9 +17,9 @@ returns-then-j-ge8 c =
     let a = c.args in
     let n = (batch_lies a.self).laid.numbers in
     elim c.then-j-ge8.branch [
-      then-j-ge8-via-then-j-ge8 w ↦ sym (agree_past _ _ _ _ a.group.same l.i l.j (omega arith) (sym c.if-not-placed.ensures) (omega (arith, n, w.if-j-ge8.true))) ∙ l.invariant.same
-    | then-j-ge8-via-else-j-ge8+then-number-group w ↦
-      sym (agree_not _ _ _ _ a.group.same l.i l.j (omega arith) (sym c.if-not-placed.ensures) (omega (arith, n, w.if-j-ge8.false)) (λ z. w.if-number-group.true (w.number.ensures ∙ z))) ∙ l.invariant.same
+      | then-j-ge8-via-then-j-ge8 w ↦ sym (agree_past _ _ _ _ a.group.same l.i l.j (omega arith) (sym c.if-not-placed.ensures) (omega (arith, n, w.if-j-ge8.true))) ∙ l.invariant.same
+      | then-j-ge8-via-else-j-ge8+then-number-group w ↦
+          sym (agree_not _ _ _ _ a.group.same l.i l.j (omega arith) (sym c.if-not-placed.ensures) (omega (arith, n, w.if-j-ge8.false)) (λ z. w.if-number-group.true (w.number.ensures ∙ z))) ∙ l.invariant.same
     ]
 
 pub loop-i-preserved : goal.loop-i-preserved

@@ -1,6 +1,6 @@
-use mathlib.Core.Path.{◌≡◌, ◌∙◌}
+use mathlib.Core.Path.{◌∙◌}
 use native.Mathlib.Omega.{arith}
-use Rattle.commitment.proofs.Slots.{slots_done, slots_over, slots_stop, slots_turn, unit_next, unit_small, product_small, sum_turn, sum_done}
+use Rattle.commitment.proofs.Slots.{slots_done, slots_over, slots_stop, slots_turn, unit_next, product_small, sum_turn, sum_done}
 use Rattle.commitment.proofs.Batch.walk_group.Goals as goal
 
 pub returns-in_err-kind-clause-next : goal.returns-in_err-kind-clause-next
@@ -15,15 +15,6 @@ returns-in_err-next-clause-next c =
     let g = c.args.group in
     let k = c.in_ok-kind.ensures.lookup in
     rw c.from_residual-in_err-next.ensures (slots_stop _ _ _ _ g.same l.i l.next (omega arith) _ (omega (arith, k)) k.1 c.in_err-next.ensures.value ∙ l.invariant.slots)
-
-pub overflow_mul-number : goal.overflow_mul-number
-overflow_mul-number c = let l = c.loop-i in omega (arith, c.from.ensures, unit_small l.unit l.i l.invariant.unit (omega (arith, c.args.group.few)), product_small c.from.result l.unit (omega (arith, c.from.ensures, c.in_ok-kind.ensures.lookup)))
-
-pub overflow_add-number : goal.overflow_add-number
-overflow_add-number c = let l = c.loop-i in omega (arith, c.from.ensures, unit_small l.unit l.i l.invariant.unit (omega (arith, c.args.group.few)), product_small c.from.result l.unit (omega (arith, c.from.ensures, c.in_ok-kind.ensures.lookup)))
-
-pub overflow_mul-unit : goal.overflow_mul-unit
-overflow_mul-unit c = let l = c.loop-i in omega (arith, unit_small l.unit l.i l.invariant.unit (omega (arith, c.args.group.few)))
 
 pub loop-i-preserved : goal.loop-i-preserved
 loop-i-preserved c =
