@@ -2,12 +2,12 @@
 use mathlib.Core.Path.{◌≡◌, refl, sym, ap, ◌∙◌}
 use mathlib.Core.Bool.{Bool, true, false, cond}
 use mathlib.Core.List.{List}
-use Prim.Native.Nat.{ℕ, zero, suc, ◌+◌, ◌-◌, ◌*◌, ◌^◌, ◌≤◌, ◌<◌}
+use Prim.Native.Nat.{ℕ, zero, suc, ◌+◌, ◌-◌, ◌*◌, ◌/◌, ◌^◌, ◌≤◌, ◌<◌, min, max}
 use native.Mathlib.Omega.{arith}
 use native.Mathlib.Nat.{pow-suc, pow-le-pow_right}
 use native.Mathlib.Numerals.{add-one}
 use lib.Dec.{leb, ltb, eqb}
-use borrow.Author.Tests.{ltb-true, leb-true, leb-false, eqb-true, le-ltb, lt-ltb}
+use borrow.Author.Tests.{ltb-true, leb-true, leb-false, eqb-true, le-leb, lt-leb, le-ltb, lt-ltb}
 use Rattle.rules.specs.Batching.{target}
 use Rattle.accumulator.specs.declared.OpBatchAccumulator.{OpBatchAccumulator}
 use Rattle.accumulator.specs.Good.{record_groups, Good}
@@ -161,6 +161,17 @@ target_bounds n h = go (leb n 1) (leb n 2) (leb n 4) refl refl refl
     go false true z p q r = omega (arith, leb-true n 2 q)
     go false false true p q r = omega (arith, leb-true n 4 r)
     go false false false p q r = omega arith
+
+-- the power of two that is next, where that is 8 at most
+pub target_power : (n r k : ℕ) → r ≡ 2 ^ k → min n 8 ≤ r → r / 2 < max 1 (min n 8) → r ≡ target n
+unfolding target
+target_power n r zero e lo hi = rw (le-leb n 1 (omega arith)) e
+target_power n r (suc zero) e lo hi = rw (lt-leb n 1 (omega arith), le-leb n 2 (omega arith)) e
+target_power n r (suc (suc zero)) e lo hi = rw (lt-leb n 1 (omega arith), lt-leb n 2 (omega arith), le-leb n 4 (omega arith)) e
+target_power n r (suc (suc (suc zero))) e lo hi = rw (lt-leb n 1 (omega arith), lt-leb n 2 (omega arith), lt-leb n 4 (omega arith)) e
+target_power n r (suc (suc (suc (suc k)))) e lo hi =
+    let p : 2 ^ 4 ≤ 2 ^ suc (suc (suc (suc k))) = pow-le-pow_right {n = 2} (omega arith) {i = 4} {j = suc (suc (suc (suc k)))} (omega arith) in
+    absurd (omega arith)
 
 pub turned_next : (a : OpBatchAccumulator) → (turned_acc a).next ≡ a.next + 1
 unfolding turned_acc

@@ -15,7 +15,7 @@ pub const GROUP_SIZE: usize = 9;
 // groups that a record has room for, whatever the width
 pub const RECORD_GROUPS: usize = 8;
 
-#[derive(Clone, Copy)]
+#[derive(Clone, Copy, Debug, PartialEq, Eq)]
 pub struct OpBatchAccumulator {
     // the current group, and the next free one
     pub cur: usize,
@@ -51,16 +51,11 @@ impl OpBatchAccumulator {
         requires { self.next ≤ record_groups }
         ensures { result ≡ fits_in width imm self }
     {
-        if imm {
-            if self.inside < GROUP_SIZE - 1 {
-                return self.next < width;
-            }
-            return self.next + 1 < width;
+        match (self.full(imm), imm) {
+            (false, false) => true,
+            (false, true) | (true, false) => self.next < width,
+            (true, true) => self.next + 1 < width,
         }
-        if self.inside < GROUP_SIZE {
-            return true;
-        }
-        self.next < width
     }
 
     // Adds an operation to the b-th batch, whose record has room for it.
@@ -73,10 +68,10 @@ impl OpBatchAccumulator {
     {
         let a = self.advance(imm, b, records);
         if imm {
-            let d = a.place_imm(v, b, records);
-            return d.push_op(code, imm);
+            a.place_imm(v, b, records).push_op(code, imm)
+        } else {
+            a.push_op(code, imm)
         }
-        a.push_op(code, imm)
     }
 
     // Ends the batch: its record is whole, and its operations are returned.
@@ -88,7 +83,7 @@ impl OpBatchAccumulator {
     {
         let count = target_num_groups(self.next);
         let mut a = self;
-        while a.next < count {
+        for _ in self.next..count {
             a = a.finalize_op_group(b, records);
         }
         let total = a.close(b, records);
@@ -116,11 +111,10 @@ impl OpBatchAccumulator {
         ensures run { records.new ≡ closed_run b self records.old }
     {
         let pad = self.padding();
-        let cur = self.cur;
         let total = self.total + pad;
-        op_batch::set_starts(records, b, cur + 1, total);
-        op_batch::set_flag(records, b, cur, pad);
-        op_batch::set_number(records, b, cur, self.number);
+        op_batch::set_starts(records, b, self.cur + 1, total);
+        op_batch::set_flag(records, b, self.cur, pad);
+        op_batch::set_number(records, b, self.cur, self.number);
         total
     }
 
@@ -131,8 +125,7 @@ impl OpBatchAccumulator {
         requires { Good record_groups self }
         ensures { result ≡ turned_acc self }
     {
-        let pad = self.padding();
-        self.opened(self.total + pad)
+        self.opened(self.total + self.padding())
     }
 
     // The next free group opened, where the batch has so many operations.
@@ -143,11 +136,8 @@ impl OpBatchAccumulator {
         OpBatchAccumulator {
             cur: self.next,
             next: self.next + 1,
-            inside: 0,
-            number: 0,
-            unit: 1,
             total,
-            tail: false,
+            ..OpBatchAccumulator::new()
         }
     }
 
@@ -157,13 +147,8 @@ impl OpBatchAccumulator {
         ensures { result ≡ slotted_acc self }
     {
         OpBatchAccumulator {
-            cur: self.cur,
             next: self.next + 1,
-            inside: self.inside,
-            number: self.number,
-            unit: self.unit,
-            total: self.total,
-            tail: self.tail,
+            ..self
         }
     }
 
@@ -173,15 +158,13 @@ impl OpBatchAccumulator {
         requires code_bound { (code < 128) × (self.inside < 9) }
         ensures { result ≡ joined_acc code imm self }
     {
-        let number = self.number_with(code);
         OpBatchAccumulator {
-            cur: self.cur,
-            next: self.next,
             inside: self.inside + 1,
-            number,
+            number: self.number + u64::from(code) * self.unit,
             unit: self.unit * 128,
             total: self.total + 1,
             tail: imm,
+            ..self
         }
     }
 
@@ -189,32 +172,14 @@ impl OpBatchAccumulator {
     pub fn padding(self) -> u8
         ensures { (result ≡ pad_of self) × (result ≤ 1) }
     {
-        if self.inside == 0 {
-            return 1;
-        }
-        if self.tail {
-            return 1;
-        }
-        0
-    }
-
-    // The current group's number with one opcode more.
-    fn number_with(self, code: u8) -> u64
-        requires good { Good record_groups self }
-        requires code_bound { (code < 128) × (self.inside < 9) }
-        ensures { result ≡ self.number + code * self.unit }
-    {
-        self.number + u64::from(code) * self.unit
+        u8::from(self.inside == 0 || self.tail)
     }
 
     // Whether the current group cannot take the operation: no immediate is ninth.
     pub fn full(self, imm: bool) -> bool
         ensures { result ≡ crosses imm self }
     {
-        if imm {
-            return GROUP_SIZE - 1 <= self.inside;
-        }
-        GROUP_SIZE <= self.inside
+        GROUP_SIZE - usize::from(imm) <= self.inside
     }
 
     fn advance(self, imm: bool, b: usize, records: &mut [u8]) -> Self
@@ -224,9 +189,10 @@ impl OpBatchAccumulator {
         ensures run { records.new ≡ ready_run imm b self records.old }
     {
         if self.full(imm) {
-            return self.finalize_op_group(b, records);
+            self.finalize_op_group(b, records)
+        } else {
+            self
         }
-        self
     }
 
     // An immediate takes the next free group.
@@ -244,14 +210,5 @@ impl OpBatchAccumulator {
 pub fn target_num_groups(n: usize) -> usize
     ensures { result ≡ target n }
 {
-    if n <= 1 {
-        return 1;
-    }
-    if n <= 2 {
-        return 2;
-    }
-    if n <= 4 {
-        return 4;
-    }
-    8
+    n.min(RECORD_GROUPS).next_power_of_two()
 }

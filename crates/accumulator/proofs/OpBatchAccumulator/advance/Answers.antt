@@ -10,8 +10,8 @@ returns-then-full c =
     let p : crosses a.imm a.self ≡ true = sym c.full.ensures ∙ c.if-full.true in
     rw p c.finalize_op_group.ensures
 
-pub returns : goal.returns
+pub returns-else-full : goal.returns-else-full
 unfolding ready_acc ready_run
-returns c =
+returns-else-full c =
     let a = c.args in
     let p : crosses a.imm a.self ≡ false = sym c.full.ensures ∙ c.if-full.false in record { acc = rw p; run = rw p }

@@ -2,7 +2,6 @@ use mathlib.Core.Path.{◌≡◌, refl, sym, ap, ap₂, ◌∙◌}
 use mathlib.Core.List.{List}
 use Prim.Native.Nat.{ℕ, ◌+◌, ◌-◌}
 use native.Mathlib.Omega.{arith}
-use lib.ListN.{length}
 use Rattle.rules.specs.Batching.{target}
 use Rattle.op_batch.specs.Stores.{count_set}
 use Rattle.accumulator.specs.declared.OpBatchAccumulator.{OpBatchAccumulator}
@@ -10,42 +9,32 @@ use Rattle.accumulator.specs.Model.{pad_of, closed_run, filled_run, last_acc, en
 use Rattle.accumulator.proofs.Good.{target_bounds, turned_good, turned_next, filled_turn, filled_none, run_turn, run_none}
 use Rattle.accumulator.proofs.OpBatchAccumulator.into_batch.Goals as goal
 
-pub loop-a-init : goal.loop-a-init
-loop-a-init c =
-    let b = target_bounds c.args.self.next c.requires.good.high in
-    (c.requires.good, rw c.target_num_groups-count.ensures b.0, rw c.target_num_groups-count.ensures b.1, refl, refl, refl)
+pub loop-init : goal.loop-init
+loop-init c = (c.requires.good, refl, rw c.target_num_groups-count.ensures (target_bounds c.args.self.next c.requires.good.high).1, refl, refl)
 
 pub finalize_op_group-a-requires : goal.finalize_op_group-a-requires
-finalize_op_group-a-requires c = record { good = c.loop-a.invariant.0; b_bound = c.requires.b_bound }
+finalize_op_group-a-requires c = record { good = c.loop.invariant.0; b_bound = c.requires.b_bound }
 
-pub loop-a-smaller : goal.loop-a-smaller
-loop-a-smaller c = rw c.finalize_op_group-a.ensures.acc (omega (arith, turned_next c.loop-a.a, c.loop-a-test.true))
-
-pub loop-a-preserved : goal.loop-a-preserved
-loop-a-preserved c =
-    let l = c.loop-a in
-    let t = c.loop-a-test.true in
+pub loop-preserved : goal.loop-preserved
+loop-preserved c =
+    let l = c.loop in
     let e = c.finalize_op_group-a in
     let n = turned_next l.a in
     rw (e.ensures.acc, e.ensures.run)
-    (turned_good l.a l.invariant.0 (omega arith), omega arith, l.invariant.2, sym (ap length e.ensures.run) ∙ e.auto.records ∙ l.invariant.3, filled_turn _ l.a t ∙ l.invariant.4, run_turn _ l.a _ l.records t ∙ l.invariant.5)
+    (turned_good l.a l.invariant.0 (omega arith), omega arith, l.invariant.2, filled_turn _ l.a (omega arith) ∙ l.invariant.3, run_turn _ l.a _ l.records (omega arith) ∙ l.invariant.4)
 
 pub close-total-requires : goal.close-total-requires
-close-total-requires c = record { good = c.loop-a.invariant.0; b_bound = c.requires.b_bound }
+close-total-requires c = record { good = c.loop.invariant.0; b_bound = c.requires.b_bound }
 
 pub overflow_cast-count : goal.overflow_cast-count
-overflow_cast-count c = omega (arith, c.loop-a.invariant.2)
-
-pub shape_of-records : goal.shape_of-records
-shape_of-records c = omega (arith, c.set_count.auto, c.close-total.auto, c.loop-a.invariant.3)
+overflow_cast-count c = omega (arith, c.loop.invariant.2)
 
 pub returns : goal.returns
 unfolding last_acc ended_total ended_run
 returns c =
-    let l = c.loop-a in
-    let h = c.loop-a-test.false in
+    let l = c.loop in
     let g = c.target_num_groups-count.ensures in
     let a = c.args in
     let k = c.close-total.ensures in
-    let la : l.a ≡ last_acc a.self = sym (filled_none _ l.a h) ∙ l.invariant.4 ∙ rw g in
-    let lr : l.records ≡ filled_run (target a.self.next - a.self.next) a.b a.self a.records.now = sym (run_none _ l.a a.b l.records h) ∙ l.invariant.5 ∙ rw g in (record { total = k.total ∙ ap (λ (x : OpBatchAccumulator). x.total + pad_of x) la; run = c.set_count.ensures ∙ ap₂ (λ (x : List ℕ) (n : ℕ). count_set a.b n x) (k.run ∙ ap₂ (λ (x : OpBatchAccumulator) (y : List ℕ). closed_run a.b x y) la lr) g })
+    let la : l.a ≡ last_acc a.self = sym (filled_none _ l.a (omega arith)) ∙ l.invariant.3 ∙ rw g in
+    let lr : l.records ≡ filled_run (target a.self.next - a.self.next) a.b a.self a.records.now = sym (run_none _ l.a a.b l.records (omega arith)) ∙ l.invariant.4 ∙ rw g in (record { total = k.total ∙ ap (λ (x : OpBatchAccumulator). x.total + pad_of x) la; run = c.set_count.ensures ∙ ap₂ (λ (x : List ℕ) (n : ℕ). count_set a.b n x) (k.run ∙ ap₂ (λ (x : OpBatchAccumulator) (y : List ℕ). closed_run a.b x y) la lr) g })

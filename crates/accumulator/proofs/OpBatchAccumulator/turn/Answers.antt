@@ -5,4 +5,4 @@ use Rattle.accumulator.proofs.OpBatchAccumulator.turn.Goals as goal
 
 pub returns : goal.returns
 unfolding turned_acc
-returns c = c.opened.ensures ∙ ap (λ (n : ℕ). opened_acc (c.args.self.total + n) c.args.self) c.padding-pad.ensures.0
+returns c = c.opened.ensures ∙ ap (λ (n : ℕ). opened_acc (c.args.self.total + n) c.args.self) c.padding.ensures.0
