@@ -13,6 +13,7 @@ use Rattle.refusal.proofs.Told.{one_told}
 use Rattle.wire.specs.declared.Item.{Item}
 use Rattle.wire.specs.declared.Op.{Op}
 use Rattle.wire.specs.Replies.{count_told, op_told}
+use Rattle.tight.proofs.Compare.{one_compared}
 use Rattle.tight.specs.OneAnswer.{OneAnswer}
 
 -- a contract that says what the reply tells admits one reply
@@ -52,7 +53,7 @@ one_answer =
       decode = λ t s at before r q x y h k. (one_told r q (h.reply ∙ sym k.reply), h.runs ∙ sym k.runs);
       decode_strict = λ t s at before r q x y h k. (one_told r q (h.reply ∙ sym k.reply), h.runs ∙ sym k.runs);
       compare =
-          λ t s at u z from a c before r q x y h k. (h.reports.reply ∙ sym k.reports.reply, λ i. ((h.first ∙ sym k.first) i, (h.second ∙ sym k.second) i, (h.reports.report ∙ sym k.reports.report) i));
+          λ t s at u z from a c before r q x y h k. (one_compared r q (h.reports.reply ∙ sym k.reports.reply), λ i. ((h.first ∙ sym k.first) i, (h.second ∙ sym k.second) i, (h.reports.report ∙ sym k.reports.report) i));
       structure = λ a. one_reply _;
       padding = λ a. one_reply _;
       commitment = λ t a. one_reply _;
