@@ -10,11 +10,11 @@ use Rattle.rules.specs.Functions.{Arena, room_in}
 use Rattle.rules.specs.Examples.{table_t, op, pair, over, p1, p2}
 use Rattle.rules.specs.Examples as examples
 use Rattle.rules.specs.Open.{document}
-use Rattle.std.specs.Prelude.{Result, Ok, Err}
+use Rattle.std.specs.Prelude.{Result, Ok}
 use Rattle.rules.specs.Answer.{Answer, good, refused}
 use Rattle.rules.proofs.Answer.{clash, value}
 use Rattle.refusal.specs.declared.Refusal.{Refusal}
-use Rattle.refusal.specs.Told.{number_of, place_of, told}
+use Rattle.refusal.specs.Told.{number_of, place_of}
 use Rattle.refusal.proofs.Told.{one_told}
 use Rattle.encoder.specs.Replies.{encoded_of}
 use Rattle.decoder.specs.declared.Decoded.{Decoded}

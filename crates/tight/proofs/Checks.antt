@@ -4,9 +4,8 @@ use Prim.Native.Nat.{ℕ}
 use native.Mathlib.Omega.{arith}
 use Rattle.rules.specs.Open.{document}
 use Rattle.std.specs.Prelude.{Ok, Err}
-use Rattle.rules.specs.Answer.{Answer, good, refused}
+use Rattle.rules.specs.Answer.{Answer, refused}
 use Rattle.rules.proofs.Answer.{clash}
-use Rattle.refusal.specs.declared.Refusal.{Refusal}
 use Rattle.refusal.specs.declared.Refusal.TheVariants.{BadStructure, BadPadding, BadCommitment, BadValue}
 use Rattle.refusal.specs.Told.{number_of, place_of}
 use Rattle.rules.specs.Examples.{op, pair, p1}

@@ -18,9 +18,8 @@ use Rattle.claims.proofs.Right.{width_8}
 use Rattle.claims.proofs.Arena.{block_in_lem}
 use Rattle.claims.proofs.Demand3.{takes}
 use Rattle.claims.proofs.Claims.{claims_8}
-use Rattle.std.specs.Prelude.{Result, Ok, Err}
+use Rattle.std.specs.Prelude.{Result, Ok}
 use Rattle.refusal.specs.declared.Refusal.{Refusal}
-use Rattle.refusal.specs.Told.{told}
 use Rattle.refusal.proofs.Told.{one_told}
 use Rattle.batcher.specs.declared.Totals.{Totals}
 use Rattle.batcher.specs.Batched.{built_of}

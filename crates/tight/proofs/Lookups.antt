@@ -4,12 +4,11 @@ use mathlib.Core.List.{List}
 use Prim.Native.Nat.{ℕ, ◌+◌}
 use native.Mathlib.Omega.{arith}
 use lib.ListN.{get_or}
-use Rattle.std.specs.Prelude.{Option, Some, None, Result, Ok, Err}
+use Rattle.std.specs.Prelude.{Option, Some, None}
 use Rattle.rules.specs.Answer.{Answer, good, refused}
 use Rattle.rules.specs.Answer as answer
 use Rattle.rules.specs.Operations as rules
 use Rattle.rules.specs.Functions.{raw_tabled, padded_tabled, group_lookup, next_lookup, headed, count_here, op_here}
-use Rattle.rules.specs.Lookups.{raw_at, padded_at, padded_index, raw_index}
 use Rattle.rules.specs.Examples.{table_t, lent, p1, p2, op}
 use Rattle.rules.specs.Open.{document}
 use Rattle.rules.proofs.Answer.{clash, value}
@@ -19,11 +18,9 @@ use Rattle.op_batch.specs.declared.Place.{Place}
 use Rattle.op_batch.specs.OpBatch.{record_in, lookup_of, next_of}
 use Rattle.prefix.specs.declared.PaddedIndex.{PaddedIndex}
 use Rattle.prefix.specs.declared.RawIndex.{RawIndex}
-use Rattle.prefix.specs.Tables.{tabled_of, padded_found, raw_found}
+use Rattle.prefix.specs.Tables.{tabled_of}
 use Rattle.head.specs.declared.Headed.{Headed}
 use Rattle.head.specs.Replies.{head_of}
-use Rattle.wire.specs.declared.Item.{Item}
-use Rattle.wire.specs.declared.Op.{Op}
 use Rattle.tight.specs.Lookups.{three_groups, wrong_count, ShutOut}
 
 -- ---- the right answers

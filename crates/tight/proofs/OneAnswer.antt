@@ -8,7 +8,7 @@ use Rattle.rules.specs.Operations as rules
 use Rattle.claims.specs.One.{Only}
 use Rattle.claims.proofs.One.{equal}
 use Rattle.refusal.specs.declared.Refusal.{Refusal}
-use Rattle.refusal.specs.Told.{told, told_by}
+use Rattle.refusal.specs.Told.{told}
 use Rattle.refusal.proofs.Told.{one_told}
 use Rattle.wire.specs.declared.Item.{Item}
 use Rattle.wire.specs.declared.Op.{Op}
@@ -21,27 +21,27 @@ one_reply : {A : Type 0} (answer : Answer A) → Only (λ (r : Result A Refusal)
 one_reply answer r q h k = one_told r q (h ∙ sym k)
 
 -- an item and the place after it are the rules'
-one_count : (answer : answer.Read ℕ) → Only (λ r. count_told r ≡ answer)
-one_count d r q h k = one_told r q (back r ∙ ap read (h ∙ sym k) ∙ sym (back q))
-  where
-    read : answer.Read ℕ → Answer (Item ℕ)
-    read (good i) = good (record { item = i.item; next = i.next })
-    read (refused n p) = refused n p
+read_count : answer.Read ℕ → Answer (Item ℕ)
+read_count (good i) = good (record { item = i.item; next = i.next })
+read_count (refused n p) = refused n p
 
-    back : (r : Result (Item ℕ) Refusal) → told r ≡ read (count_told r)
-    unfolding read
+read_op : answer.Read rules.Op → Answer (Item Op)
+read_op (good i) = good (record { item = record { code = i.item.code; value = i.item.value }; next = i.next })
+read_op (refused n p) = refused n p
+
+one_count : (answer : answer.Read ℕ) → Only (λ r. count_told r ≡ answer)
+unfolding read_count
+one_count d r q h k = one_told r q (back r ∙ ap read_count (h ∙ sym k) ∙ sym (back q))
+  where
+    back : (r : Result (Item ℕ) Refusal) → told r ≡ read_count (count_told r)
     back (Ok i) = refl
     back (Err e) = refl
 
 one_op : (answer : answer.Read rules.Op) → Only (λ r. op_told r ≡ answer)
-one_op d r q h k = one_told r q (back r ∙ ap read (h ∙ sym k) ∙ sym (back q))
+unfolding read_op
+one_op d r q h k = one_told r q (back r ∙ ap read_op (h ∙ sym k) ∙ sym (back q))
   where
-    read : answer.Read rules.Op → Answer (Item Op)
-    read (good i) = good (record { item = record { code = i.item.code; value = i.item.value }; next = i.next })
-    read (refused n p) = refused n p
-
-    back : (r : Result (Item Op) Refusal) → told r ≡ read (op_told r)
-    unfolding read
+    back : (r : Result (Item Op) Refusal) → told r ≡ read_op (op_told r)
     back (Ok i) = refl
     back (Err e) = refl
 

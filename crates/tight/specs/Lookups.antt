@@ -4,7 +4,7 @@ use Rattle.rules.specs.Lookups.{raw_at, padded_at, padded_index, raw_index}
 use Rattle.rules.specs.Functions.{raw_tabled, padded_tabled, group_lookup, next_lookup, headed, count_here, op_here}
 use Rattle.rules.specs.Examples.{table_t, lent, p1, p2}
 use Rattle.refusal.specs.declared.Refusal.{Refusal}
-use Rattle.refusal.specs.Told.{number_of, place_of, told}
+use Rattle.refusal.specs.Told.{number_of, told}
 use Rattle.op_batch.specs.declared.OpBatch.{OpBatch}
 use Rattle.op_batch.specs.declared.Place.{Place}
 use Rattle.op_batch.specs.OpBatch.{record_in, lookup_of, next_of}
