@@ -3,29 +3,26 @@ use mathlib.Core.Path.{◌≡◌, sym, ap, ◌∙◌}
 use mathlib.Core.Bool.{Bool, true, false}
 use mathlib.Core.List.{List, map}
 use mathlib.Core.Logic.{◌⊎◌, inl, inr}
-use Prim.Native.Nat.{ℕ, ◌+◌, ◌-◌, ◌*◌, ◌/◌, ◌≤◌, ◌<◌}
+use Prim.Native.Nat.{ℕ, ◌+◌, ◌-◌, ◌/◌, ◌≤◌, ◌<◌}
 use native.Mathlib.Omega.{arith}
 use borrow.Author.Tests.{lt-ltb, le-ltb}
 use lib.ListN.{length}
 use lib.Dec.{ltb}
 use lib.Seq.{sets}
-use Rattle.std.specs.Prelude.{Result}
+use Rattle.std.specs.Prelude.{Result, All}
 use Rattle.std.proofs.lemmas.List.Elements.{All-from_get_or}
 use Rattle.rules.specs.Answer.{Answer, good, refused, refuse}
 use Rattle.rules.specs.Refusals.{past_end₁, over_limit₃, no_room₁₃, bad_table₁₄}
 use Rattle.rules.specs.Operations.{good_table, op_fault}
-use Rattle.rules.specs.Record.{record_size}
-use Rattle.rules.specs.Bytes.{more}
+use Rattle.rules.specs.Record.{record_size, record_at}
 use Rattle.rules.specs.Block.{block_bytes}
-use Rattle.rules.specs.Checks.{structure_faults}
+use Rattle.rules.specs.Checks.{record_right, structure_faults}
 use Rattle.rules.specs.Functions.{Arena, arena, block_in, within, encoded, written}
 use Rattle.refusal.specs.declared.Refusal.{Refusal}
 use Rattle.refusal.specs.Told.{told}
 use Rattle.checks.proofs.Walk.{equal_lengths, few_codes, few_records}
-use Rattle.checks.proofs.Passed.{and_then, first_then, structure_stage, admissible_stage, structured, all_fit, apt}
+use Rattle.checks.proofs.Passed.{and_then, first_then, structure_stage, admissible_stage, structured, apt}
 use Rattle.encoder.specs.Replies.{encoded_of, Encodes}
-use Rattle.encoder.specs.Parts.{Looked, ops_size}
-use Rattle.encoder.proofs.Items.{block_length}
 
 -- ---- what is looked at first
 
@@ -65,18 +62,22 @@ module _ (t cs vs rs : List ℕ) (size at : ℕ) where
           pub encoded_4 : (n p : ℕ) → refused n p ≡ admissible_stage t a → encoded 8 t a size at ≡ refused n p
           encoded_4 n p f = rw (stages, ← e, ← f)
 
-          pub looked : good tt ≡ admissible_stage t a → Looked t a size at
-          looked f =
-              let q = equal_lengths cs vs rs w in
-              record {
-                left = rw (stages, ← e, ← f);
-                inside = i;
-                equal = q;
-                few = few_codes cs vs rs w;
-                batches = few_records cs vs rs w;
-                fit = all_fit 8 cs vs rs (omega arith) (structured 8 cs vs rs (good tt) tt (sym e)).0;
-                assigned = All-from_get_or (λ c. c < 128) cs 0 (apt t cs vs g q (sym f)).codes;
-              }
+          module _ (f : good tt ≡ admissible_stage t a) where
+            pub encoded_left : encoded 8 t a size at ≡ last
+            encoded_left = rw (stages, ← e, ← f)
+
+            -- what the block is then
+            pub even : length cs ≡ length vs
+            even = equal_lengths cs vs rs w
+
+            pub few : (length cs ≤ 65535) × (length rs / record_size ≤ 16384)
+            few = (few_codes cs vs rs w, few_records cs vs rs w)
+
+            pub known : All (λ c. c < 128) cs
+            known = All-from_get_or (λ c. c < 128) cs 0 (apt t cs vs g even (sym f)).codes
+
+            pub right : (b : ℕ) → b < length rs / record_size → record_right 8 (record_at rs b) ≡ true
+            right = (structured 8 cs vs rs (good tt) tt (sym e)).0.right
 
 -- ---- what is answered and left
 
@@ -85,25 +86,14 @@ module _ {t : List ℕ} {a : Arena} {at : ℕ} {out : List ℕ} where
   unfolding written
   encodes_lost d h = record { reply = h ∙ sym (ap encoded_of d); bytes = sym (ap (written out at) d) }
 
-  encodes_found : {bytes out' : List ℕ} {r : Result ℕ Refusal} → encoded 8 t a (length out) at ≡ good bytes → told r ≡ good (length bytes) → out' ≡ sets out at bytes → Encodes t a at out out' r
+  pub encodes_found : {bytes out' : List ℕ} {r : Result ℕ Refusal} → encoded 8 t a (length out) at ≡ good bytes → told r ≡ good (length bytes) → out' ≡ sets out at bytes → Encodes t a at out out' r
   unfolding written
   encodes_found d h k = record { reply = h ∙ sym (ap encoded_of d); bytes = k ∙ sym (ap (written out at) d) }
 
--- the block takes n bytes
-module _ (t cs vs rs : List ℕ) (size at : ℕ) (l : Looked t (arena cs vs rs) size at) (n : ℕ) (e : n ≡ 5 * (length rs / record_size) + 4 + (more (length cs) + 1) + ops_size t cs) where
-  bytes_long : length (block_bytes t (block_in (arena cs vs rs))) ≡ n
-  bytes_long = block_length t cs vs rs l.equal ∙ sym e
+-- whether a buffer has room for these bytes
+module _ (bytes : List ℕ) {size at : ℕ} (i : at ≤ size) where
+  pub no_room : size - at < length bytes → refuse (ltb size (at + length bytes)) no_room₁₃ 0 (good bytes) ≡ refused no_room₁₃ 0
+  no_room h = rw (lt-ltb size (at + length bytes) (omega arith))
 
-  pub room : n ≤ size - at → at + length (block_bytes t (block_in (arena cs vs rs))) ≤ size
-  room h = omega (arith, l.inside, bytes_long)
-
-module _ {t cs vs rs : List ℕ} {at : ℕ} {out : List ℕ} (l : Looked t (arena cs vs rs) (length out) at) {n : ℕ} (e : n ≡ 5 * (length rs / record_size) + 4 + (more (length cs) + 1) + ops_size t cs) where
-  pub encodes_13 : {r : Result ℕ Refusal} → length out - at < n → told r ≡ refused no_room₁₃ 0 → Encodes t (arena cs vs rs) at out out r
-  encodes_13 h k =
-      let b = block_bytes t (block_in (arena cs vs rs)) in
-      encodes_lost (l.left ∙ rw (lt-ltb (length out) (at + length b) (omega (arith, l.inside, bytes_long t cs vs rs (length out) at l n e)))) k
-
-  pub encodes_good : {out' : List ℕ} {r : Result ℕ Refusal} → n ≤ length out - at → told r ≡ good n → out' ≡ sets out at (block_bytes t (block_in (arena cs vs rs))) → Encodes t (arena cs vs rs) at out out' r
-  encodes_good h k o =
-      let b = block_bytes t (block_in (arena cs vs rs)) in
-      encodes_found (l.left ∙ rw (le-ltb (length out) (at + length b) (room t cs vs rs (length out) at l n e h))) (k ∙ ap good (sym (bytes_long t cs vs rs (length out) at l n e))) o
+  pub room : length bytes ≤ size - at → refuse (ltb size (at + length bytes)) no_room₁₃ 0 (good bytes) ≡ good bytes
+  room h = rw (le-ltb size (at + length bytes) (omega arith))

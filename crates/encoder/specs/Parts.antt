@@ -1,22 +1,12 @@
--- What the encoder's parts say and are asked: cited by the contracts of private functions only.
-use Rattle.std.specs.Prelude.{◌≡◌, cond, List, ℕ, ◌+◌, ◌/◌, ◌≤◌, ◌<◌, length, ltb, All, sum_by}
-use Rattle.rules.specs.Answer.{good, refuse}
+-- What the encoder's parts say: cited by the contracts of private functions only.
+use Rattle.std.specs.Prelude.{cond, List, ℕ, ◌+◌, length, ltb, sum_by}
+use Rattle.rules.specs.Answer.{Answer, good, refuse}
 use Rattle.rules.specs.Refusals.{no_room₁₃}
-use Rattle.rules.specs.Operations.{valued}
-use Rattle.rules.specs.Record.{record_size}
+use Rattle.rules.specs.Operations.{operations, valued}
+use Rattle.rules.specs.Bytes.{ops_bytes}
 use Rattle.rules.specs.Block.{block_bytes}
-use Rattle.rules.specs.Functions.{Arena, block_in, encoded}
-use Rattle.checks.specs.Batch.{AllFit}
-
--- nothing was refused of what is looked at before the block's length
-pub record Looked (t : List ℕ) (a : Arena) (size at : ℕ) : Type 0 where
-  pub left : encoded 8 t a size at ≡ refuse (ltb size (at + length (block_bytes t (block_in a)))) no_room₁₃ 0 (good (block_bytes t (block_in a)))
-  pub inside : at ≤ size
-  pub equal : length a.codes ≡ length a.values
-  pub few : length a.codes ≤ 65535
-  pub batches : length a.records / record_size ≤ 16384
-  pub fit : AllFit a.records
-  pub assigned : All (λ c. c < 128) a.codes
+use Rattle.rules.specs.Functions.{arena, block_in}
+use Rattle.encoder.specs.declared.input.Input.{Input}
 
 -- how many bytes an operation with this opcode takes: "1 or 9 per operation"
 abbrev pub op_size : List ℕ → ℕ → ℕ
@@ -25,3 +15,14 @@ op_size t c = cond (valued t c) 9 1
 -- and operations with these opcodes
 abbrev pub ops_size : List ℕ → List ℕ → ℕ
 ops_size t cs = sum_by (op_size t) cs
+
+-- the bytes of its operations, and of the whole block
+abbrev pub ops_of : Input → List ℕ
+ops_of i = ops_bytes i.table.now (operations i.codes.now i.values.now)
+
+abbrev pub bytes_of : Input → List ℕ
+bytes_of i = block_bytes i.table.now (block_in (arena i.codes.now i.values.now i.records.now))
+
+-- what is left of the answer for a buffer of some size once nothing that is looked at first was refused
+abbrev pub left_of : Input → ℕ → ℕ → Answer (List ℕ)
+left_of i size at = refuse (ltb size (at + length (bytes_of i))) no_room₁₃ 0 (good (bytes_of i))
