@@ -100,10 +100,14 @@ module _ (s t cs : List ℕ) (h : few_words s ≡ true) (os wk rs ov : List ℕ)
   unfolding room_in
   fits_work = built_short t cs (words_in s) before
 
-  pub builds_out : (r : BuildReply) (os' wk' rs' ov' : List ℕ) → Builds (built 8 t cs (words_in s)) r (arena os wk rs) (arena os' wk' rs') → ov' ≡ fitted (length ov) (word_bytes wk')
+  written : (r : BuildReply) (os' wk' rs' ov' : List ℕ) → Builds (built 8 t cs (words_in s)) r (arena os wk rs) (arena os' wk' rs') → ov' ≡ fitted (length ov) (word_bytes wk')
       → BuildsBytes (λ (room : Room). whole_words s (built 8 t cs (words_in s) room)) r (arena os ov rs) (arena os' ov' rs')
-  builds_out r os' wk' rs' ov' d o =
+  written r os' wk' rs' ov' d o =
       record {
         reply = d.reply ∙ ap build_reply same_room;
         runs = arena_out os wk rs ov _ os' wk' rs' ov' fits_work d.runs o ∙ ap (λ (x : Answer Block). filled_bytes (arena os ov rs) (leaves no_block x)) same_room;
       }
+
+pub builds_out : (s t cs : List ℕ) → few_words s ≡ true → {os wk rs ov os' wk' rs' ov' : List ℕ} {r : BuildReply} → Builds (built 8 t cs (words_in s)) r (arena os wk rs) (arena os' wk' rs')
+    → length wk ≡ min (length ov / 8) 65536 → ov' ≡ fitted (length ov) (word_bytes wk') → BuildsBytes (λ (room : Room). whole_words s (built 8 t cs (words_in s) room)) r (arena os ov rs) (arena os' ov' rs')
+builds_out s t cs h {os} {wk} {rs} {ov} {os'} {wk'} {rs'} {ov'} {r} d e o = written s t cs h os wk rs ov e r os' wk' rs' ov' d o

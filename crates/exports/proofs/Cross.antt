@@ -1,42 +1,61 @@
--- A reply made from the library's enum is the reply made from the definitions' answer. Assumes nothing.
+-- A reply made from what the library's own reply tells is the reply made from the definitions' answer. Assumes nothing.
 use mathlib.Core.Path.{◌≡◌, refl, ap, ◌∙◌}
 use mathlib.Core.List.{List}
 use mathlib.Core.Option.{Option, none, some}
 use Prim.Native.Nat.{ℕ}
+use lib.ListN.{length}
 use lib.IntN.{ℤ}
 use Rattle.rules.specs.Answer.{Answer, good, refused, Read}
 use Rattle.rules.specs.Record.{Block, no_block}
-use Rattle.rules.specs.Block.{Head}
+use Rattle.rules.specs.Block.{Room, Head}
 use Rattle.rules.specs.Lookups.{Place, Raw, raw_at, Padded, padded_at}
 use Rattle.rules.specs.Functions as rule
-use Rattle.rules.specs.Functions.{Arena, reported, refused_by}
-use Rattle.operation.specs.Verdict.{verdict_of}
-use Rattle.build.specs.Outcome.{built_of}
-use Rattle.encoder.specs.Replies.{encoded_of}
+use Rattle.rules.specs.Functions.{Arena, room_in, encoded, reported, refused_by}
+use Rattle.std.specs.Prelude.{Result}
+use Rattle.refusal.specs.declared.Refusal.{Refusal}
+use Rattle.refusal.specs.Told.{told}
+use Rattle.batcher.specs.declared.Totals.{Totals}
+use Rattle.batcher.specs.Batched.{built_of}
+use Rattle.build.specs.Outcome.{Outcome}
+use Rattle.encoder.specs.Replies.{encoded_of, Encodes}
+use Rattle.decoder.specs.declared.Decoded.{Decoded}
 use Rattle.decoder.specs.Replies.{decoded_of}
+use Rattle.decoder.specs.Replies as decoder
 use Rattle.head.specs.Replies.{head_of}
-use Rattle.comparison.specs.declared.Compared.{Compared}
+use Rattle.prefix.specs.Tables.{tabled_of, padded_found, raw_found}
+use Rattle.comparison.specs.declared.Refused.{Refused}
 use Rattle.comparison.specs.Replies.{compared_of}
 use Rattle.comparison.specs.Replies as comparison
-use Rattle.prefix.specs.Tables.{tabled_of, padded_found, raw_found}
 use Rattle.op_batch.specs.OpBatch.{lookup_of, next_of}
+use Rattle.exports.specs.declared.BuildReply.{BuildReply}
 use Rattle.exports.specs.declared.CompareReply.{CompareReply}
-use Rattle.exports.specs.Replies.{build_reply, encode_reply, decode_reply, head_reply, compare_reply, Compares, check_reply, table_reply, padded_reply, raw_reply, group_reply, next_reply}
-use Rattle.exports.specs.Flat.{flat_built, flat_encoded, flat_decoded, flat_headed, flat_compared, flat_verdict, flat_tabled, flat_padded, flat_raw, flat_group, flat_next}
+use Rattle.exports.specs.declared.EncodeReply.{EncodeReply}
+use Rattle.exports.specs.declared.DecodeReply.{DecodeReply}
+use Rattle.exports.specs.Replies.{build_reply, Builds, encode_reply, Writes, decode_reply, Reads, head_reply, compare_reply, Compares, table_reply, padded_reply, raw_reply, group_reply, next_reply}
+use Rattle.exports.specs.Flat.{flat_built, flat_encoded, flat_decoded, flat_headed, flat_compared, flat_tabled, flat_padded, flat_raw, flat_group, flat_next}
 
-pub cross_built : (d : Answer Block) → flat_built (built_of d) ≡ build_reply d
+cross_built : (d : Answer Block) → flat_built (built_of d) ≡ build_reply d
 unfolding no_block
 cross_built (good b) = refl
 cross_built (refused n p) = refl
 
-pub cross_encoded : (d : Answer (List ℕ)) → flat_encoded (encoded_of d) ≡ encode_reply d
+pub cross_builds : {answer : Room → Answer Block} {r : Result Totals Refusal} {reply : BuildReply} {before after : Arena} → reply ≡ flat_built (told r) → Outcome answer r before after → Builds answer reply before after
+cross_builds {answer} {before = before} e h = record { reply = e ∙ (ap flat_built h.reply ∙ cross_built (answer (room_in before))); runs = h.runs }
+
+cross_encoded : (d : Answer (List ℕ)) → flat_encoded (encoded_of d) ≡ encode_reply d
 cross_encoded (good bytes) = refl
 cross_encoded (refused n p) = refl
 
-pub cross_decoded : (at : ℕ) (d : Read Block) → flat_decoded (decoded_of at d) ≡ decode_reply at d
+pub cross_writes : {t : List ℕ} {a : Arena} {at : ℕ} {before after : List ℕ} {r : Result ℕ Refusal} {reply : EncodeReply} → reply ≡ flat_encoded (told r) → Encodes t a at before after r → Writes (encoded 8 t a (length before) at) at reply before after
+cross_writes {t} {a} {at} {before} e h = record { reply = e ∙ (ap flat_encoded h.reply ∙ cross_encoded (encoded 8 t a (length before) at)); bytes = h.bytes }
+
+cross_decoded : (at : ℕ) (d : Read Block) → flat_decoded (decoded_of at d) ≡ decode_reply at d
 unfolding no_block
 cross_decoded at (good i) = refl
 cross_decoded at (refused n p) = refl
+
+pub cross_reads : {answer : Room → Read Block} {at : ℕ} {r : Result Decoded Refusal} {reply : DecodeReply} {before after : Arena} → reply ≡ flat_decoded (told r) → decoder.Reads answer at before after r → Reads answer at reply before after
+cross_reads {answer} {at} {before = before} e h = record { reply = e ∙ (ap flat_decoded h.reply ∙ cross_decoded at (answer (room_in before))); runs = h.runs }
 
 pub cross_headed : (d : Read Head) → flat_headed (head_of d) ≡ head_reply d
 cross_headed (good i) = refl
@@ -46,9 +65,8 @@ cross_compared : (d : rule.Compared) → flat_compared (compared_of d) ≡ compa
 cross_compared (reported es) = refl
 cross_compared (refused_by m n p) = refl
 
--- and so compare's contract
-pub cross_compares : {answer : rule.Compared} {a a' c c' : Arena} {out out' : List ℤ} {d : Compared} {r : CompareReply}
-    → r ≡ flat_compared d → comparison.Compares answer a a' c c' out out' d → Compares answer r a a' c c' out out'
+pub cross_compares : {answer : rule.Compared} {a a' c c' : Arena} {out out' : List ℤ} {r : Result ℕ Refused} {reply : CompareReply}
+    → reply ≡ flat_compared (comparison.told r) → comparison.Compares answer a a' c c' out out' r → Compares answer reply a a' c c' out out'
 cross_compares {answer} e h =
     record {
       reply = e ∙ (ap flat_compared h.reports.reply ∙ cross_compared answer);
@@ -56,10 +74,6 @@ cross_compares {answer} e h =
       second = h.second;
       report = h.reports.report;
     }
-
-pub cross_verdict : (d : Answer Unit) → flat_verdict (verdict_of d) ≡ check_reply d
-cross_verdict (good u) = refl
-cross_verdict (refused n p) = refl
 
 pub cross_tabled : (d : Answer (List ℕ)) → flat_tabled (tabled_of d) ≡ table_reply d
 cross_tabled (good es) = refl

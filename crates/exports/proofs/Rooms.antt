@@ -1,5 +1,5 @@
 -- Outputs that cross as bytes: what the work space holds, written out, is what the definitions say of the bytes. Assumes nothing.
-use mathlib.Core.Path.{◌≡◌, refl, sym, ap, ◌∙◌}
+use mathlib.Core.Path.{◌≡◌, refl, sym, ap, ◌∙◌, subst}
 use mathlib.Core.Bool.{Bool, true, false, not, ◌&&◌}
 use mathlib.Core.List.{List, [], ◌∷◌, ◌++◌, append_assoc, map}
 use Prim.Native.Nat.{ℕ, zero, suc, ◌+◌, ◌-◌, ◌*◌, ◌/◌, ◌≤◌, min, zero-le}
@@ -25,7 +25,9 @@ use Rattle.claims.proofs.ReadThenChecked.{count_limit, ops_allowed}
 use Rattle.wire.specs.Stages.{IfFound}
 use Rattle.wire.proofs.Stages.{if_then, if_refuse, held}
 use Rattle.rules.proofs.Sizes.{length_values}
-use Rattle.exports.specs.Replies.{decode_reply, Reads, read_by, room_bytes, filled_bytes, ReadsBytes}
+use Rattle.std.specs.Fn.{Once}
+use Rattle.exports.specs.Through.{Lent, arena_of, ReadThrough}
+use Rattle.exports.specs.Replies.{decode_reply, Reads, room_bytes, filled_bytes, ReadsBytes}
 use Rattle.exports.specs.declared.DecodeReply.{DecodeReply}
 
 -- ---- zeros after the numbers are zeros after their bytes
@@ -83,10 +85,9 @@ module _ (t s : List ℕ) (at c k r : ℕ) where
   unfolding decoded block_at
   decoded_same = rw head_same
 
-  read_same : (strict : Bool) → read_by strict t s at (rooms (min k 65536)) ≡ read_by strict t s at (rooms k)
+  strictly_same : strictly_decoded 8 t s at (rooms (min k 65536)) ≡ strictly_decoded 8 t s at (rooms k)
   unfolding strictly_decoded
-  read_same true = ap (λ (d : Read Block). d then λ b next. refuse_unfinished 8 t b (found b next)) decoded_same
-  read_same false = decoded_same
+  strictly_same = ap (λ (d : Read Block). d then λ b next. refuse_unfinished 8 t b (found b next)) decoded_same
 
 -- and a block that was read fits
 if_first : {A : Type 0} (P : A → ℕ → Type 0) (i : ℕ) (ns : List ℕ) (d : Read A) → IfFound P d → IfFound P (refuse_first i ns d)
@@ -110,12 +111,22 @@ module _ (t s : List ℕ) (at : ℕ) (room : Room) where
       if_then _ (head_at t s at room) _ (λ h a₁ e. if_then _ (layout_at 8 s h.batches a₁) _ (λ l a₂ f. if_then _ (batches_by 8 t h.ops l) _ (λ rs n g.
       held _ (head_at t s at room) h a₁ e head_fits))))))
 
-  read_fits : (strict : Bool) → IfFound (λ (b : Block) (next : ℕ). length b.ops ≤ room.values) (read_by strict t s at room)
+  strictly_fits : IfFound (λ (b : Block) (next : ℕ). length b.ops ≤ room.values) (strictly_decoded 8 t s at room)
   unfolding strictly_decoded refuse_unfinished
-  read_fits true =
+  strictly_fits =
       if_then _ (decoded 8 t s at room) _ (λ b next e. if_refuse _ (not (listable (own_list b))) unfinished₁₈ 0 _ (λ _. if_first _ 0 (differing b.records (map record_of (batches_of 8 t (own_list b)))) (found b next)
       (held _ (decoded 8 t s at room) b next e decoded_fits)))
-  read_fits false = decoded_fits
+
+-- what is read needs no more room, and fits the room that it had
+pub record Bounded (answer : Room → Read Block) : Type 0 where
+  pub same : (c k r : ℕ) → answer (record { codes = c; values = min k 65536; records = r }) ≡ answer (record { codes = c; values = k; records = r })
+  pub fits : (room : Room) → IfFound (λ (b : Block) (next : ℕ). length b.ops ≤ room.values) (answer room)
+
+pub decoded_bounded : (t s : List ℕ) (at : ℕ) → Bounded (decoded 8 t s at)
+decoded_bounded t s at = record { same = decoded_same t s at; fits = decoded_fits t s at }
+
+pub strictly_bounded : (t s : List ℕ) (at : ℕ) → Bounded (strictly_decoded 8 t s at)
+strictly_bounded t s at = record { same = strictly_same t s at; fits = strictly_fits t s at }
 
 left_fits : (m : ℕ) (d : Read Block) → IfFound (λ (b : Block) (next : ℕ). length b.ops ≤ m) d → length (leaves no_block (item_of d)).ops ≤ m
 unfolding no_block
@@ -124,19 +135,24 @@ left_fits m (refused n p) h = zero-le
 
 -- ---- decode
 
-module _ (strict : Bool) (t s : List ℕ) (at : ℕ) (os wk rs ov : List ℕ) (e : length wk ≡ min (length ov / 8) 65536) where
-  same_room : read_by strict t s at (room_in (arena os wk rs)) ≡ read_by strict t s at (room_bytes (arena os ov rs))
+module _ {answer : Room → Read Block} (k : Bounded answer) (at : ℕ) (os wk rs ov : List ℕ) (e : length wk ≡ min (length ov / 8) 65536) where
+  same_room : answer (room_in (arena os wk rs)) ≡ answer (room_bytes (arena os ov rs))
   unfolding room_in room_bytes
-  same_room = rw e (read_same t s at (length os) (length ov / 8) (length rs / record_size) strict)
+  same_room = rw e (k.same (length os) (length ov / 8) (length rs / record_size))
 
-  fits_work : length (leaves no_block (item_of (read_by strict t s at (room_in (arena os wk rs))))).ops ≤ length wk
+  fits_work : length (leaves no_block (item_of (answer (room_in (arena os wk rs))))).ops ≤ length wk
   unfolding room_in
-  fits_work = left_fits (length wk) (read_by strict t s at (room_in (arena os wk rs))) (read_fits t s at (room_in (arena os wk rs)) strict)
+  fits_work = left_fits (length wk) (answer (room_in (arena os wk rs))) (k.fits (room_in (arena os wk rs)))
 
-  pub reads_out : (r : DecodeReply) (os' wk' rs' ov' : List ℕ) → Reads (read_by strict t s at) at r (arena os wk rs) (arena os' wk' rs') → ov' ≡ fitted (length ov) (word_bytes wk')
-      → ReadsBytes (read_by strict t s at) at r (arena os ov rs) (arena os' ov' rs')
-  reads_out r os' wk' rs' ov' d o =
+  written : (r : DecodeReply) (os' wk' rs' : List ℕ) → Reads answer at r (arena os wk rs) (arena os' wk' rs') → ReadsBytes answer at r (arena os ov rs) (arena os' (fitted (length ov) (word_bytes wk')) rs')
+  written r os' wk' rs' d =
       record {
         reply = d.reply ∙ ap (decode_reply at) same_room;
-        runs = arena_out os wk rs ov _ os' wk' rs' ov' fits_work d.runs o ∙ ap (λ (x : Read Block). filled_bytes (arena os ov rs) (leaves no_block (item_of x))) same_room;
+        runs = arena_out os wk rs ov _ os' wk' rs' _ fits_work d.runs refl ∙ ap (λ (x : Read Block). filled_bytes (arena os ov rs) (leaves no_block (item_of x))) same_room;
       }
+
+pub reads_out : {answer : Room → Read Block} → Bounded answer → {at : ℕ} {F : Type 0} {g : Once F Lent (DecodeReply × Lent)} {read : F} {r : DecodeReply} {before after : Arena} (h : ReadThrough g read r before after)
+    → Reads answer at r (arena_of h.lent) (arena_of h.left) → ReadsBytes answer at r before after
+reads_out {answer} k {at} {r = r} {before} h d =
+    let l = arena_of h.left in
+    rw h.after_is (written k at before.codes h.lent.1.0.now before.records before.values h.room r l.codes l.values l.records (subst (λ (b : Arena). Reads answer at r b l) h.before_is d))

@@ -12,25 +12,30 @@ use Rattle.rules.specs.Answer.{Answer, good, refuse_first}
 use Rattle.rules.specs.Record.{word_bytes, record_size}
 use Rattle.rules.specs.Checks.{structure_faults, padding_faults}
 use Rattle.rules.specs.Lookups.{marks, raw_entries, padded_entries, raw_table, padded_table}
-use Rattle.rules.specs.Functions.{Arena, block_in, within, structure_checked, table_of, table_left, leaves}
+use Rattle.rules.specs.Functions.{Arena, arena, block_in, within, structure_checked, table_of, table_left, leaves}
 use Rattle.rules.proofs.Operations.{true_left, true_right}
+use Rattle.prefix.specs.declared.Prefix.{Prefix}
+use Rattle.prefix.specs.declared.Prefix.TheVariants.{RawToPadded, PaddedToRaw}
 use Rattle.prefix.specs.Tables.{table_by, table_from}
 use Rattle.prefix.proofs.Claims.{all_marked}
-use Rattle.exports.specs.Replies.{table_reply, TablesBytes}
+use denote.Ref.{MutBor}
+use Rattle.std.specs.Fn.{Once}
+use Rattle.exports.specs.Through.{Entries, TableThrough}
+use Rattle.exports.specs.Replies.{table_reply, Tables, TablesBytes}
 use Rattle.exports.specs.declared.TableReply.{TableReply}
 use Rattle.exports.proofs.Guards.{same_refuse, same_first, short_refuse, short_first}
 use Rattle.exports.proofs.Rooms.{written_out}
 
 -- ---- the longest table
 
-entries : (padded : Bool) (k : ℕ) (ms : List Bool) → length (table_from padded k ms) ≤ suc (length ms)
+entries : (which : Prefix) (k : ℕ) (ms : List Bool) → length (table_from which k ms) ≤ suc (length ms)
 unfolding raw_entries padded_entries
-entries true k [] = omega arith
-entries true k (true ∷ ms) = omega (arith, entries true (k + 1) ms)
-entries true k (false ∷ ms) = omega (arith, entries true k ms)
-entries false k [] = omega arith
-entries false k (true ∷ ms) = omega (arith, entries false (k + 1) ms)
-entries false k (false ∷ ms) = omega (arith, entries false k ms)
+entries PaddedToRaw k [] = omega arith
+entries PaddedToRaw k (true ∷ ms) = omega (arith, entries PaddedToRaw (k + 1) ms)
+entries PaddedToRaw k (false ∷ ms) = omega (arith, entries PaddedToRaw k ms)
+entries RawToPadded k [] = omega arith
+entries RawToPadded k (true ∷ ms) = omega (arith, entries RawToPadded (k + 1) ms)
+entries RawToPadded k (false ∷ ms) = omega (arith, entries RawToPadded k ms)
 
 few_operations : (a : Arena) → within a ≡ true → length a.codes ≤ 65535
 unfolding within
@@ -39,18 +44,18 @@ few_operations a h =
     let b = leb (length a.codes) 65535 in
     leb-true (length a.codes) 65535 (true_left b r (true_right (eqb (length a.codes) (length a.values)) (b && r) h))
 
-module _ (padded : Bool) (a : Arena) where
-  by_marks : (p : Bool) → length (table_by p (block_in a)) ≤ suc (length (marks (block_in a).records))
+module _ (which : Prefix) (a : Arena) where
+  by_marks : (p : Prefix) → length (table_by p (block_in a)) ≤ suc (length (marks (block_in a).records))
   unfolding raw_table padded_table
-  by_marks true = entries true 0 (marks (block_in a).records)
-  by_marks false = entries false 0 (marks (block_in a).records)
+  by_marks PaddedToRaw = entries PaddedToRaw 0 (marks (block_in a).records)
+  by_marks RawToPadded = entries RawToPadded 0 (marks (block_in a).records)
 
-  longest : not (within a) ≡ false → ◌≡◌ {A = Answer Unit} (refuse_first 0 (structure_faults 8 (block_in a)) (good tt)) (good tt) → length (table_by padded (block_in a)) ≤ 65536
+  longest : not (within a) ≡ false → ◌≡◌ {A = Answer Unit} (refuse_first 0 (structure_faults 8 (block_in a)) (good tt)) (good tt) → length (table_by which (block_in a)) ≤ 65536
   unfolding structure_checked
   longest w s =
       let h = not-false (within a) w in
       let checked : structure_checked 8 a ≡ good tt = rw h s in
-      omega (arith, by_marks padded, all_marked 8 (omega arith) a checked, few_operations a h)
+      omega (arith, by_marks which, all_marked 8 (omega arith) a checked, few_operations a h)
 
   ltb_min : (k m : ℕ) → m ≤ 65536 → ltb (min k 65536) m ≡ ltb k m
   ltb_min k m h = go (ltb k m) refl
@@ -59,30 +64,37 @@ module _ (padded : Bool) (a : Arena) where
       go true e = lt-ltb (min k 65536) m (omega (arith, ltb-true k m e))
       go false e = le-ltb (min k 65536) m (omega (arith, ltb-false k m e))
 
-  table_same : (k : ℕ) → table_of (table_by padded) 8 a (min k 65536) ≡ table_of (table_by padded) 8 a k
+  table_same : (k : ℕ) → table_of (table_by which) 8 a (min k 65536) ≡ table_of (table_by which) 8 a k
   unfolding table_of
   table_same k =
       same_refuse (not (within a)) 3 0 _ _ (λ w. same_first 0 (structure_faults 8 (block_in a)) _ _ (λ s. same_first 0 (padding_faults (block_in a)) _ _ (λ _.
-      rw (ltb_min k (length (table_by padded (block_in a))) (longest w s)))))
+      rw (ltb_min k (length (table_by which (block_in a))) (longest w s)))))
 
 -- a table that was made fits
-table_short : (m : ℕ) (padded : Bool) (a : Arena) → length (leaves [] (table_of (table_by padded) 8 a m)) ≤ m
+table_short : (m : ℕ) (which : Prefix) (a : Arena) → length (leaves [] (table_of (table_by which) 8 a m)) ≤ m
 unfolding table_of
-table_short m padded a =
+table_short m which a =
     let size : Answer (List ℕ) → ℕ = λ d. length (leaves [] d) in
     short_refuse size m (λ n p. zero-le) (not (within a)) 3 0 _ (λ _. short_first size m (λ n p. zero-le) 0 (structure_faults 8 (block_in a)) _ (short_first size m (λ n p. zero-le) 0 (padding_faults (block_in a)) _
-    (short_refuse size m (λ n p. zero-le) (ltb m (length (table_by padded (block_in a)))) 13 0 _ (λ b. ltb-false m (length (table_by padded (block_in a))) b))))
+    (short_refuse size m (λ n p. zero-le) (ltb m (length (table_by which (block_in a)))) 13 0 _ (λ b. ltb-false m (length (table_by which (block_in a))) b))))
 
 -- ---- a table written out
 
-module _ (padded : Bool) (a : Arena) (wk ov : List ℕ) (e : length wk ≡ min (length ov / 8) 65536) where
-  pub tables_out : (r : TableReply) (wk' ov' : List ℕ) → r ≡ table_reply (table_of (table_by padded) 8 a (length wk)) → wk' ≡ table_left wk (table_of (table_by padded) 8 a (length wk))
-      → ov' ≡ fitted (length ov) (word_bytes wk') → TablesBytes (table_of (table_by padded) 8 a (length ov / 8)) r ov ov'
+module _ (which : Prefix) (a : Arena) (wk ov : List ℕ) (e : length wk ≡ min (length ov / 8) 65536) where
+  tables_out : (r : TableReply) (wk' ov' : List ℕ) → r ≡ table_reply (table_of (table_by which) 8 a (length wk)) → wk' ≡ table_left wk (table_of (table_by which) 8 a (length wk))
+      → ov' ≡ fitted (length ov) (word_bytes wk') → TablesBytes (table_of (table_by which) 8 a (length ov / 8)) r ov ov'
   unfolding table_left
   tables_out r wk' ov' x y z =
-      let d = table_of (table_by padded) 8 a (length wk) in
-      let same : d ≡ table_of (table_by padded) 8 a (length ov / 8) = rw e (table_same padded a (length ov / 8)) in
+      let d = table_of (table_by which) 8 a (length wk) in
+      let same : d ≡ table_of (table_by which) 8 a (length ov / 8) = rw e (table_same which a (length ov / 8)) in
       record {
         reply = x ∙ ap table_reply same;
-        left = z ∙ ap (λ (l : List ℕ). fitted (length ov) (word_bytes l)) y ∙ written_out (length ov) (length wk) (leaves [] d) (table_short (length wk) padded a) ∙ ap (λ (q : Answer (List ℕ)). fitted (length ov) (word_bytes (leaves [] q))) same;
+        left = z ∙ ap (λ (l : List ℕ). fitted (length ov) (word_bytes l)) y ∙ written_out (length ov) (length wk) (leaves [] d) (table_short (length wk) which a) ∙ ap (λ (q : Answer (List ℕ)). fitted (length ov) (word_bytes (leaves [] q))) same;
       }
+
+pub table_out : (which : Prefix) (cs rs : List ℕ) {numbers : List ℕ} {F : Type 0} {g : Once F Entries (TableReply × (MutBor (List ℕ) × Unit {0}))} {table : F} {r : TableReply} {before after : List ℕ} (h : TableThrough g table numbers r before after)
+    → Tables (table_of (table_by which) 8 (arena cs h.lent.0.now rs) (length h.lent.1.0.now)) r h.lent.1.0.now h.left.now
+    → TablesBytes (table_of (table_by which) 8 (arena cs numbers rs) (length before / 8)) r before after
+table_out which cs rs {numbers} {r = r} {before} {after} h d =
+    let k = rw h.numbers_are at d in
+    tables_out which (arena cs numbers rs) h.lent.1.0.now before h.room r h.left.now after k.reply k.left h.after_is

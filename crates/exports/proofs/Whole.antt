@@ -1,13 +1,13 @@
 -- Inputs that cross as bytes: refused where the numbers are not whole or too many, and otherwise the numbers that were copied. Assumes nothing.
-use mathlib.Core.Path.{◌≡◌, refl, sym, ap, ◌∙◌}
+use mathlib.Core.Path.{◌≡◌, refl, sym, ◌∙◌}
 use mathlib.Core.Bool.{Bool, true, false, not, ◌&&◌, ◌||◌}
 use mathlib.Core.List.{List}
-use Prim.Native.Nat.{ℕ, ◌-◌, ◌/◌, ◌%◌, ◌≤◌, ◌<◌, min, max}
+use Prim.Native.Nat.{ℕ, ◌/◌, ◌%◌, ◌≤◌, ◌<◌}
 use native.Mathlib.Omega.{arith}
 use borrow.Author.Tests.{lt-leb, eqb-true, leb-true, leb-false}
-use lib.ListN.{length, take, replicate, length-replicate}
+use lib.ListN.{length, take}
 use lib.Dec.{leb, ltb, eqb}
-use lib.Seq.{length-take-le, take_all}
+use lib.Seq.{take_all}
 use Rattle.rules.specs.Answer.{Answer, refused, refuse}
 use Rattle.rules.specs.Refusals.{over_limit₃}
 use Rattle.rules.specs.Functions.{arena, within, encoded}
@@ -53,22 +53,13 @@ module _ (s : List ℕ) where
     pub checked_broken : {A : Type 0} (r : Answer A) → whole_words s (refuse (not (within (arena cs (words_in s) rs))) 3 0 r) ≡ refused over_limit₃ 0
     checked_broken r = broken (not (within (arena cs (words_in s) rs))) r (λ l. rw (outside cs (words_in s) rs (omega arith))) h
 
--- ---- the work space: as many numbers at its front as are wanted, and the copied ones stand for the bytes
-
-pub front : (w : List ℕ) (n k : ℕ) → k ≡ length w → n ≤ k → n ≡ length (take n w)
-front w n k e h = sym (length-take-le n w (omega arith))
-
-pub large_front : (n : ℕ) → n ≤ 65536 → n ≡ length (take n (replicate {A = ℕ} 65536 0))
-large_front n h = front (replicate {A = ℕ} 65536 0) n 65536 (sym (length-replicate {A = ℕ} 65536 0)) h
+  -- so what is so of an answer, and of 3 where it is 3, is so of both
+  pub either : {A : Type 0} (P : Answer A → Type 0) (r : Answer A) → (few_words s ≡ true → P r) → (few_words s ≡ false → whole_words s r ≡ refused over_limit₃ 0) → (few_words s ≡ false → P (refused over_limit₃ 0)) → P (whole_words s r)
+  either P r t e f = go (few_words s) refl
+    where
+      go : (b : Bool) → few_words s ≡ b → P (whole_words s r)
+      go true h = rw (whole r h) (t h)
+      go false h = rw (e h) (f h)
 
 pub all_in : (w s : List ℕ) → length w ≡ length s / 8 → take (length s / 8) w ≡ words_in s → w ≡ words_in s
 all_in w s e h = sym (take_all (length s / 8) w (omega arith)) ∙ h
-
--- two runs of numbers want less than is there, once there is room for the larger
-fewer : (k l a b t : ℕ) → l < k → k ≤ 2048 → 2048 ≡ a → 2048 ≡ b → k - l ≡ t → k - min a b < t
-fewer k l a b t h j x y e = omega arith
-
-pub falls_to : (n m k c d l a b t M : ℕ) → k ≡ max n m → l ≡ min c d → m ≡ M → 2048 ≡ a → 2048 ≡ b → l < k → k ≤ 2048 → max n M - min c d ≡ t → max n M - min a b < t
-falls_to n m k c d l a b t M x y z u v h j e =
-    let w : max n M ≡ k = ap (max n) (sym z) ∙ sym x in
-    rw w (fewer k l a b t h j u v (ap (λ (i : ℕ). k - i) y ∙ ap (λ (i : ℕ). i - min c d) (sym w) ∙ e))

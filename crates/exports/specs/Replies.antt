@@ -1,5 +1,5 @@
 -- The replies that cross to Rust, by the definitions' answers: number 0 where nothing is refused, every length and total 0 where something is.
-use Rattle.std.specs.Prelude.{◌≡◌, Bool, true, false, not, cond, List, [], ℕ, ◌/◌, ℤ, length, eqb}
+use Rattle.std.specs.Prelude.{◌≡◌, not, cond, List, [], ℕ, ◌/◌, ℤ, length, eqb}
 use Rattle.std.proofs.Math.Option.{Option, none, some}
 use Rattle.rules.specs.Answer.{Answer, good, refused, refuse, Read, item_of}
 use Rattle.rules.specs.Refusals.{over_limit₃}
@@ -8,7 +8,7 @@ use Rattle.rules.specs.Operations.{codes, values}
 use Rattle.rules.specs.Record.{Block, record_size, word_bytes, records_bytes, no_block}
 use Rattle.rules.specs.Block.{Room, Head}
 use Rattle.rules.specs.Lookups.{Place, Raw, raw_at, Padded, padded_at}
-use Rattle.rules.specs.Functions.{Arena, arena, room_in, filled, written, table_left, totals, length_told, used, leaves, decoded, strictly_decoded, Compared, reported, refused_by, report_left}
+use Rattle.rules.specs.Functions.{Arena, arena, room_in, filled, written, table_left, totals, length_told, used, leaves, Compared, reported, refused_by, report_left}
 use Rattle.crossing.specs.Words.{whole}
 use Rattle.exports.specs.declared.BuildReply.{BuildReply}
 use Rattle.exports.specs.declared.EncodeReply.{EncodeReply}
@@ -130,11 +130,6 @@ filled_bytes a b =
 pub record BuildsBytes (answer : Room → Answer Block) (r : BuildReply) (before after : Arena) : Type 0 where
   pub reply : r ≡ build_reply (answer (room_bytes before))
   pub runs : after ≡ filled_bytes before (leaves no_block (answer (room_bytes before)))
-
--- what the rules answer for a block of bytes, strictly or not
-abbrev pub read_by : Bool → List ℕ → List ℕ → ℕ → Room → Read Block
-read_by true = strictly_decoded 8
-read_by false = decoded 8
 
 -- decode's
 pub record ReadsBytes (answer : Room → Read Block) (at : ℕ) (r : DecodeReply) (before after : Arena) : Type 0 where

@@ -1,29 +1,34 @@
 // What a Rust or C program calls, the latter through exports_c: the public functions over numbers and slices, with replies as plain structs. In each
-// reply number 0 means that nothing was refused; a refusal has every length and total 0.
+// reply number 0 means that nothing was refused; a refusal has every length and total 0. The C interface has numbers for what was refused and found, and
+// a block's opcodes, values and records as runs of their own.
 #![tactic(auto)]
 
-ghost use Rattle.std.specs.Prelude.{◌≡◌, true, ◌/◌, min, length};
+ghost use Rattle.std.specs.Prelude.{◌≡◌, true, false, ◌/◌, ◌≤◌, min, max, length};
+ghost use Rattle.std.specs.Fn.{FnOnceReturnsAt};
+ghost use Rattle.rules.specs.Answer.{refused};
+ghost use Rattle.rules.specs.Refusals.{over_limit₃};
 ghost use Rattle.rules.specs.Record.{record_at, no_block};
 ghost use Rattle.rules.specs.Block.{Room};
 ghost use Rattle.rules.specs.Lookups.{raw_at, padded_at, padded_index, raw_index};
-ghost use Rattle.rules.specs.Functions.{arena, built, encoded, decoded, strictly_decoded, compared, headed, structure_checked, padding_checked, commitment_checked, raw_tabled, padded_tabled, table_of, group_lookup, next_lookup};
-ghost use Rattle.prefix.specs.Tables.{table_by};
+ghost use Rattle.rules.specs.Functions.{arena, built, encoded, decoded, strictly_decoded, compared, headed, structure_checked, padding_checked, commitment_checked, raw_tabled, padded_tabled, group_lookup, next_lookup};
+ghost use Rattle.refusal.specs.Told.{told};
+ghost use Rattle.comparison.specs.Replies as marked;
 ghost use Rattle.comparison.specs.Replies.{side, room_for};
 ghost use Rattle.crossing.specs.Words.{words_in, few_words};
-ghost use Rattle.exports.specs.Replies.{Builds, Writes, Reads, read_by, head_reply, Compares, check_reply, Tables, padded_reply, raw_reply, one_record, whole_words, in_whole, filled_bytes, BuildsBytes, ReadsBytes, TablesBytes, group_reply, next_reply};
-ghost use Rattle.exports.specs.Flat.{flat_built, flat_encoded, flat_decoded, flat_headed, flat_compared, flat_verdict, flat_tabled, flat_padded, flat_raw, flat_group, flat_next};
+ghost use Rattle.exports.specs.Replies.{Builds, Writes, Reads, head_reply, Compares, check_reply, Tables, padded_reply, raw_reply, one_record, whole_words, in_whole, filled_bytes, BuildsBytes, ReadsBytes, TablesBytes, group_reply, next_reply};
+ghost use Rattle.exports.specs.Through.{ReadThrough, TableThrough};
+ghost use Rattle.exports.specs.Flat.{flat_built, flat_encoded, flat_decoded, flat_headed, flat_compared, flat_tabled, flat_padded, flat_raw, flat_group, flat_next};
 
-use build::Built;
-use comparison::Compared;
+use build::Totals;
+use comparison::Refused;
 use decoder::Decoded;
-use encoder::Encoded;
 use head::Headed;
-use op_batch::{Lookup, NextGroup};
-use operation::Verdict;
-use prefix::{PaddedFound, PaddedIndex, RawFound, RawIndex, Tabled};
+use op_batch::Place;
+use prefix::{PaddedIndex, RawIndex};
+use refusal::Refusal;
 
 #[repr(C)]
-#[derive(Clone, Copy)]
+#[derive(Clone, Copy, Default)]
 pub struct BuildReply {
     pub number: u8,
     pub place: usize,
@@ -31,16 +36,53 @@ pub struct BuildReply {
     pub operations: usize,
 }
 
+impl From<Result<Totals, Refusal>> for BuildReply {
+    ghost from_gives = { λ r reply. reply ≡ flat_built (told r) };
+
+    fn from(r: Result<Totals, Refusal>) -> BuildReply {
+        match r {
+            Ok(t) => BuildReply {
+                batches: t.batches,
+                operations: t.operations,
+                ..BuildReply::default()
+            },
+            Err(r) => BuildReply {
+                number: r.number(),
+                place: r.place(),
+                ..BuildReply::default()
+            },
+        }
+    }
+}
+
 #[repr(C)]
-#[derive(Clone, Copy)]
+#[derive(Clone, Copy, Default)]
 pub struct EncodeReply {
     pub number: u8,
     pub place: usize,
     pub length: usize,
 }
 
+impl From<Result<usize, Refusal>> for EncodeReply {
+    ghost from_gives = { λ r reply. reply ≡ flat_encoded (told r) };
+
+    fn from(r: Result<usize, Refusal>) -> EncodeReply {
+        match r {
+            Ok(length) => EncodeReply {
+                length,
+                ..EncodeReply::default()
+            },
+            Err(r) => EncodeReply {
+                number: r.number(),
+                place: r.place(),
+                ..EncodeReply::default()
+            },
+        }
+    }
+}
+
 #[repr(C)]
-#[derive(Clone, Copy)]
+#[derive(Clone, Copy, Default)]
 pub struct DecodeReply {
     pub number: u8,
     pub place: usize,
@@ -49,8 +91,28 @@ pub struct DecodeReply {
     pub used: usize,
 }
 
+impl From<Result<Decoded, Refusal>> for DecodeReply {
+    ghost from_gives = { λ r reply. reply ≡ flat_decoded (told r) };
+
+    fn from(r: Result<Decoded, Refusal>) -> DecodeReply {
+        match r {
+            Ok(d) => DecodeReply {
+                batches: d.batches,
+                operations: d.operations,
+                used: d.used,
+                ..DecodeReply::default()
+            },
+            Err(r) => DecodeReply {
+                number: r.number(),
+                place: r.place(),
+                ..DecodeReply::default()
+            },
+        }
+    }
+}
+
 #[repr(C)]
-#[derive(Clone, Copy)]
+#[derive(Clone, Copy, Default)]
 pub struct HeadReply {
     pub number: u8,
     pub place: usize,
@@ -58,8 +120,27 @@ pub struct HeadReply {
     pub operations: usize,
 }
 
+impl From<Result<Headed, Refusal>> for HeadReply {
+    ghost from_gives = { λ r reply. reply ≡ flat_headed (told r) };
+
+    fn from(r: Result<Headed, Refusal>) -> HeadReply {
+        match r {
+            Ok(h) => HeadReply {
+                batches: h.batches,
+                operations: h.operations,
+                ..HeadReply::default()
+            },
+            Err(r) => HeadReply {
+                number: r.number(),
+                place: r.place(),
+                ..HeadReply::default()
+            },
+        }
+    }
+}
+
 #[repr(C)]
-#[derive(Clone, Copy)]
+#[derive(Clone, Copy, Default)]
 pub struct CompareReply {
     pub mark: u8,
     pub number: u8,
@@ -67,30 +148,109 @@ pub struct CompareReply {
     pub entries: usize,
 }
 
+impl From<Result<usize, Refused>> for CompareReply {
+    ghost from_gives = { λ r reply. reply ≡ flat_compared (marked.told r) };
+
+    fn from(r: Result<usize, Refused>) -> CompareReply {
+        match r {
+            Ok(entries) => CompareReply {
+                entries,
+                ..CompareReply::default()
+            },
+            Err(r) => CompareReply {
+                mark: r.mark(),
+                number: r.refusal().number(),
+                place: r.refusal().place(),
+                ..CompareReply::default()
+            },
+        }
+    }
+}
+
 #[repr(C)]
-#[derive(Clone, Copy)]
+#[derive(Clone, Copy, Default)]
 pub struct CheckReply {
     pub number: u8,
     pub place: usize,
 }
 
+impl From<Result<(), Refusal>> for CheckReply {
+    ghost from_gives = { λ r reply. reply ≡ check_reply (told r) };
+
+    fn from(r: Result<(), Refusal>) -> CheckReply {
+        match r {
+            Ok(()) => CheckReply::default(),
+            Err(r) => CheckReply {
+                number: r.number(),
+                place: r.place(),
+            },
+        }
+    }
+}
+
 #[repr(C)]
-#[derive(Clone, Copy)]
+#[derive(Clone, Copy, Default)]
 pub struct TableReply {
     pub number: u8,
     pub place: usize,
     pub entries: usize,
 }
 
+impl From<Result<usize, Refusal>> for TableReply {
+    ghost from_gives = { λ r reply. reply ≡ flat_tabled (told r) };
+
+    fn from(r: Result<usize, Refusal>) -> TableReply {
+        match r {
+            Ok(entries) => TableReply {
+                entries,
+                ..TableReply::default()
+            },
+            Err(r) => TableReply {
+                number: r.number(),
+                place: r.place(),
+                ..TableReply::default()
+            },
+        }
+    }
+}
+
 #[repr(C)]
-#[derive(Clone, Copy)]
+#[derive(Clone, Copy, Default)]
 pub struct IndexReply {
     pub found: u8,
     pub index: usize,
 }
 
+impl From<Option<PaddedIndex>> for IndexReply {
+    ghost from_gives = { λ i reply. reply ≡ flat_padded i };
+
+    fn from(i: Option<PaddedIndex>) -> IndexReply {
+        match i {
+            Some(i) => IndexReply {
+                found: 1,
+                index: i.0,
+            },
+            None => IndexReply::default(),
+        }
+    }
+}
+
+impl From<Option<RawIndex>> for IndexReply {
+    ghost from_gives = { λ i reply. reply ≡ flat_raw i };
+
+    fn from(i: Option<RawIndex>) -> IndexReply {
+        match i {
+            Some(i) => IndexReply {
+                found: 1,
+                index: i.0,
+            },
+            None => IndexReply::default(),
+        }
+    }
+}
+
 #[repr(C)]
-#[derive(Clone, Copy)]
+#[derive(Clone, Copy, Default)]
 pub struct GroupReply {
     pub number: u8,
     pub place: usize,
@@ -99,8 +259,29 @@ pub struct GroupReply {
     pub position: usize,
 }
 
+impl From<Result<Option<Place>, Refusal>> for GroupReply {
+    ghost from_gives = { λ r reply. reply ≡ flat_group (told r) };
+
+    fn from(r: Result<Option<Place>, Refusal>) -> GroupReply {
+        match r {
+            Ok(Some(p)) => GroupReply {
+                found: 1,
+                group: p.group,
+                position: p.place,
+                ..GroupReply::default()
+            },
+            Ok(None) => GroupReply::default(),
+            Err(r) => GroupReply {
+                number: r.number(),
+                place: r.place(),
+                ..GroupReply::default()
+            },
+        }
+    }
+}
+
 #[repr(C)]
-#[derive(Clone, Copy)]
+#[derive(Clone, Copy, Default)]
 pub struct NextReply {
     pub number: u8,
     pub place: usize,
@@ -108,29 +289,27 @@ pub struct NextReply {
     pub group: usize,
 }
 
-// ---- batching
+impl From<Result<Option<usize>, Refusal>> for NextReply {
+    ghost from_gives = { λ r reply. reply ≡ flat_next (told r) };
 
-fn flat_built(r: Built) -> BuildReply
-    ensures { result ≡ flat_built r }
-{
-    match r {
-        Built::Made {
-            batches,
-            operations,
-        } => BuildReply {
-            number: 0,
-            place: 0,
-            batches,
-            operations,
-        },
-        Built::Refused { number, place } => BuildReply {
-            number,
-            place,
-            batches: 0,
-            operations: 0,
-        },
+    fn from(r: Result<Option<usize>, Refusal>) -> NextReply {
+        match r {
+            Ok(Some(group)) => NextReply {
+                found: 1,
+                group,
+                ..NextReply::default()
+            },
+            Ok(None) => NextReply::default(),
+            Err(r) => NextReply {
+                number: r.number(),
+                place: r.place(),
+                ..NextReply::default()
+            },
+        }
     }
 }
+
+// ---- batching
 
 pub fn oli_build(
     table: &[u8],
@@ -142,28 +321,10 @@ pub fn oli_build(
 ) -> BuildReply
     ensures { Builds (built 8 table.now codes.now values.now) result (arena out_codes.old out_values.old records.old) (arena out_codes.new out_values.new records.new) }
 {
-    let r = build::build(table, codes, values, out_codes, out_values, records);
-    flat_built(r)
+    build::build(table, codes, values, out_codes, out_values, records).into()
 }
 
 // ---- a block's bytes
-
-fn flat_encoded(r: Encoded) -> EncodeReply
-    ensures { result ≡ flat_encoded r }
-{
-    match r {
-        Encoded::Written { length } => EncodeReply {
-            number: 0,
-            place: 0,
-            length,
-        },
-        Encoded::Refused { number, place } => EncodeReply {
-            number,
-            place,
-            length: 0,
-        },
-    }
-}
 
 pub fn oli_encode(
     table: &[u8],
@@ -175,33 +336,7 @@ pub fn oli_encode(
 ) -> EncodeReply
     ensures { Writes (encoded 8 table.now (arena codes.now values.now records.now) (length out.old) at) at result out.old out.new }
 {
-    let r = encoder::encode(table, codes, values, records, out, at);
-    flat_encoded(r)
-}
-
-fn flat_decoded(r: Decoded) -> DecodeReply
-    ensures { result ≡ flat_decoded r }
-{
-    match r {
-        Decoded::Made {
-            batches,
-            operations,
-            used,
-        } => DecodeReply {
-            number: 0,
-            place: 0,
-            batches,
-            operations,
-            used,
-        },
-        Decoded::Refused { number, place } => DecodeReply {
-            number,
-            place,
-            batches: 0,
-            operations: 0,
-            used: 0,
-        },
-    }
+    encoder::encode(table, codes, values, records, out, at).into()
 }
 
 pub fn oli_decode(
@@ -214,8 +349,7 @@ pub fn oli_decode(
 ) -> DecodeReply
     ensures { Reads (decoded 8 table.now bytes.now at) at result (arena out_codes.old out_values.old records.old) (arena out_codes.new out_values.new records.new) }
 {
-    let r = decoder::decode(table, bytes, at, out_codes, out_values, records);
-    flat_decoded(r)
+    decoder::decode(table, bytes, at, out_codes, out_values, records).into()
 }
 
 // Finished blocks only (M-107).
@@ -229,65 +363,17 @@ pub fn oli_decode_strict(
 ) -> DecodeReply
     ensures { Reads (strictly_decoded 8 table.now bytes.now at) at result (arena out_codes.old out_values.old records.old) (arena out_codes.new out_values.new records.new) }
 {
-    let r = strict::decode_strict(table, bytes, at, out_codes, out_values, records);
-    flat_decoded(r)
-}
-
-fn flat_headed(r: Headed) -> HeadReply
-    ensures { result ≡ flat_headed r }
-{
-    match r {
-        Headed::Found {
-            operations,
-            batches,
-            next: _,
-        } => HeadReply {
-            number: 0,
-            place: 0,
-            batches,
-            operations,
-        },
-        Headed::Refused { number, place } => HeadReply {
-            number,
-            place,
-            batches: 0,
-            operations: 0,
-        },
-    }
+    strict::decode_strict(table, bytes, at, out_codes, out_values, records).into()
 }
 
 // How much room decode needs for the block from `at` on.
 pub fn oli_head(table: &[u8], bytes: &[u8], at: usize) -> HeadReply
     ensures { result ≡ head_reply (headed table.now bytes.now at) }
 {
-    let r = head::head(table, bytes, at);
-    flat_headed(r)
+    head::head(table, bytes, at).into()
 }
 
 // ---- two blocks
-
-fn flat_compared(r: Compared) -> CompareReply
-    ensures { result ≡ flat_compared r }
-{
-    match r {
-        Compared::Reported { entries } => CompareReply {
-            mark: 0,
-            number: 0,
-            place: 0,
-            entries,
-        },
-        Compared::Refused {
-            mark,
-            number,
-            place,
-        } => CompareReply {
-            mark,
-            number,
-            place,
-            entries: 0,
-        },
-    }
-}
 
 // How they differ (M-105). The mark says whose refusal it is: 1 the first block's, 2 the second's, 0 that of a report too short.
 pub fn oli_compare(
@@ -307,7 +393,7 @@ pub fn oli_compare(
 ) -> CompareReply
     ensures { Compares (compared 8 (side first_table.now first.now first_at (arena first_codes.old first_values.old first_records.old)) (side second_table.now second.now second_at (arena second_codes.old second_values.old second_records.old)) (room_for report.old)) result (arena first_codes.old first_values.old first_records.old) (arena first_codes.new first_values.new first_records.new) (arena second_codes.old second_values.old second_records.old) (arena second_codes.new second_values.new second_records.new) report.old report.new }
 {
-    let r = comparison::compare(
+    comparison::compare(
         first_table,
         first,
         first_at,
@@ -321,210 +407,83 @@ pub fn oli_compare(
         second_values,
         second_records,
         report,
-    );
-    flat_compared(r)
+    )
+    .into()
 }
 
 // ---- checks
 
-fn flat_verdict(r: Verdict) -> CheckReply
-    ensures { result ≡ flat_verdict r }
-{
-    match r {
-        Verdict::Passed => CheckReply {
-            number: 0,
-            place: 0,
-        },
-        Verdict::Refused { number, place } => CheckReply { number, place },
-    }
-}
-
 pub fn oli_structure(codes: &[u8], values: &[u64], records: &[u8]) -> CheckReply
     ensures { result ≡ check_reply (structure_checked 8 (arena codes.now values.now records.now)) }
 {
-    let r = checks::structure(codes, values, records);
-    flat_verdict(r)
+    checks::structure(codes, values, records).into()
 }
 
 pub fn oli_padding(codes: &[u8], values: &[u64], records: &[u8]) -> CheckReply
     ensures { result ≡ check_reply (padding_checked 8 (arena codes.now values.now records.now)) }
 {
-    let r = checks::padding(codes, values, records);
-    flat_verdict(r)
+    checks::padding(codes, values, records).into()
 }
 
 pub fn oli_commitment(table: &[u8], codes: &[u8], values: &[u64], records: &[u8]) -> CheckReply
     ensures { result ≡ check_reply (commitment_checked 8 table.now (arena codes.now values.now records.now)) }
 {
-    let r = commitment::commitment(table, codes, values, records);
-    flat_verdict(r)
+    commitment::commitment(table, codes, values, records).into()
 }
 
 // ---- index tables
 
-fn flat_tabled(r: Tabled) -> TableReply
-    ensures { result ≡ flat_tabled r }
-{
-    match r {
-        Tabled::Made { entries } => TableReply {
-            number: 0,
-            place: 0,
-            entries,
-        },
-        Tabled::Refused { number, place } => TableReply {
-            number,
-            place,
-            entries: 0,
-        },
-    }
-}
-
 pub fn oli_raw_table(codes: &[u8], values: &[u64], records: &[u8], out: &mut [u64]) -> TableReply
     ensures { Tables (raw_tabled 8 (arena codes.now values.now records.now) (length out.old)) result out.old out.new }
 {
-    let r = prefix::raw_to_padded(codes, values, records, out);
-    flat_tabled(r)
+    prefix::raw_to_padded(codes, values, records, out).into()
 }
 
 pub fn oli_padded_table(codes: &[u8], values: &[u64], records: &[u8], out: &mut [u64]) -> TableReply
     ensures { Tables (padded_tabled 8 (arena codes.now values.now records.now) (length out.old)) result out.old out.new }
 {
-    let r = prefix::padded_to_raw(codes, values, records, out);
-    flat_tabled(r)
-}
-
-fn flat_padded(r: PaddedFound) -> IndexReply
-    ensures { result ≡ flat_padded r }
-{
-    match r {
-        PaddedFound::At(i) => IndexReply {
-            found: 1,
-            index: i.0,
-        },
-        PaddedFound::Nothing => IndexReply { found: 0, index: 0 },
-    }
+    prefix::padded_to_raw(codes, values, records, out).into()
 }
 
 pub fn oli_padded_index(table: &[u64], raw: usize) -> IndexReply
     ensures { result ≡ padded_reply (padded_index table.now (raw_at raw)) }
 {
-    let r = prefix::raw_to_padded_index(table, RawIndex(raw));
-    flat_padded(r)
-}
-
-fn flat_raw(r: RawFound) -> IndexReply
-    ensures { result ≡ flat_raw r }
-{
-    match r {
-        RawFound::At(i) => IndexReply {
-            found: 1,
-            index: i.0,
-        },
-        RawFound::Nothing => IndexReply { found: 0, index: 0 },
-    }
+    prefix::raw_to_padded_index(table, RawIndex(raw)).into()
 }
 
 pub fn oli_raw_index(table: &[u64], padded: usize) -> IndexReply
     ensures { result ≡ raw_reply (raw_index table.now (padded_at padded)) }
 {
-    let r = prefix::padded_to_raw_index(table, PaddedIndex(padded));
-    flat_raw(r)
+    prefix::padded_to_raw_index(table, PaddedIndex(padded)).into()
 }
 
 // ---- lookups in one batch
-
-fn flat_group(r: Lookup) -> GroupReply
-    ensures { result ≡ flat_group r }
-{
-    match r {
-        Lookup::Found { group, place } => GroupReply {
-            number: 0,
-            place: 0,
-            found: 1,
-            group,
-            position: place,
-        },
-        Lookup::Nothing => GroupReply {
-            number: 0,
-            place: 0,
-            found: 0,
-            group: 0,
-            position: 0,
-        },
-        Lookup::Refused { number, place } => GroupReply {
-            number,
-            place,
-            found: 0,
-            group: 0,
-            position: 0,
-        },
-    }
-}
 
 pub fn oli_group(run: &[u8], index: usize) -> GroupReply
     ensures { result ≡ group_reply (one_record run.now (group_lookup 8 (record_at run.now 0) index)) }
 {
     if run.len() != op_batch::RECORD {
-        return GroupReply {
-            number: 3,
-            place: 0,
-            found: 0,
-            group: 0,
-            position: 0,
-        };
+        return GroupReply::from(Err(Refusal::OverLimit));
     }
-    let batch = op_batch::load(run, 0);
-    let r = batch.op_idx_in_batch_to_group(index);
-    flat_group(r)
-}
-
-fn flat_next(r: NextGroup) -> NextReply
-    ensures { result ≡ flat_next r }
-{
-    match r {
-        NextGroup::At(group) => NextReply {
-            number: 0,
-            place: 0,
-            found: 1,
-            group,
-        },
-        NextGroup::Nothing => NextReply {
-            number: 0,
-            place: 0,
-            found: 0,
-            group: 0,
-        },
-        NextGroup::Refused { number, place } => NextReply {
-            number,
-            place,
-            found: 0,
-            group: 0,
-        },
-    }
+    op_batch::load(run, 0)
+        .op_idx_in_batch_to_group(index)
+        .into()
 }
 
 pub fn oli_next_group(run: &[u8], group: usize) -> NextReply
     ensures { result ≡ next_reply (one_record run.now (next_lookup 8 (record_at run.now 0) group)) }
 {
     if run.len() != op_batch::RECORD {
-        return NextReply {
-            number: 3,
-            place: 0,
-            found: 0,
-            group: 0,
-        };
+        return NextReply::from(Err(Refusal::OverLimit));
     }
-    let batch = op_batch::load(run, 0);
-    let r = batch.next_op_group_index(group);
-    flat_next(r)
+    op_batch::load(run, 0).next_op_group_index(group).into()
 }
 
 // ---- the same functions with runs of 64-bit numbers as little-endian bytes, eight to a number
 //
 // An input that is not whole numbers is refused with 3, and a lookup in one finds nothing. Of an output only whole numbers are room; the bytes left
-// over are zeroed too. Numbers go through work space on the stack, as much of it as their number asks for:
-// `.._in` takes the space that it is lent, or else calls itself once more with the middle one, or hands on to `.._large`. The large space is in a function
-// of its own, so that a call with few numbers does not reach so far down the stack.
+// over are zeroed too. Numbers go through work space on the stack, of three lengths: the first that is long enough. `.._through` is never drawn into its
+// caller, so that a call with few numbers does not reach so far down the stack.
 
 fn clear(out_codes: &mut [u8], out_values: &mut [u8], records: &mut [u8])
     ensures { arena out_codes.new out_values.new records.new ≡ filled_bytes (arena out_codes.old out_values.old records.old) no_block }
@@ -534,97 +493,30 @@ fn clear(out_codes: &mut [u8], out_values: &mut [u8], records: &mut [u8])
     word::zero_after(records, 0);
 }
 
-// The values go through `numbers`, and those that build fills in through `work`, as long as what the lent bytes have room for.
-fn build_through(
+#[inline(never)]
+fn build_through<const N: usize>(
     table: &[u8],
     codes: &[u8],
     values: &[u8],
-    numbers: &mut [u64],
     out_codes: &mut [u8],
-    work: &mut [u64],
     out_values: &mut [u8],
     records: &mut [u8],
 ) -> BuildReply
-    requires { (few_words values.now ≡ true) × (length numbers.old ≡ length values.now / 8) × (length work.old ≡ min (length out_values.old / 8) 65536) }
+    requires few { few_words values.now ≡ true }
+    requires room { (max (length values.now / 8) (min (length out_values.old / 8) 65536) ≤ N) × (N ≤ 65536) }
     ensures { BuildsBytes (λ (room : Room). whole_words values.now (built 8 table.now codes.now (words_in values.now) room)) result (arena out_codes.old out_values.old records.old) (arena out_codes.new out_values.new records.new) }
 {
+    let mut numbers = [0; N];
+    let mut work = [0; N];
+    let numbers = &mut numbers[..values.len() / 8];
+    let work = &mut work[..crossing::lent(out_values.len())];
     crossing::read_words(values, numbers);
     let r = oli_build(table, codes, numbers, out_codes, work, records);
     crossing::bytes_out(work, out_values);
     r
 }
 
-fn build_large(
-    table: &[u8],
-    codes: &[u8],
-    values: &[u8],
-    out_codes: &mut [u8],
-    out_values: &mut [u8],
-    records: &mut [u8],
-) -> BuildReply
-    requires { few_words values.now ≡ true }
-    ensures { BuildsBytes (λ (room : Room). whole_words values.now (built 8 table.now codes.now (words_in values.now) room)) result (arena out_codes.old out_values.old records.old) (arena out_codes.new out_values.new records.new) }
-{
-    let n = values.len() / 8;
-    let m = crossing::lent(out_values.len());
-    let mut numbers = [0; crossing::LARGE];
-    let mut work = [0; crossing::LARGE];
-    build_through(
-        table,
-        codes,
-        values,
-        &mut numbers[..n],
-        out_codes,
-        &mut work[..m],
-        out_values,
-        records,
-    )
-}
-
-fn build_in(
-    table: &[u8],
-    codes: &[u8],
-    values: &[u8],
-    numbers: &mut [u64],
-    out_codes: &mut [u8],
-    work: &mut [u64],
-    out_values: &mut [u8],
-    records: &mut [u8],
-) -> BuildReply
-    requires { few_words values.now ≡ true }
-    ensures { BuildsBytes (λ (room : Room). whole_words values.now (built 8 table.now codes.now (words_in values.now) room)) result (arena out_codes.old out_values.old records.old) (arena out_codes.new out_values.new records.new) }
-{
-    let n = values.len() / 8;
-    let m = crossing::lent(out_values.len());
-    if n <= numbers.len() && m <= work.len() {
-        return build_through(
-            table,
-            codes,
-            values,
-            &mut numbers[..n],
-            out_codes,
-            &mut work[..m],
-            out_values,
-            records,
-        );
-    }
-    if n <= crossing::MIDDLE && m <= crossing::MIDDLE {
-        let mut more_numbers = [0; crossing::MIDDLE];
-        let mut more = [0; crossing::MIDDLE];
-        return build_in(
-            table,
-            codes,
-            values,
-            &mut more_numbers,
-            out_codes,
-            &mut more,
-            out_values,
-            records,
-        );
-    }
-    build_large(table, codes, values, out_codes, out_values, records)
-}
-
+#[tactic(auto, using(crate::proofs::Whole::few))]
 pub fn oli_build_le(
     table: &[u8],
     codes: &[u8],
@@ -637,45 +529,20 @@ pub fn oli_build_le(
 {
     if !crossing::few_words(values) {
         clear(out_codes, out_values, records);
-        return BuildReply {
-            number: 3,
-            place: 0,
-            batches: 0,
-            operations: 0,
-        };
+        return BuildReply::from(Err(Refusal::OverLimit));
     }
-    let mut numbers = [0; crossing::SMALL];
-    let mut work = [0; crossing::SMALL];
-    build_in(
-        table,
-        codes,
-        values,
-        &mut numbers,
-        out_codes,
-        &mut work,
-        out_values,
-        records,
-    )
+    let n = (values.len() / 8).max(crossing::lent(out_values.len()));
+    if n <= crossing::SMALL {
+        build_through::<{ crossing::SMALL }>(table, codes, values, out_codes, out_values, records)
+    } else if n <= crossing::MIDDLE {
+        build_through::<{ crossing::MIDDLE }>(table, codes, values, out_codes, out_values, records)
+    } else {
+        build_through::<{ crossing::LARGE }>(table, codes, values, out_codes, out_values, records)
+    }
 }
 
-// The values go through `work`.
-fn encode_through(
-    table: &[u8],
-    codes: &[u8],
-    values: &[u8],
-    work: &mut [u64],
-    records: &[u8],
-    out: &mut [u8],
-    at: usize,
-) -> EncodeReply
-    requires { length work.old ≡ length values.now / 8 }
-    ensures { Writes (encoded 8 table.now (arena codes.now (words_in values.now) records.now) (length out.old) at) at result out.old out.new }
-{
-    crossing::read_words(values, work);
-    oli_encode(table, codes, work, records, out, at)
-}
-
-fn encode_large(
+#[inline(never)]
+fn encode_through<const N: usize>(
     table: &[u8],
     codes: &[u8],
     values: &[u8],
@@ -683,37 +550,17 @@ fn encode_large(
     out: &mut [u8],
     at: usize,
 ) -> EncodeReply
-    requires { few_words values.now ≡ true }
-    ensures { Writes (encoded 8 table.now (arena codes.now (words_in values.now) records.now) (length out.old) at) at result out.old out.new }
+    requires few { few_words values.now ≡ true }
+    requires room { (length values.now / 8 ≤ N) × (N ≤ 65536) }
+    ensures { Writes (whole_words values.now (encoded 8 table.now (arena codes.now (words_in values.now) records.now) (length out.old) at)) at result out.old out.new }
 {
-    let n = values.len() / 8;
-    let mut work = [0; crossing::LARGE];
-    encode_through(table, codes, values, &mut work[..n], records, out, at)
+    let mut numbers = [0; N];
+    let numbers = &mut numbers[..values.len() / 8];
+    crossing::read_words(values, numbers);
+    oli_encode(table, codes, numbers, records, out, at)
 }
 
-fn encode_in(
-    table: &[u8],
-    codes: &[u8],
-    values: &[u8],
-    work: &mut [u64],
-    records: &[u8],
-    out: &mut [u8],
-    at: usize,
-) -> EncodeReply
-    requires { few_words values.now ≡ true }
-    ensures { Writes (encoded 8 table.now (arena codes.now (words_in values.now) records.now) (length out.old) at) at result out.old out.new }
-{
-    let n = values.len() / 8;
-    if n <= work.len() {
-        return encode_through(table, codes, values, &mut work[..n], records, out, at);
-    }
-    if n <= crossing::MIDDLE {
-        let mut more = [0; crossing::MIDDLE];
-        return encode_in(table, codes, values, &mut more, records, out, at);
-    }
-    encode_large(table, codes, values, records, out, at)
-}
-
+#[tactic(auto, using(crate::proofs::Whole::few))]
 pub fn oli_encode_le(
     table: &[u8],
     codes: &[u8],
@@ -725,110 +572,58 @@ pub fn oli_encode_le(
     ensures { Writes (whole_words values.now (encoded 8 table.now (arena codes.now (words_in values.now) records.now) (length out.old) at)) at result out.old out.new }
 {
     if !crossing::few_words(values) {
-        return EncodeReply {
-            number: 3,
-            place: 0,
-            length: 0,
-        };
+        return EncodeReply::from(Err(Refusal::OverLimit));
     }
-    let mut work = [0; crossing::SMALL];
-    encode_in(table, codes, values, &mut work, records, out, at)
+    let n = values.len() / 8;
+    if n <= crossing::SMALL {
+        encode_through::<{ crossing::SMALL }>(table, codes, values, records, out, at)
+    } else if n <= crossing::MIDDLE {
+        encode_through::<{ crossing::MIDDLE }>(table, codes, values, records, out, at)
+    } else {
+        encode_through::<{ crossing::LARGE }>(table, codes, values, records, out, at)
+    }
 }
 
-// Both readers, by `strict`.
-fn decode_by(
-    strict: bool,
-    table: &[u8],
-    bytes: &[u8],
-    at: usize,
+// What a reader lent numbers leaves, the numbers as bytes.
+#[inline(never)]
+fn read_through<const N: usize, F>(
+    read: F,
     out_codes: &mut [u8],
-    out_values: &mut [u64],
-    records: &mut [u8],
-) -> DecodeReply
-    ensures { Reads (read_by strict table.now bytes.now at) at result (arena out_codes.old out_values.old records.old) (arena out_codes.new out_values.new records.new) }
-{
-    if strict {
-        return oli_decode_strict(table, bytes, at, out_codes, out_values, records);
-    }
-    oli_decode(table, bytes, at, out_codes, out_values, records)
-}
-
-// The values go through `work`, as long as what the lent bytes have room for.
-fn decode_through(
-    strict: bool,
-    table: &[u8],
-    bytes: &[u8],
-    at: usize,
-    out_codes: &mut [u8],
-    work: &mut [u64],
     out_values: &mut [u8],
     records: &mut [u8],
 ) -> DecodeReply
-    requires { length work.old ≡ min (length out_values.old / 8) 65536 }
-    ensures { ReadsBytes (read_by strict table.now bytes.now at) at result (arena out_codes.old out_values.old records.old) (arena out_codes.new out_values.new records.new) }
+where
+    F: FnOnce(&mut [u8], &mut [u64], &mut [u8]) -> DecodeReply,
+    requires call { F.IsAlwaysCallable read }
+    requires room { (min (length out_values.old / 8) 65536 ≤ N) × (N ≤ 65536) }
+    ensures { ReadThrough F.FnOnce read result (arena out_codes.old out_values.old records.old) (arena out_codes.new out_values.new records.new) }
 {
-    let r = decode_by(strict, table, bytes, at, out_codes, work, records);
+    let mut work = [0; N];
+    let work = &mut work[..crossing::lent(out_values.len())];
+    let r = read(out_codes, work, records);
     crossing::bytes_out(work, out_values);
     r
 }
 
-fn decode_large(
-    strict: bool,
-    table: &[u8],
-    bytes: &[u8],
-    at: usize,
+fn read_le<F>(
+    read: F,
     out_codes: &mut [u8],
     out_values: &mut [u8],
     records: &mut [u8],
 ) -> DecodeReply
-    ensures { ReadsBytes (read_by strict table.now bytes.now at) at result (arena out_codes.old out_values.old records.old) (arena out_codes.new out_values.new records.new) }
+where
+    F: FnOnce(&mut [u8], &mut [u64], &mut [u8]) -> DecodeReply,
+    requires { F.IsAlwaysCallable read }
+    ensures { ReadThrough F.FnOnce read result (arena out_codes.old out_values.old records.old) (arena out_codes.new out_values.new records.new) }
 {
     let n = crossing::lent(out_values.len());
-    let mut work = [0; crossing::LARGE];
-    decode_through(
-        strict,
-        table,
-        bytes,
-        at,
-        out_codes,
-        &mut work[..n],
-        out_values,
-        records,
-    )
-}
-
-fn decode_in(
-    strict: bool,
-    table: &[u8],
-    bytes: &[u8],
-    at: usize,
-    out_codes: &mut [u8],
-    work: &mut [u64],
-    out_values: &mut [u8],
-    records: &mut [u8],
-) -> DecodeReply
-    ensures { ReadsBytes (read_by strict table.now bytes.now at) at result (arena out_codes.old out_values.old records.old) (arena out_codes.new out_values.new records.new) }
-{
-    let n = crossing::lent(out_values.len());
-    if n <= work.len() {
-        return decode_through(
-            strict,
-            table,
-            bytes,
-            at,
-            out_codes,
-            &mut work[..n],
-            out_values,
-            records,
-        );
+    if n <= crossing::SMALL {
+        read_through::<{ crossing::SMALL }, F>(read, out_codes, out_values, records)
+    } else if n <= crossing::MIDDLE {
+        read_through::<{ crossing::MIDDLE }, F>(read, out_codes, out_values, records)
+    } else {
+        read_through::<{ crossing::LARGE }, F>(read, out_codes, out_values, records)
     }
-    if n <= crossing::MIDDLE {
-        let mut more = [0; crossing::MIDDLE];
-        return decode_in(
-            strict, table, bytes, at, out_codes, &mut more, out_values, records,
-        );
-    }
-    decode_large(strict, table, bytes, at, out_codes, out_values, records)
 }
 
 pub fn oli_decode_le(
@@ -841,9 +636,11 @@ pub fn oli_decode_le(
 ) -> DecodeReply
     ensures { ReadsBytes (decoded 8 table.now bytes.now at) at result (arena out_codes.old out_values.old records.old) (arena out_codes.new out_values.new records.new) }
 {
-    let mut work = [0; crossing::SMALL];
-    decode_in(
-        false, table, bytes, at, out_codes, &mut work, out_values, records,
+    read_le(
+        |codes, values, records| oli_decode(table, bytes, at, codes, values, records),
+        out_codes,
+        out_values,
+        records,
     )
 }
 
@@ -857,205 +654,126 @@ pub fn oli_decode_strict_le(
 ) -> DecodeReply
     ensures { ReadsBytes (strictly_decoded 8 table.now bytes.now at) at result (arena out_codes.old out_values.old records.old) (arena out_codes.new out_values.new records.new) }
 {
-    let mut work = [0; crossing::SMALL];
-    decode_in(
-        true, table, bytes, at, out_codes, &mut work, out_values, records,
+    read_le(
+        |codes, values, records| oli_decode_strict(table, bytes, at, codes, values, records),
+        out_codes,
+        out_values,
+        records,
     )
+}
+
+// A check that only counts its values. The compiler leaves out the copy then, and the work space with it: one length serves.
+#[tactic(auto, using(crate::proofs::Whole::few))]
+fn count_le<F>(values: &[u8], check: F) -> CheckReply
+where
+    F: FnOnce(&[u64]) -> CheckReply,
+    requires { F.IsAlwaysCallable check }
+    ensures few { few_words values.now ≡ true → FnOnceReturnsAt F.FnOnce check (words_in values.now) result }
+    ensures many { few_words values.now ≡ false → result ≡ check_reply (refused over_limit₃ 0) }
+{
+    if !crossing::few_words(values) {
+        return CheckReply::from(Err(Refusal::OverLimit));
+    }
+    let mut numbers = [0; crossing::LARGE];
+    crossing::read_words(values, &mut numbers);
+    check(&numbers[..values.len() / 8])
 }
 
 pub fn oli_structure_le(codes: &[u8], values: &[u8], records: &[u8]) -> CheckReply
     ensures { result ≡ check_reply (whole_words values.now (structure_checked 8 (arena codes.now (words_in values.now) records.now))) }
 {
-    if !crossing::few_words(values) {
-        return CheckReply {
-            number: 3,
-            place: 0,
-        };
-    }
-    let n = values.len() / 8;
-    let mut work = [0; crossing::LARGE];
-    crossing::read_words(values, &mut work);
-    oli_structure(codes, &work[..n], records)
+    count_le(values, |numbers| oli_structure(codes, numbers, records))
 }
 
 pub fn oli_padding_le(codes: &[u8], values: &[u8], records: &[u8]) -> CheckReply
     ensures { result ≡ check_reply (whole_words values.now (padding_checked 8 (arena codes.now (words_in values.now) records.now))) }
 {
-    if !crossing::few_words(values) {
-        return CheckReply {
-            number: 3,
-            place: 0,
-        };
-    }
-    let n = values.len() / 8;
-    let mut work = [0; crossing::LARGE];
-    crossing::read_words(values, &mut work);
-    oli_padding(codes, &work[..n], records)
+    count_le(values, |numbers| oli_padding(codes, numbers, records))
 }
 
-// The values go through `work`.
-fn commitment_through(
+#[inline(never)]
+fn commitment_through<const N: usize>(
     table: &[u8],
     codes: &[u8],
     values: &[u8],
-    work: &mut [u64],
     records: &[u8],
 ) -> CheckReply
-    requires { length work.old ≡ length values.now / 8 }
-    ensures { result ≡ check_reply (commitment_checked 8 table.now (arena codes.now (words_in values.now) records.now)) }
+    requires few { few_words values.now ≡ true }
+    requires room { (length values.now / 8 ≤ N) × (N ≤ 65536) }
+    ensures { result ≡ check_reply (whole_words values.now (commitment_checked 8 table.now (arena codes.now (words_in values.now) records.now))) }
 {
-    crossing::read_words(values, work);
-    oli_commitment(table, codes, work, records)
+    let mut numbers = [0; N];
+    let numbers = &mut numbers[..values.len() / 8];
+    crossing::read_words(values, numbers);
+    oli_commitment(table, codes, numbers, records)
 }
 
-fn commitment_large(table: &[u8], codes: &[u8], values: &[u8], records: &[u8]) -> CheckReply
-    requires { few_words values.now ≡ true }
-    ensures { result ≡ check_reply (commitment_checked 8 table.now (arena codes.now (words_in values.now) records.now)) }
-{
-    let n = values.len() / 8;
-    let mut work = [0; crossing::LARGE];
-    commitment_through(table, codes, values, &mut work[..n], records)
-}
-
-fn commitment_in(
-    table: &[u8],
-    codes: &[u8],
-    values: &[u8],
-    work: &mut [u64],
-    records: &[u8],
-) -> CheckReply
-    requires { few_words values.now ≡ true }
-    ensures { result ≡ check_reply (commitment_checked 8 table.now (arena codes.now (words_in values.now) records.now)) }
-{
-    let n = values.len() / 8;
-    if n <= work.len() {
-        return commitment_through(table, codes, values, &mut work[..n], records);
-    }
-    if n <= crossing::MIDDLE {
-        let mut more = [0; crossing::MIDDLE];
-        return commitment_in(table, codes, values, &mut more, records);
-    }
-    commitment_large(table, codes, values, records)
-}
-
+#[tactic(auto, using(crate::proofs::Whole::few))]
 pub fn oli_commitment_le(table: &[u8], codes: &[u8], values: &[u8], records: &[u8]) -> CheckReply
     ensures { result ≡ check_reply (whole_words values.now (commitment_checked 8 table.now (arena codes.now (words_in values.now) records.now))) }
 {
     if !crossing::few_words(values) {
-        return CheckReply {
-            number: 3,
-            place: 0,
-        };
+        return CheckReply::from(Err(Refusal::OverLimit));
     }
-    let mut work = [0; crossing::SMALL];
-    commitment_in(table, codes, values, &mut work, records)
+    let n = values.len() / 8;
+    if n <= crossing::SMALL {
+        commitment_through::<{ crossing::SMALL }>(table, codes, values, records)
+    } else if n <= crossing::MIDDLE {
+        commitment_through::<{ crossing::MIDDLE }>(table, codes, values, records)
+    } else {
+        commitment_through::<{ crossing::LARGE }>(table, codes, values, records)
+    }
 }
 
-// The values go through `numbers`, and the entries through `work`, as long as what the lent bytes have room for.
-fn table_through(
-    codes: &[u8],
-    values: &[u8],
-    numbers: &mut [u64],
-    records: &[u8],
-    padded: bool,
-    work: &mut [u64],
-    out: &mut [u8],
-) -> TableReply
-    requires { (few_words values.now ≡ true) × (length numbers.old ≡ length values.now / 8) × (length work.old ≡ min (length out.old / 8) 65536) }
-    ensures { TablesBytes (whole_words values.now (table_of (table_by padded) 8 (arena codes.now (words_in values.now) records.now) (length out.old / 8))) result out.old out.new }
+// A table of the numbers, its entries as bytes.
+#[inline(never)]
+fn table_through<const N: usize, F>(values: &[u8], table: F, out: &mut [u8]) -> TableReply
+where
+    F: FnOnce(&[u64], &mut [u64]) -> TableReply,
+    requires call { F.IsAlwaysCallable table }
+    requires room { (max (length values.now / 8) (min (length out.old / 8) 65536) ≤ N) × (N ≤ 65536) }
+    ensures { TableThrough F.FnOnce table (words_in values.now) result out.old out.new }
 {
+    let mut numbers = [0; N];
+    let mut work = [0; N];
+    let numbers = &mut numbers[..values.len() / 8];
+    let work = &mut work[..crossing::lent(out.len())];
     crossing::read_words(values, numbers);
-    let r = prefix::table(codes, numbers, records, padded, work);
+    let r = table(numbers, work);
     crossing::bytes_out(work, out);
-    flat_tabled(r)
+    r
 }
 
-fn table_large(
-    codes: &[u8],
-    values: &[u8],
-    records: &[u8],
-    padded: bool,
-    out: &mut [u8],
-) -> TableReply
-    requires { few_words values.now ≡ true }
-    ensures { TablesBytes (whole_words values.now (table_of (table_by padded) 8 (arena codes.now (words_in values.now) records.now) (length out.old / 8))) result out.old out.new }
-{
-    let n = values.len() / 8;
-    let m = crossing::lent(out.len());
-    let mut numbers = [0; crossing::LARGE];
-    let mut work = [0; crossing::LARGE];
-    table_through(
-        codes,
-        values,
-        &mut numbers[..n],
-        records,
-        padded,
-        &mut work[..m],
-        out,
-    )
-}
-
-fn table_in(
-    codes: &[u8],
-    values: &[u8],
-    numbers: &mut [u64],
-    records: &[u8],
-    padded: bool,
-    work: &mut [u64],
-    out: &mut [u8],
-) -> TableReply
-    requires { few_words values.now ≡ true }
-    ensures { TablesBytes (whole_words values.now (table_of (table_by padded) 8 (arena codes.now (words_in values.now) records.now) (length out.old / 8))) result out.old out.new }
-{
-    let n = values.len() / 8;
-    let m = crossing::lent(out.len());
-    if n <= numbers.len() && m <= work.len() {
-        return table_through(
-            codes,
-            values,
-            &mut numbers[..n],
-            records,
-            padded,
-            &mut work[..m],
-            out,
-        );
-    }
-    if n <= crossing::MIDDLE && m <= crossing::MIDDLE {
-        let mut more_numbers = [0; crossing::MIDDLE];
-        let mut more = [0; crossing::MIDDLE];
-        return table_in(
-            codes,
-            values,
-            &mut more_numbers,
-            records,
-            padded,
-            &mut more,
-            out,
-        );
-    }
-    table_large(codes, values, records, padded, out)
-}
-
-fn table_le(codes: &[u8], values: &[u8], records: &[u8], padded: bool, out: &mut [u8]) -> TableReply
-    ensures { TablesBytes (whole_words values.now (table_of (table_by padded) 8 (arena codes.now (words_in values.now) records.now) (length out.old / 8))) result out.old out.new }
+#[tactic(auto, using(crate::proofs::Whole::few))]
+fn table_le<F>(values: &[u8], table: F, out: &mut [u8]) -> TableReply
+where
+    F: FnOnce(&[u64], &mut [u64]) -> TableReply,
+    requires { F.IsAlwaysCallable table }
+    ensures few { few_words values.now ≡ true → TableThrough F.FnOnce table (words_in values.now) result out.old out.new }
+    ensures many { few_words values.now ≡ false → TablesBytes (refused over_limit₃ 0) result out.old out.new }
 {
     if !crossing::few_words(values) {
         word::zero_after(out, 0);
-        return TableReply {
-            number: 3,
-            place: 0,
-            entries: 0,
-        };
+        return TableReply::from(Err(Refusal::OverLimit));
     }
-    let mut numbers = [0; crossing::SMALL];
-    let mut work = [0; crossing::SMALL];
-    table_in(codes, values, &mut numbers, records, padded, &mut work, out)
+    let n = (values.len() / 8).max(crossing::lent(out.len()));
+    if n <= crossing::SMALL {
+        table_through::<{ crossing::SMALL }, F>(values, table, out)
+    } else if n <= crossing::MIDDLE {
+        table_through::<{ crossing::MIDDLE }, F>(values, table, out)
+    } else {
+        table_through::<{ crossing::LARGE }, F>(values, table, out)
+    }
 }
 
 pub fn oli_raw_table_le(codes: &[u8], values: &[u8], records: &[u8], out: &mut [u8]) -> TableReply
     ensures { TablesBytes (whole_words values.now (raw_tabled 8 (arena codes.now (words_in values.now) records.now) (length out.old / 8))) result out.old out.new }
 {
-    table_le(codes, values, records, false, out)
+    table_le(
+        values,
+        |numbers, entries| oli_raw_table(codes, numbers, records, entries),
+        out,
+    )
 }
 
 pub fn oli_padded_table_le(
@@ -1066,27 +784,29 @@ pub fn oli_padded_table_le(
 ) -> TableReply
     ensures { TablesBytes (whole_words values.now (padded_tabled 8 (arena codes.now (words_in values.now) records.now) (length out.old / 8))) result out.old out.new }
 {
-    table_le(codes, values, records, true, out)
+    table_le(
+        values,
+        |numbers, entries| oli_padded_table(codes, numbers, records, entries),
+        out,
+    )
 }
 
 pub fn oli_padded_index_le(table: &[u8], raw: usize) -> IndexReply
     ensures { result ≡ padded_reply (in_whole table.now (padded_index (words_in table.now) (raw_at raw))) }
 {
     if !crossing::has_word(table, raw) {
-        return IndexReply { found: 0, index: 0 };
+        return IndexReply::default();
     }
     let entry = word::le::<8>(table, 8 * raw);
-    let r = prefix::padded_by(entry, RawIndex(raw));
-    flat_padded(r)
+    prefix::padded_by(entry, RawIndex(raw)).into()
 }
 
 pub fn oli_raw_index_le(table: &[u8], padded: usize) -> IndexReply
     ensures { result ≡ raw_reply (in_whole table.now (raw_index (words_in table.now) (padded_at padded))) }
 {
     if !crossing::has_word(table, padded) {
-        return IndexReply { found: 0, index: 0 };
+        return IndexReply::default();
     }
     let entry = word::le::<8>(table, 8 * padded);
-    let r = prefix::raw_by(entry, PaddedIndex(padded));
-    flat_raw(r)
+    prefix::raw_by(entry, PaddedIndex(padded)).into()
 }

@@ -1,11 +1,14 @@
-use Rattle.exports.proofs.Builds.{builds_out}
+use mathlib.Core.Path.{◌≡◌}
+use Prim.Native.Nat.{◌/◌}
+use lib.ListN.{length}
+use borrow.Author.Rules.{rules}
 use Rattle.exports.proofs.Whole.{all_in}
-use mathlib.Core.Path.{◌∙◌}
+use Rattle.exports.proofs.Builds.{builds_out}
 use Rattle.exports.proofs.build_through.Goals as goal
 
 pub returns : goal.returns
-returns c =
+returns g c =
     let a = c.args in
-    let p = c.requires in
-    builds_out a.values.now a.table.now a.codes.now p.0 a.out_codes.now a.work.now a.records.now a.out_values.now p.2
-    _ _ _ _ _ (rw (all_in _ a.values.now (c.read_words.auto.work ∙ c.requires.1) c.read_words.ensures) at c.oli_build-r.ensures) c.bytes_out.ensures
+    let n : length c.read_words.new.work ≡ length a.values.now / 8 = search rules in
+    let d = rw (all_in c.read_words.new.work a.values.now n c.read_words.ensures) at c.oli_build-r.ensures in
+    builds_out a.values.now a.table.now a.codes.now c.requires.few d (search rules) c.bytes_out.ensures

@@ -10,11 +10,11 @@ use Rattle.exports.proofs.oli_group.Goals as goal
 
 pub returns-then-run-ne-RECORD : goal.returns-then-run-ne-RECORD
 unfolding one_record
-returns-then-run-ne-RECORD c = simp (ne_eqb _ _ c.if-run-ne-RECORD.true)
+returns-then-run-ne-RECORD c = simp (ne_eqb _ _ c.if-run-ne-RECORD.true) c.from.ensures
 
 pub returns : goal.returns
 unfolding one_record
 returns c =
     let a = c.args in
-    let e = c.op_idx_in_batch_to_group-r.ensures ∙ ap (λ (r : Record). lookup_of (group_lookup 8 r a.index)) c.load-batch.ensures in
-    simp (eq-eqb _ _ c.if-run-ne-RECORD.false) (c.flat_group.ensures ∙ (ap flat_group e ∙ cross_group (group_lookup 8 (record_at a.run.now 0) a.index)))
+    let e = c.op_idx_in_batch_to_group.ensures ∙ ap (λ (r : Record). lookup_of (group_lookup 8 r a.index)) c.load.ensures in
+    simp (eq-eqb _ _ c.if-run-ne-RECORD.false) (c.into.ensures ∙ (ap flat_group e ∙ cross_group (group_lookup 8 (record_at a.run.now 0) a.index)))

@@ -10,11 +10,11 @@ use Rattle.exports.proofs.oli_next_group.Goals as goal
 
 pub returns-then-run-ne-RECORD : goal.returns-then-run-ne-RECORD
 unfolding one_record
-returns-then-run-ne-RECORD c = simp (ne_eqb _ _ c.if-run-ne-RECORD.true)
+returns-then-run-ne-RECORD c = simp (ne_eqb _ _ c.if-run-ne-RECORD.true) c.from.ensures
 
 pub returns : goal.returns
 unfolding one_record
 returns c =
     let a = c.args in
-    let e = c.next_op_group_index-r.ensures ∙ ap (λ (r : Record). next_of (next_lookup 8 r a.group)) c.load-batch.ensures in
-    simp (eq-eqb _ _ c.if-run-ne-RECORD.false) (c.flat_next.ensures ∙ (ap flat_next e ∙ cross_next (next_lookup 8 (record_at a.run.now 0) a.group)))
+    let e = c.next_op_group_index.ensures ∙ ap (λ (r : Record). next_of (next_lookup 8 r a.group)) c.load.ensures in
+    simp (eq-eqb _ _ c.if-run-ne-RECORD.false) (c.into.ensures ∙ (ap flat_next e ∙ cross_next (next_lookup 8 (record_at a.run.now 0) a.group)))

@@ -6,14 +6,15 @@ use Rattle.exports.specs.Flat.{flat_padded}
 use Rattle.exports.specs.Replies.{in_whole, padded_reply}
 use Rattle.prefix.specs.Tables.{padded_found, padded_by}
 use Prim.Native.Nat.{ℕ}
-use mathlib.Core.Path.{sym, ap, ◌∙◌}
+use mathlib.Core.Path.{◌≡◌, sym, ap, ◌∙◌}
 use borrow.Author.Rules.{rules}
 use Rattle.exports.proofs.oli_padded_index_le.Goals as goal
 
 pub returns-then-not-has_word : goal.returns-then-not-has_word
 returns-then-not-has_word c =
     let a = c.args in
-    sym (ap padded_reply (padded_none a.table.now a.raw (sym c.has_word.ensures ∙ c.if-not-has_word.true)))
+    let e : c.default.result ≡ record { found = 0; index = 0 } = λ j. record { found = c.default.ensures.0 j; index = c.default.ensures.1 j } in
+    e ∙ sym (ap padded_reply (padded_none a.table.now a.raw (sym c.has_word.ensures ∙ c.if-not-has_word.true)))
 
 pub overflow_mul-raw : goal.overflow_mul-raw
 overflow_mul-raw c =
@@ -29,6 +30,6 @@ pub returns : goal.returns
 returns c =
     let a = c.args in
     let h = sym c.has_word.ensures ∙ c.if-not-has_word.false in
-    c.flat_padded.ensures
-    ∙ ap flat_padded (c.padded_by-r.ensures ∙ ap (λ (e : ℕ). padded_found (padded_by e (raw_at a.raw))) c.le-entry.ensures.0 ∙ ap padded_found (sym (padded_found_lem a.table.now a.raw h)))
+    c.into.ensures
+    ∙ ap flat_padded (c.padded_by.ensures ∙ ap (λ (e : ℕ). padded_found (padded_by e (raw_at a.raw))) c.le-entry.ensures.0 ∙ ap padded_found (sym (padded_found_lem a.table.now a.raw h)))
     ∙ cross_padded (in_whole a.table.now (padded_index (words_in a.table.now) (raw_at a.raw)))

@@ -6,14 +6,15 @@ use Rattle.exports.specs.Flat.{flat_raw}
 use Rattle.exports.specs.Replies.{in_whole, raw_reply}
 use Rattle.prefix.specs.Tables.{raw_found, raw_by}
 use Prim.Native.Nat.{ℕ}
-use mathlib.Core.Path.{sym, ap, ◌∙◌}
+use mathlib.Core.Path.{◌≡◌, sym, ap, ◌∙◌}
 use borrow.Author.Rules.{rules}
 use Rattle.exports.proofs.oli_raw_index_le.Goals as goal
 
 pub returns-then-not-has_word : goal.returns-then-not-has_word
 returns-then-not-has_word c =
     let a = c.args in
-    sym (ap raw_reply (raw_none a.table.now a.padded (sym c.has_word.ensures ∙ c.if-not-has_word.true)))
+    let e : c.default.result ≡ record { found = 0; index = 0 } = λ j. record { found = c.default.ensures.0 j; index = c.default.ensures.1 j } in
+    e ∙ sym (ap raw_reply (raw_none a.table.now a.padded (sym c.has_word.ensures ∙ c.if-not-has_word.true)))
 
 pub overflow_mul-padded : goal.overflow_mul-padded
 overflow_mul-padded c =
@@ -29,6 +30,6 @@ pub returns : goal.returns
 returns c =
     let a = c.args in
     let h = sym c.has_word.ensures ∙ c.if-not-has_word.false in
-    c.flat_raw.ensures
-    ∙ ap flat_raw (c.raw_by-r.ensures ∙ ap (λ (e : ℕ). raw_found (raw_by e (padded_at a.padded))) c.le-entry.ensures.0 ∙ ap raw_found (sym (raw_found_lem a.table.now a.padded h)))
+    c.into.ensures
+    ∙ ap flat_raw (c.raw_by.ensures ∙ ap (λ (e : ℕ). raw_found (raw_by e (padded_at a.padded))) c.le-entry.ensures.0 ∙ ap raw_found (sym (raw_found_lem a.table.now a.padded h)))
     ∙ cross_raw (in_whole a.table.now (raw_index (words_in a.table.now) (padded_at a.padded)))

@@ -1,23 +1,14 @@
-use Rattle.exports.proofs.Whole.{few, whole, checked_broken}
+use mathlib.Core.Path.{◌≡◌}
+use borrow.Author.Rules.{rules}
 use Rattle.rules.specs.Functions.{structure_checked}
-use Rattle.crossing.proofs.Copies.{length_in}
-use lib.ListN.{length}
-use native.Mathlib.Omega.{arith}
-use mathlib.Core.Path.{sym, ap, ◌∙◌}
+use Rattle.rules.specs.Answer.{Answer}
+use Rattle.exports.specs.Replies.{check_reply}
+use Rattle.exports.proofs.Whole.{either, checked_broken}
 use Rattle.exports.proofs.oli_structure_le.Goals as goal
 
-pub returns-then-not-few_words : goal.returns-then-not-few_words
-unfolding structure_checked
-returns-then-not-few_words c = let a = c.args in rw (checked_broken a.values.now a.codes.now a.records.now (sym c.few_words.ensures ∙ c.if-not-few_words.true))
-
-pub read_words-requires : goal.read_words-requires
-read_words-requires c = omega (arith, few c.args.values.now (sym c.few_words.ensures ∙ c.if-not-few_words.false))
-
-pub slice_bounds-work-end : goal.slice_bounds-work-end
-slice_bounds-work-end c = omega (arith, c.read_words.auto, few c.args.values.now (sym c.few_words.ensures ∙ c.if-not-few_words.false))
-
-pub slice_bounds-oli_structure-end : goal.slice_bounds-oli_structure-end
-slice_bounds-oli_structure-end c = sym (ap length c.read_words.ensures ∙ length_in c.args.values.now)
-
 pub returns : goal.returns
-returns c = rw (whole c.args.values.now _ (sym c.few_words.ensures ∙ c.if-not-few_words.false)) (rw c.read_words.ensures at c.oli_structure.ensures)
+unfolding structure_checked
+returns c =
+    let a = c.args in
+    let e = c.count_le.ensures in
+    either a.values.now (λ (d : Answer Unit). c.count_le.result ≡ check_reply d) _ (λ h. let k = e.few h in search rules) (λ h. checked_broken a.values.now a.codes.now a.records.now h _) e.many

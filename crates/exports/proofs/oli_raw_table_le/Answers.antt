@@ -1,0 +1,24 @@
+use lib.ListN.{length}
+use mathlib.Core.List.{List}
+use Prim.Native.Nat.{ℕ}
+use borrow.Author.Rules.{rules}
+use Rattle.rules.specs.Answer.{Answer}
+use Rattle.rules.specs.Functions.{arena, raw_tabled, table_of}
+use Rattle.prefix.specs.declared.Prefix.TheVariants.{RawToPadded}
+use Rattle.exports.specs.Replies.{Tables, TablesBytes}
+use Rattle.exports.proofs.Tables.{table_out}
+use Rattle.exports.proofs.Whole.{either, checked_broken}
+use Rattle.exports.proofs.oli_raw_table_le.Goals as goal
+
+pub returns : goal.returns
+unfolding table_of
+returns c =
+    let a = c.args in
+    let e = c.table_le.ensures in
+    either a.values.now (λ (d : Answer (List ℕ)). TablesBytes d c.table_le.result a.out.now c.table_le.new.out) _
+    (λ h.
+    let k = e.few h in
+    let d : Tables (raw_tabled 8 (arena a.codes.now k.lent.0.now a.records.now) (length k.lent.1.0.now)) c.table_le.result k.lent.1.0.now k.left.now = search rules in
+    table_out RawToPadded a.codes.now a.records.now k d)
+    (λ h. checked_broken a.values.now a.codes.now a.records.now h _)
+    e.many
