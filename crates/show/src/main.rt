@@ -2,85 +2,96 @@
 // what is wrong.
 #![tactic(auto)]
 
-ghost use Rattle.std.specs.Prelude.{◌≤◌};
-
+use console::{Page, Quoted};
 use decoder::Decoded;
-use listing::{After, Block, plus};
-use std::env::Env;
+use listing::{After, Block, Runs};
+use refusal::Refusal;
+use std::fmt;
+use std::fmt::Write;
 use std::fs::File;
 use std::io::{Result, Seek, SeekFrom};
 use text::NotNumber;
 
 // ---- a block
 
-fn say_byte(rt: HostRuntime, page: &mut [u8], what: &[u8], at: usize) {
-    console::say(rt, page, what);
-    console::number(rt, page, at as u64);
-}
-
-// The byte that a refusal points to, where it has one.
-fn say_place(rt: HostRuntime, page: &mut [u8], s: &[u8], at: usize, refusal: u8, place: usize) {
-    match refusal {
-        2 => say_byte(
-            rt,
-            page,
-            b", in the item that starts at byte ",
-            plus(at, place),
-        ),
-        3..=10 | 17 => say_byte(
-            rt,
-            page,
-            b", at byte ",
-            plus(at, listing::place_byte(s, 0, refusal, place)),
-        ),
-        _ => {}
+// What a refusal means, and the byte that it points to, where it has one.
+fn print_refusal(
+    page: &mut Page,
+    path: &[u8],
+    s: &[u8],
+    at: usize,
+    refusal: Refusal,
+) -> fmt::Result {
+    let number = refusal.number();
+    write!(page, "show: {}: refusal {number}: {refusal}", Quoted(path))?;
+    if let Some(byte) = listing::place_byte(s, 0, refusal) {
+        let what = match refusal {
+            Refusal::CutShort { .. } => "in the item that starts at byte",
+            _ => "at byte",
+        };
+        write!(page, ", {what} {}", at.wrapping_add(byte))?;
     }
+    writeln!(page)?;
+    page.flush()
 }
 
-fn refused(rt: HostRuntime, path: &[u8], s: &[u8], at: usize, refusal: u8, place: usize) {
-    let mut line = console::errors();
-    console::about(rt, &mut line, b"show", path);
-    console::say(rt, &mut line, b": ");
-    listing::print_refusal(rt, &mut line, refusal, place);
-    say_place(rt, &mut line, s, at, refusal, place);
-    console::say(rt, &mut line, b"\n");
-    console::flush(rt, &mut line);
+fn refused(rt: HostRuntime, path: &[u8], s: &[u8], at: usize, refusal: Refusal) {
+    let mut page = Page::errors(rt);
+    let _ = print_refusal(&mut page, path, s, at, refusal);
 }
 
 // What stands after a block that ends at `last`, in a file that ends at `end`; that is not known where it comes first.
 fn after(last: usize, end: usize, read: usize, used: usize) -> After {
     if last <= end {
-        return After::Bytes(end - last);
+        After::Bytes(end - last)
+    } else if used <= read {
+        After::AtLeast(read - used)
+    } else {
+        After::Unasked
     }
-    if used <= read {
-        return After::AtLeast(read - used);
-    }
-    After::Unasked
+}
+
+fn print_block(rt: HostRuntime, runs: Runs, block: Block, rest: After) -> fmt::Result {
+    let mut page = Page::output(rt);
+    listing::print_block(&mut page, runs, block, rest)?;
+    page.flush()
 }
 
 // The bytes of the file from `at` on, as many as a block may have.
 fn show(rt: HostRuntime, path: &[u8], bytes: &[u8], at: usize, end: usize) {
-    let table = vm::table();
     let mut codes = space::codes();
     let mut values = space::values();
     let mut records = space::records();
-    let r = decoder::decode(&table, bytes, 0, &mut codes, &mut values, &mut records);
-    match r {
-        Decoded::Made {
-            batches,
-            operations,
-            used,
-        } => {
+    match decoder::decode(
+        &vm::table(),
+        bytes,
+        0,
+        &mut codes,
+        &mut values,
+        &mut records,
+    ) {
+        Ok(
+            Decoded {
+                batches,
+                operations,
+                used,
+            },
+        ) => {
+            let runs = Runs {
+                codes: &codes,
+                values: &values,
+                records: &records,
+            };
             let block = Block {
                 at,
                 batches,
                 operations,
                 used,
             };
-            let rest = after(plus(at, used), end, bytes.len(), used);
-            listing::print_block(rt, &codes, &values, &records, block, rest);
+            let rest = after(at.wrapping_add(used), end, bytes.len(), used);
+            let _ = print_block(rt, runs, block, rest);
         }
-        Decoded::Refused { number, place } => refused(rt, path, bytes, at, number, place),
+        Err(refusal) => refused(rt, path, bytes, at, refusal),
     }
 }
 
@@ -88,107 +99,64 @@ fn show(rt: HostRuntime, path: &[u8], bytes: &[u8], at: usize, end: usize) {
 
 const LAST: usize = 9223372036854775807;
 
-fn seek(file: &mut File, at: usize) -> Result<()>
-    requires { at ≤ 9223372036854775807 }
-{
-    if at == 0 {
-        return Ok(());
-    }
-    match file.seek(SeekFrom::Start(at as u64)) {
-        Ok(_) => Ok(()),
-        Err(error) => Err(error),
-    }
-}
-
 // Where the file ends; 0 where it is a pipe.
 fn end_of(file: &mut File) -> usize {
-    match file.seek(SeekFrom::End(0)) {
-        Ok(end) => end as usize,
-        Err(_) => 0,
-    }
+    file.seek(SeekFrom::End(0)).map_or(0, |end| end as usize)
 }
 
-fn show_read(rt: HostRuntime, path: &[u8], file: &mut File, at: usize, room: &mut [u8]) {
-    let got = console::fill(file, room);
-    if let Some(error) = got.failed {
-        console::fail(rt, b"show", path, error);
-        return;
-    }
-    let n = got.count;
-    let read = plus(at, n);
-    let end = end_of(file);
-    if n == 0 && end < at {
-        refused(rt, path, b"", at, 1, 0);
-        return;
-    }
-    if n < room.len() {
-        show(rt, path, &room[..n], at, read);
-        return;
-    }
-    show(rt, path, &room[..n], at, end);
-}
-
-fn show_from(rt: HostRuntime, path: &[u8], file: &mut File, at: usize) {
+fn show_file(rt: HostRuntime, path: &[u8], at: usize) -> Result<()> {
+    let mut file = console::open(rt, path)?;
     if LAST < at {
-        refused(rt, path, b"", at, 1, 0);
-        return;
+        refused(rt, path, b"", at, Refusal::PastEnd);
+        return Ok(());
     }
-    if let Err(error) = seek(file, at) {
-        console::fail(rt, b"show", path, error);
-        return;
+    if at != 0 {
+        file.seek(SeekFrom::Start(at as u64))?;
     }
     let mut room = space::bytes();
-    show_read(rt, path, file, at, &mut room);
-}
-
-fn show_file(rt: HostRuntime, path: &[u8], at: usize) {
-    match console::open(rt, path) {
-        Ok(mut file) => show_from(rt, path, &mut file, at),
-        Err(error) => console::fail(rt, b"show", path, error),
+    let most = room.len();
+    let read = console::fill(&mut file, &mut room)?;
+    let end = end_of(&mut file);
+    if read.is_empty() && end < at {
+        refused(rt, path, b"", at, Refusal::PastEnd);
+    } else if read.len() < most {
+        show(rt, path, read, at, at.wrapping_add(read.len()));
+    } else {
+        show(rt, path, read, at, end);
     }
+    Ok(())
 }
 
 // ---- arguments
 
 // The offset that the second argument names; 0 where there is none.
-fn offset(rt: HostRuntime) -> std::result::Result<u64, NotNumber> {
-    if console::arguments(rt) < 3 {
+fn offset(rt: HostRuntime, count: usize) -> std::result::Result<u64, NotNumber> {
+    if count < 3 {
         return Ok(0);
     }
     let mut argument = [0u8; 4096];
-    let n = console::argument(rt, 2, &mut argument);
-    text::either(&argument[..n])
+    text::either(console::argument(rt, 2, &mut argument).unwrap_or_default())
 }
 
-fn help(rt: HostRuntime) {
-    console::print(
-        rt,
-        b"show FILE [OFFSET]: prints the batches of the block that starts at byte OFFSET of FILE (0 where none is given), under the virtual machine's\nown table; or says on standard error, in one line, what is wrong: the number of the refusal, what it means, and where.\nFor a group it prints its number, the index of its first operation in the block, and the byte of the file where that operation starts.\nThe file may have any size: the 1048576 bytes from OFFSET on are read, and no block is longer than 671742.\nWhat is printed was read from a whole block: one that is cut short is refused. Not noticed: batch data of another list that\nfits these operations, which batching the list again would show; and a changed byte that leaves a good block, which a checksum would show.\n",
-    );
-}
-
-fn run(rt: HostRuntime, path: &[u8]) {
-    if check::same(path, b"--help") {
-        help(rt);
-        return;
-    }
-    let at = offset(rt);
-    match at {
-        Ok(from) => show_file(rt, path, from as usize),
-        Err(_) => console::tell(rt, b"show: OFFSET is not a number of bytes\n"),
-    }
-}
+const HELP: &str =
+    "show FILE [OFFSET]: prints the batches of the block that starts at byte OFFSET of FILE (0 where none is given), under the virtual machine's\nown table; or says on standard error, in one line, what is wrong: the number of the refusal, what it means, and where.\nFor a group it prints its number, the index of its first operation in the block, and the byte of the file where that operation starts.\nThe file may have any size: the 1048576 bytes from OFFSET on are read, and no block is longer than 671742.\nWhat is printed was read from a whole block: one that is cut short is refused. Not noticed: batch data of another list that\nfits these operations, which batching the list again would show; and a changed byte that leaves a good block, which a checksum would show.\n";
 
 fn main(rt: HostRuntime) {
     let count = console::arguments(rt);
     if count < 2 || 3 < count {
-        console::tell(rt, b"usage: show FILE [OFFSET] (show --help says more)\n");
-        return;
+        return console::tell(rt, "usage: show FILE [OFFSET] (show --help says more)\n");
     }
-    let mut path = [0u8; 4096];
-    let Ok(n) = rt.arg(1, &mut path) else {
-        console::tell(rt, b"show: the name of the file is too long\n");
-        return;
+    let mut name = [0u8; 4096];
+    let Some(path) = console::argument(rt, 1, &mut name) else {
+        return console::tell(rt, "show: the name of the file is too long\n");
     };
-    run(rt, &path[..n]);
+    if path == b"--help".as_slice() {
+        return console::print(rt, HELP);
+    }
+    let Ok(at) = offset(rt, count) else {
+        return console::tell(rt, "show: OFFSET is not a number of bytes\n");
+    };
+    if let Err(error) = show_file(rt, path, at as usize) {
+        console::fail(rt, "show", path, error);
+    }
 }

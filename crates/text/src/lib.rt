@@ -1,7 +1,7 @@
 // The lines, words and numbers of a text, for the programs that read one.
 #![tactic(auto)]
 
-ghost use Rattle.std.specs.Prelude.{◌≤◌, ◌<◌, length};
+ghost use Rattle.std.specs.Prelude.{◌≤◌, length};
 
 // ---- numbers
 
@@ -53,18 +53,14 @@ pub fn starts_number(text: &[u8]) -> bool {
     text.first().is_some_and(|b| b.is_ascii_digit())
 }
 
-// ---- places in a text
+// ---- words
 
-// The place of the first byte that stops, from a place on; the end where none does.
-fn place<S: Fn(u8) -> bool>(s: &[u8], from: usize, stops: S) -> usize
-    requires within { from ≤ length s.now }
-    requires callable { S.IsAlwaysCallable stops }
-    ensures { (from ≤ result) × (result ≤ length s.now) }
+// The place of the first byte that stops; the end where none does.
+fn place<S: Fn(u8) -> bool>(s: &[u8], stops: S) -> usize
+    requires { S.IsAlwaysCallable stops }
+    ensures { result ≤ length s.now }
 {
-    s[from..]
-        .iter()
-        .position(|b| stops(*b))
-        .map_or(s.len(), |i| from + i)
+    s.iter().position(|b| stops(*b)).unwrap_or(s.len())
 }
 
 // Where the digits from a place on end.
@@ -72,16 +68,7 @@ pub fn digits_end(s: &[u8], from: usize, radix: Radix) -> usize
     requires { from ≤ length s.now }
     ensures { (from ≤ result) × (result ≤ length s.now) }
 {
-    place(s, from, |b| radix.digit(b).is_none())
-}
-
-// The place after the line feed of the line at a place, or the end.
-pub fn line_end(s: &[u8], from: usize) -> usize
-    requires { from < length s.now }
-    ensures { (from < result) × (result ≤ length s.now) }
-{
-    let feed = place(s, from, |b| b == b'\n');
-    s.len().min(feed + 1)
+    from + place(&s[from..], |b| radix.digit(b).is_none())
 }
 
 // What parts words.
@@ -89,29 +76,23 @@ fn blank(b: u8) -> bool {
     matches!(b, b' ' | b'\t' | b'\r' | b'\n')
 }
 
-// Where the words of a line end: in front of its comment, and of the blanks there.
-pub fn words_end(line: &[u8]) -> usize
-    ensures { result ≤ length line.now }
-{
-    let comment = place(line, 0, |b| b == b'#');
-    line[..comment]
+fn without_blanks(s: &[u8]) -> &[u8] {
+    &s[place(s, |b| !blank(b))..]
+}
+
+// The words of a line: what stands in front of its comment, without the blanks around it.
+pub fn words(line: &[u8]) -> &[u8] {
+    let line = &line[..place(line, |b| b == b'#')];
+    let end = line
         .iter()
         .rposition(|b| !blank(*b))
-        .map_or(0, |last| last + 1)
+        .map_or(0, |last| last + 1);
+    without_blanks(&line[..end])
 }
 
-// Where the next word of a line starts; its end where there is none.
-pub fn word_start(line: &[u8], from: usize) -> usize
-    requires { from ≤ length line.now }
-    ensures { (from ≤ result) × (result ≤ length line.now) }
-{
-    place(line, from, |b| !blank(b))
-}
-
-// Where the word at a place ends. A parenthesis ends one too, so that `push(5)` has two.
-pub fn word_end(line: &[u8], from: usize) -> usize
-    requires { from ≤ length line.now }
-    ensures { (from ≤ result) × (result ≤ length line.now) }
-{
-    place(line, from, |b| matches!(b, b'(' | b')') || blank(b))
+// The first word, and what comes after it. A parenthesis ends a word too, so that `push(5)` has two.
+pub fn split_word(words: &[u8]) -> (&[u8], &[u8]) {
+    let words = without_blanks(words);
+    let (word, rest) = words.split_at(place(words, |b| matches!(b, b'(' | b')') || blank(b)));
+    (word, without_blanks(rest))
 }
