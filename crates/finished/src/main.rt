@@ -2,21 +2,22 @@
 // makes; where it is not, what is wrong with it, or what is different first. The line starts with `finished` or with `not finished`.
 #![tactic(auto)]
 
-ghost use Rattle.std.specs.Prelude.{◌≤◌, ◌<◌};
+ghost use Rattle.std.specs.Prelude.{◌≤◌, ◌<◌, IfSome};
 
-use build::Built;
-use console::{counted, number, say};
+use console::{Page, Quoted, counted};
 use decoder::Decoded;
-use listing::{After, Block, minus, plus};
+use listing::{After, Block, Runs};
 use op_batch::OpBatch;
-use std::env::Env;
-use std::fs::File;
-use std::io::Error;
+use refusal::Refusal;
+use space::List;
+use std::fmt;
+use std::fmt::Write;
+use std::io::Result;
 
 // ---- a group of a batch
 
 // Whether it is under the group count, how many operations of the list it has, how many paddings (0 or 1), and its flag.
-#[derive(Clone, Copy)]
+#[derive(Clone, Copy, PartialEq, Eq)]
 struct Group {
     there: bool,
     own: usize,
@@ -24,551 +25,339 @@ struct Group {
     flag: u8,
 }
 
-fn padding_in(size: usize, flag: u8) -> usize
-    ensures { result ≤ size }
-{
-    if flag == 0 {
-        return 0;
-    }
-    if size == 0 {
-        return 0;
-    }
-    1
-}
-
-fn group_at(batch: OpBatch, g: usize) -> Group
-    requires { g < 8 }
-{
-    let start = batch.starts[g] as usize;
-    let end = batch.starts[g + 1] as usize;
-    let flag = batch.flags[g];
-    let count = batch.count as usize;
-    let all = minus(end, start);
-    let pads = padding_in(all, flag);
-    Group {
-        there: g < count,
-        own: all - pads,
-        pads,
-        flag,
+impl Group {
+    fn at(batch: &OpBatch, g: usize) -> Group
+        requires { g < 8 }
+    {
+        let size = usize::from(batch.starts[g + 1].saturating_sub(batch.starts[g]));
+        let flag = batch.flags[g];
+        let pads = if flag == 0 { 0 } else { size.min(1) };
+        Group {
+            there: g < usize::from(batch.count),
+            own: size - pads,
+            pads,
+            flag,
+        }
     }
 }
 
-// ---- the block's own list: its operations without flagged padding. What the lent runs have no room for falls away, and is counted.
+// ---- the block's own list: its operations without flagged padding
 
-fn value(values: &[u64], at: usize) -> u64 {
-    if at < values.len() {
-        return values[at];
-    }
-    0
+// A list, and how many operations more there were than it has room for.
+#[derive(Drop)]
+struct Own {
+    list: List,
+    more: usize,
 }
 
-// The n operations from one place on, put at another and on.
-fn put_ops(
-    codes: &[u8],
-    values: &[u64],
-    from: usize,
-    n: usize,
-    out_codes: &mut [u8],
-    out_values: &mut [u64],
-    to: usize,
-) {
-    let mut i: usize = 0;
-    while i < n {
-        let at = plus(from, i);
-        word::store(out_codes, plus(to, i), console::byte(codes, at) as u8);
-        word::store(out_values, plus(to, i), value(values, at));
-        i += 1;
+impl Own {
+    fn count(&self) -> usize {
+        self.more.wrapping_add(self.list.codes().len())
     }
-}
 
-// Those of a batch, which begin at `first`; and where they end.
-fn put_batch(
-    codes: &[u8],
-    values: &[u64],
-    batch: OpBatch,
-    first: usize,
-    out_codes: &mut [u8],
-    out_values: &mut [u64],
-    to: usize,
-) -> usize {
-    let mut from = first;
-    let mut end = to;
-    let mut g: usize = 0;
-    while g < 8 {
-        let x = group_at(batch, g);
-        put_ops(codes, values, from, x.own, out_codes, out_values, end);
-        from = plus(from, plus(x.own, x.pads));
-        end = plus(end, x.own);
-        g += 1;
+    // The n operations from one place on.
+    fn push_ops(&mut self, runs: Runs, from: usize, n: usize) {
+        for i in 0..n {
+            let at = from.wrapping_add(i);
+            let code = runs.codes.get(at).copied().unwrap_or(0);
+            let value = runs.values.get(at).copied().unwrap_or(0);
+            if self.list.push(code, value).is_err() {
+                self.more = self.more.wrapping_add(1);
+            }
+        }
     }
-    end
-}
 
-// Those of all batches; and how many they are.
-fn own_list(
-    codes: &[u8],
-    values: &[u64],
-    records: &[u8],
-    batches: usize,
-    out_codes: &mut [u8],
-    out_values: &mut [u64],
-) -> usize {
-    let mut from: usize = 0;
-    let mut end: usize = 0;
-    let mut b: usize = 0;
-    while b < batches {
-        let batch = listing::record(records, b);
-        end = put_batch(codes, values, batch, from, out_codes, out_values, end);
-        from = plus(from, batch.starts[8] as usize);
-        b += 1;
+    // Those of a batch, which begin at `first`.
+    fn push_batch(&mut self, runs: Runs, batch: &OpBatch, first: usize) {
+        let mut from = first;
+        for g in 0..8 {
+            let group = Group::at(batch, g);
+            self.push_ops(runs, from, group.own);
+            from = from.wrapping_add(group.own).wrapping_add(group.pads);
+        }
     }
-    end
+
+    // Those of so many batches.
+    fn push_batches(&mut self, runs: Runs, batches: usize) {
+        let mut from: usize = 0;
+        for b in 0..batches {
+            let batch = runs.record(b);
+            self.push_batch(runs, &batch, from);
+            from = from.wrapping_add(usize::from(batch.starts[8]));
+        }
+    }
 }
 
 // ---- the first difference of two batches
 
-fn differ(x: Group, y: Group) -> bool {
-    if x.there != y.there {
-        return true;
-    }
-    if x.own != y.own {
-        return true;
-    }
-    if x.pads != y.pads {
-        return true;
-    }
-    x.flag != y.flag
-}
-
-// The first group that differs; 8 where none does.
-fn first_difference(batch: OpBatch, made: OpBatch) -> usize
-    ensures { result ≤ 8 }
+// The first group that differs.
+fn first_difference(batch: &OpBatch, made: &OpBatch) -> Option<usize>
+    ensures { IfSome result (λ g. g < 8) }
 {
-    let mut g: usize = 0;
-    while g < 8 {
-        if differ(group_at(batch, g), group_at(made, g)) {
-            return g;
-        }
-        g += 1;
-    }
-    g
+    (0..8).find(|g| Group::at(batch, *g) != Group::at(made, *g))
 }
 
-// A group that is there. That it holds a value alone can't be asked: the groups before it are the same on both sides, and so are their slots.
-fn print_held(rt: HostRuntime, page: &mut [u8], x: Group) {
-    if x.own == 0 {
-        if x.pads == 0 {
-            say(rt, page, b"only a value");
-            return;
+// What a group that is there has. That it holds a value alone can't be asked: the groups before it are the same on both sides, and so are their slots.
+impl fmt::Display for Group {
+    fn fmt<W: fmt::Write>(&self, f: &mut fmt::Formatter<W>) -> fmt::Result {
+        match (self.own, self.pads) {
+            (0, 0) => write!(f, "only a value"),
+            (0, _) => write!(f, "only a padding"),
+            (own, 0) => write!(f, "{}", counted(own, "operation", "operations")),
+            (own, _) => write!(
+                f,
+                "{} and a padding",
+                counted(own, "operation", "operations")
+            ),
         }
-        say(rt, page, b"only a padding");
-        return;
     }
-    counted(rt, page, x.own, b" operation", b" operations");
-    if x.pads != 0 {
-        say(rt, page, b" and a padding");
-    }
-}
-
-fn print_name(rt: HostRuntime, page: &mut [u8], g: usize) {
-    say(rt, page, b"group ");
-    number(rt, page, g as u64);
 }
 
 // What the block has at group g. An empty group that differs is no value's slot: those follow from the operations before it, which do not differ.
-fn print_group(rt: HostRuntime, page: &mut [u8], g: usize, x: Group) {
-    if !x.there {
-        say(rt, page, b"the batch ends before ");
-        print_name(rt, page, g);
-        return;
+fn print_group(page: &mut Page, g: usize, group: Group) -> fmt::Result {
+    if !group.there {
+        write!(page, "the batch ends before group {g}")
+    } else if group.own == 0 && group.pads == 0 {
+        write!(page, "group {g} is empty and holds no value")
+    } else {
+        write!(page, "group {g} holds {group}")
     }
-    print_name(rt, page, g);
-    if x.own == 0 && x.pads == 0 {
-        say(rt, page, b" is empty and holds no value");
-        return;
-    }
-    say(rt, page, b" holds ");
-    print_held(rt, page, x);
 }
 
 // What the batcher has there.
-fn print_made(rt: HostRuntime, page: &mut [u8], y: Group) {
-    if !y.there {
-        say(rt, page, b", the batcher ends the batch before it");
-        return;
+fn print_made(page: &mut Page, made: Group) -> fmt::Result {
+    if made.there {
+        write!(page, ", the batcher puts {made} there")
+    } else {
+        write!(page, ", the batcher ends the batch before it")
     }
-    say(rt, page, b", the batcher puts ");
-    print_held(rt, page, y);
-    say(rt, page, b" there");
 }
 
-// A flag alone differs, and no group is there.
-fn print_flagged(rt: HostRuntime, page: &mut [u8], g: usize, count: usize) {
-    print_name(rt, page, g);
-    say(rt, page, b" is flagged, and the batch has only ");
-    counted(rt, page, count, b" group", b" groups");
-}
-
-// The batcher goes on with padding alone.
-fn print_unfilled(rt: HostRuntime, page: &mut [u8], count: usize, made: usize) {
-    say(rt, page, b"the batch has ");
-    counted(rt, page, count, b" group", b" groups");
-    say(rt, page, b", the batcher fills it up to ");
-    number(rt, page, made as u64);
-}
-
-fn print_at(rt: HostRuntime, page: &mut [u8], batch: OpBatch, made: OpBatch, g: usize)
+// How two batches differ first, at group g. Where neither has it, its flag alone differs; where only the batcher has it and puts no operations of the
+// list there, the batcher goes on with padding alone.
+fn print_at(page: &mut Page, batch: &OpBatch, made: &OpBatch, g: usize) -> fmt::Result
     requires { g < 8 }
 {
-    let x = group_at(batch, g);
-    let y = group_at(made, g);
-    if !x.there {
-        if !y.there {
-            print_flagged(rt, page, g, batch.count as usize);
-            return;
-        }
-        if y.own == 0 {
-            print_unfilled(rt, page, batch.count as usize, made.count as usize);
-            return;
-        }
+    let count = counted(usize::from(batch.count), "group", "groups");
+    let x = Group::at(batch, g);
+    let y = Group::at(made, g);
+    if !x.there && !y.there {
+        return write!(page, "group {g} is flagged, and the batch has only {count}");
     }
-    print_group(rt, page, g, x);
-    print_made(rt, page, y);
+    if !x.there && y.own == 0 {
+        return write!(
+            page,
+            "the batch has {count}, the batcher fills it up to {}",
+            made.count
+        );
+    }
+    print_group(page, g, x)?;
+    print_made(page, y)
 }
 
 // True of every block that is refused so.
-fn print_unlike(rt: HostRuntime, page: &mut [u8]) {
-    say(
-        rt,
-        page,
-        b"batching the block's own operations gives another batch",
-    );
-}
+const UNLIKE: &str = "batching the block's own operations gives another batch";
 
-fn print_difference(rt: HostRuntime, page: &mut [u8], batch: OpBatch, made: OpBatch) {
-    let g = first_difference(batch, made);
-    if g < 8 {
-        print_at(rt, page, batch, made, g);
-        return;
+fn print_difference(page: &mut Page, batch: &OpBatch, made: &OpBatch) -> fmt::Result {
+    match first_difference(batch, made) {
+        Some(g) => print_at(page, batch, made, g),
+        None => write!(page, "{UNLIKE}"),
     }
-    print_unlike(rt, page);
 }
 
 // ---- what is different in a block that is not finished
 
-// Its batch at the place is held against the one that batching its own list gives there. The block's lent runs take what is batched.
-fn print_against(
-    rt: HostRuntime,
-    page: &mut [u8],
-    list_codes: &[u8],
-    list_values: &[u64],
-    batch: OpBatch,
-    place: usize,
-    codes: &mut [u8],
-    values: &mut [u64],
-    records: &mut [u8],
-) {
-    let table = vm::table();
-    let r = build::build(&table, list_codes, list_values, codes, values, records);
-    let Built::Made {
-        batches,
-        operations: _,
-    } = r
-    else {
-        print_unlike(rt, page);
-        return;
-    };
-    if batches <= place {
-        say(
-            rt,
-            page,
-            b"an extra batch, batching the block's own operations gives only ",
-        );
-        number(rt, page, batches as u64);
-        return;
-    }
-    print_difference(rt, page, batch, listing::record(records, place));
-}
-
+// A batch is held against the one that batching the block's own list gives at its place. The lent runs take what is batched.
 fn print_batch(
-    rt: HostRuntime,
-    page: &mut [u8],
-    list_codes: &[u8],
-    list_values: &[u64],
-    batch: OpBatch,
+    page: &mut Page,
+    list: &List,
+    batch: &OpBatch,
     place: usize,
     codes: &mut [u8],
     values: &mut [u64],
     records: &mut [u8],
-) {
-    listing::print_at(rt, page, b" at batch ", place);
-    say(rt, page, b": ");
+) -> fmt::Result {
+    write!(page, " at batch {place}: ")?;
     if batch.starts[8] == 0 {
-        say(rt, page, b"an empty batch");
-        return;
+        return write!(page, "an empty batch");
     }
-    print_against(
-        rt,
-        page,
-        list_codes,
-        list_values,
-        batch,
-        place,
+    match build::build(
+        &vm::table(),
+        list.codes(),
+        list.values(),
         codes,
         values,
         records,
-    );
-}
-
-fn print_many(rt: HostRuntime, page: &mut [u8], n: usize) {
-    say(rt, page, b": the block's own list has ");
-    number(rt, page, n as u64);
-    say(rt, page, b" operations, more than 16384");
-}
-
-// A block of so many batches.
-fn print_block(
-    rt: HostRuntime,
-    page: &mut [u8],
-    batches: usize,
-    place: usize,
-    codes: &mut [u8],
-    values: &mut [u64],
-    records: &mut [u8],
-) {
-    let mut list_codes = space::list_codes();
-    let mut list_values = space::list_values();
-    let n = own_list(
-        codes,
-        values,
-        records,
-        batches,
-        &mut list_codes,
-        &mut list_values,
-    );
-    if n == 0 {
-        say(rt, page, b": the block has no operations of its own");
-        return;
+    ) {
+        Ok(made) if made.batches <= place => write!(
+            page,
+            "an extra batch, batching the block's own operations gives only {}",
+            made.batches
+        ),
+        Ok(_) => print_difference(
+            page,
+            batch,
+            &Runs {
+                codes,
+                values,
+                records,
+            }
+            .record(place),
+        ),
+        Err(_) => write!(page, "{UNLIKE}"),
     }
-    if 16384 < n {
-        print_many(rt, page, n);
-        return;
-    }
-    let batch = listing::record(records, place);
-    print_batch(
-        rt,
-        page,
-        &list_codes[..n],
-        &list_values[..n],
-        batch,
-        place,
-        codes,
-        values,
-        records,
-    );
 }
 
 // The block is read once more, since a strict read that is refused leaves nothing of it.
 fn print_why(
-    rt: HostRuntime,
-    page: &mut [u8],
+    page: &mut Page,
     s: &[u8],
     place: usize,
     codes: &mut [u8],
     values: &mut [u64],
     records: &mut [u8],
-) {
-    let table = vm::table();
-    let r = decoder::decode(&table, s, 0, codes, values, records);
-    let Decoded::Made {
-        batches,
-        operations: _,
-        used: _,
-    } = r
+) -> fmt::Result {
+    let Ok(Decoded { batches, .. }) = decoder::decode(&vm::table(), s, 0, codes, values, records)
     else {
-        say(rt, page, b": ");
-        print_unlike(rt, page);
-        return;
+        return write!(page, ": {UNLIKE}");
     };
-    print_block(rt, page, batches, place, codes, values, records);
+    let runs = Runs {
+        codes,
+        values,
+        records,
+    };
+    let mut own = Own {
+        list: List::new(),
+        more: 0,
+    };
+    own.push_batches(runs, batches);
+    match own.count() {
+        0 => write!(page, ": the block has no operations of its own"),
+        1..=16384 => print_batch(
+            page,
+            &own.list,
+            &runs.record(place),
+            place,
+            codes,
+            values,
+            records,
+        ),
+        n => write!(
+            page,
+            ": the block's own list has {n} operations, more than 16384"
+        ),
+    }
 }
 
 // ---- a file's line
 
-fn start(rt: HostRuntime, page: &mut [u8], answer: &[u8], path: &[u8]) {
-    say(rt, page, answer);
-    console::quote(rt, page, path, 4096);
-    say(rt, page, b": ");
-}
-
-fn start_refused(
-    rt: HostRuntime,
-    page: &mut [u8],
-    path: &[u8],
-    s: &[u8],
-    refusal: u8,
-    place: usize,
-) {
-    start(rt, page, b"not finished ", path);
-    listing::print_numbered(rt, page, s, 0, refusal, place);
-}
-
 // How many bytes follow, where there are any; `whole` where the file's end was seen.
 fn after(read: usize, used: usize, whole: bool) -> After {
     if read <= used {
-        return After::Unasked;
+        After::Unasked
+    } else if whole {
+        After::Bytes(read - used)
+    } else {
+        After::AtLeast(read - used)
     }
-    if whole {
-        return After::Bytes(read - used);
-    }
-    After::AtLeast(read - used)
-}
-
-fn print_finished(
-    rt: HostRuntime,
-    page: &mut [u8],
-    path: &[u8],
-    records: &[u8],
-    block: Block,
-    rest: After,
-) {
-    start(rt, page, b"finished ", path);
-    listing::print_totals(rt, page, records, block, rest);
-}
-
-// A refused block; the lent runs are there to find out why.
-fn refused(
-    rt: HostRuntime,
-    page: &mut [u8],
-    path: &[u8],
-    s: &[u8],
-    refusal: u8,
-    place: usize,
-    codes: &mut [u8],
-    values: &mut [u64],
-    records: &mut [u8],
-) {
-    start_refused(rt, page, path, s, refusal, place);
-    if refusal == 18 {
-        print_why(rt, page, s, place, codes, values, records);
-        say(rt, page, b"\n");
-        return;
-    }
-    say(rt, page, b": ");
-    listing::print_words(rt, page, refusal, place);
-    say(rt, page, b"\n");
 }
 
 // The first bytes of a file, as many as a block may have.
-fn check_bytes(rt: HostRuntime, page: &mut [u8], path: &[u8], s: &[u8], whole: bool) {
-    let table = vm::table();
+fn check_bytes(page: &mut Page, path: &[u8], s: &[u8], whole: bool) -> fmt::Result {
     let mut codes = space::codes();
     let mut values = space::values();
     let mut records = space::records();
-    let r = strict::decode_strict(&table, s, 0, &mut codes, &mut values, &mut records);
-    match r {
-        Decoded::Made {
-            batches,
-            operations,
-            used,
-        } => {
+    match strict::decode_strict(&vm::table(), s, 0, &mut codes, &mut values, &mut records) {
+        Ok(
+            Decoded {
+                batches,
+                operations,
+                used,
+            },
+        ) => {
+            let runs = Runs {
+                codes: &codes,
+                values: &values,
+                records: &records,
+            };
             let block = Block {
                 at: 0,
                 batches,
                 operations,
                 used,
             };
-            print_finished(rt, page, path, &records, block, after(s.len(), used, whole));
+            write!(page, "finished {}: ", Quoted(path))?;
+            listing::print_totals(page, runs, block, after(s.len(), used, whole))
         }
-        Decoded::Refused { number, place } => refused(
-            rt,
-            page,
-            path,
-            s,
-            number,
-            place,
-            &mut codes,
-            &mut values,
-            &mut records,
-        ),
+        Err(refusal) => {
+            write!(page, "not finished {}: ", Quoted(path))?;
+            listing::print_numbered(page, s, 0, refusal)?;
+            match refusal {
+                Refusal::Unfinished { batch } => print_why(
+                    page,
+                    s,
+                    batch,
+                    &mut codes,
+                    &mut values,
+                    &mut records,
+                )?,
+                _ => write!(page, ": {refusal}")?,
+            }
+            writeln!(page)
+        }
     }
 }
 
 // ---- files
 
-fn unread(rt: HostRuntime, page: &mut [u8], path: &[u8], error: Error) {
-    start(rt, page, b"not finished ", path);
-    console::unread(rt, page, error);
+// The first bytes of a file.
+fn read<'a>(rt: HostRuntime, path: &[u8], room: &'a mut [u8]) -> Result<&'a [u8]> {
+    let mut file = console::open(rt, path)?;
+    console::fill(&mut file, room)
 }
 
-fn check_read(rt: HostRuntime, page: &mut [u8], path: &[u8], file: &mut File, room: &mut [u8]) {
-    let got = console::fill(file, room);
-    if let Some(error) = got.failed {
-        unread(rt, page, path, error);
-        return;
-    }
-    let n = got.count;
-    let whole = n < room.len();
-    check_bytes(rt, page, path, &room[..n], whole);
-}
-
-fn check_open(rt: HostRuntime, page: &mut [u8], path: &[u8], file: &mut File) {
+fn check_file(rt: HostRuntime, page: &mut Page, path: &[u8]) -> fmt::Result {
     let mut room = space::bytes();
-    check_read(rt, page, path, file, &mut room);
-}
-
-fn check_file(rt: HostRuntime, page: &mut [u8], path: &[u8]) {
-    match console::open(rt, path) {
-        Ok(mut file) => check_open(rt, page, path, &mut file),
-        Err(error) => unread(rt, page, path, error),
+    let most = room.len();
+    match read(rt, path, &mut room) {
+        Ok(bytes) => check_bytes(page, path, bytes, bytes.len() < most),
+        Err(error) => writeln!(
+            page,
+            "not finished {}: {}",
+            Quoted(path),
+            console::unread(error)
+        ),
     }
 }
 
 // ---- arguments
 
-fn help(rt: HostRuntime, page: &mut [u8]) {
-    say(
-        rt,
-        page,
-        b"finished FILE...: says for each file, in one line, whether the block that it starts with is finished: whether batching the block's own\noperations (flagged padding dropped), under the virtual machine's own table, writes those very bytes.\nThe line starts with `finished`, and has the block's totals and how many bytes follow it, if any do; or it starts with `not finished`, and has\nthe number of the refusal, where it is and what is wrong: 18 where the block can be read and is not finished, with the first batch that is\ndifferent and what is different there. A file that cannot be read has a line too, without a number. A list has at most 16384 operations.\n",
-    );
-}
-
-fn check_name(rt: HostRuntime, page: &mut [u8], path: &[u8]) {
-    if check::same(path, b"--help") {
-        help(rt, page);
-        return;
-    }
-    check_file(rt, page, path);
-}
+const HELP: &str =
+    "finished FILE...: says for each file, in one line, whether the block that it starts with is finished: whether batching the block's own\noperations (flagged padding dropped), under the virtual machine's own table, writes those very bytes.\nThe line starts with `finished`, and has the block's totals and how many bytes follow it, if any do; or it starts with `not finished`, and has\nthe number of the refusal, where it is and what is wrong: 18 where the block can be read and is not finished, with the first batch that is\ndifferent and what is different there. A file that cannot be read has a line too, without a number. A list has at most 16384 operations.\n";
 
 // The i-th argument.
-fn check_argument(rt: HostRuntime, page: &mut [u8], i: usize) {
-    let mut path = [0u8; 4096];
-    let Ok(n) = rt.arg(i, &mut path) else {
-        say(rt, page, b"not finished: the name of file ");
-        number(rt, page, i as u64);
-        say(rt, page, b" is too long\n");
-        return;
-    };
-    check_name(rt, page, &path[..n]);
+fn check_argument(rt: HostRuntime, page: &mut Page, i: usize) -> fmt::Result {
+    let mut name = [0u8; 4096];
+    match console::argument(rt, i, &mut name) {
+        None => writeln!(page, "not finished: the name of file {i} is too long"),
+        Some(path) if path == b"--help".as_slice() => write!(page, "{HELP}"),
+        Some(path) => check_file(rt, page, path),
+    }
 }
 
-fn check_arguments(rt: HostRuntime, page: &mut [u8], count: usize) {
-    let mut i: usize = 1;
-    while i < count {
-        check_argument(rt, page, i);
-        console::flush(rt, page);
-        i += 1;
+fn check_arguments(rt: HostRuntime, page: &mut Page, count: usize) -> fmt::Result {
+    for i in 1..count {
+        check_argument(rt, page, i)?;
+        page.flush()?;
     }
+    Ok(())
 }
 
 fn main(rt: HostRuntime) {
     let count = console::arguments(rt);
     if count < 2 {
-        console::tell(rt, b"usage: finished FILE... (finished --help says more)\n");
-        return;
+        return console::tell(rt, "usage: finished FILE... (finished --help says more)\n");
     }
-    let mut page = console::output();
-    check_arguments(rt, &mut page, count);
+    let mut page = Page::output(rt);
+    let _ = check_arguments(rt, &mut page, count);
 }

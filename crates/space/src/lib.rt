@@ -2,7 +2,7 @@
 // asks for.
 #![tactic(auto)]
 
-ghost use Rattle.std.specs.Prelude.{◌≡◌, length};
+ghost use Rattle.std.specs.Prelude.{◌≡◌, ◌≤◌, length};
 
 // 65,535 operations, and one.
 pub fn codes() -> [u8; 65536]
@@ -42,4 +42,47 @@ pub fn list_values() -> [u64; 16384]
     ensures { 16384 ≡ length result }
 {
     [0; 16384]
+}
+
+// ---- a list to batch
+
+// There is no room for one more.
+#[derive(Clone, Copy, Debug, PartialEq, Eq)]
+pub struct Full;
+
+#[derive(Drop)]
+pub struct List {
+    codes: [u8; 16384],
+    values: [u64; 16384],
+    count: usize,
+    ghost within: { count ≤ 16384 },
+}
+
+impl List {
+    pub fn new() -> List {
+        List {
+            codes: [0; 16384],
+            values: [0; 16384],
+            count: 0,
+        }
+    }
+
+    pub fn push(&mut self, code: u8, value: u64) -> Result<(), Full> {
+        let i = self.count;
+        if i == self.codes.len() {
+            return Err(Full);
+        }
+        self.codes[i] = code;
+        self.values[i] = value;
+        self.count += 1;
+        Ok(())
+    }
+
+    pub fn codes(&self) -> &[u8] {
+        &self.codes[..self.count]
+    }
+
+    pub fn values(&self) -> &[u64] {
+        &self.values[..self.count]
+    }
 }
