@@ -4,7 +4,7 @@
 #![tactic(auto)]
 
 use build::Totals;
-use console::{Page, Quoted, Text};
+use console::{Page, Text, quote, quote_name};
 use listing::{After, Block, Runs};
 use refusal::Refusal;
 use space::{Full, List};
@@ -137,16 +137,8 @@ struct Wrong<'a> {
 
 impl fmt::Display for Wrong<'_> {
     fn fmt<W: fmt::Write>(&self, f: &mut fmt::Formatter<W>) -> fmt::Result {
-        let words = text::words(self.line);
-        let most = words.len().min(40);
-        let more = if most < words.len() { ".." } else { "" };
-        write!(
-            f,
-            "line {}: {}{more}: {}",
-            self.place,
-            Quoted(&words[..most]),
-            self.fault
-        )
+        let words = quote(text::words(self.line), 40);
+        write!(f, "line {}: {words}: {}", self.place, self.fault)
     }
 }
 
@@ -166,11 +158,8 @@ fn take(line: &[u8], list: &mut List) -> Result<(), Fault> {
 
 fn read<'a>(text: &'a [u8], list: &mut List) -> Result<(), Wrong<'a>> {
     for (i, line) in text.split_inclusive(|b| *b == b'\n').enumerate() {
-        take(line, list).map_err(|fault| Wrong {
-            place: i.wrapping_add(1),
-            line,
-            fault,
-        })?;
+        let place = i + 1;
+        take(line, list).map_err(|fault| Wrong { place, line, fault })?;
     }
     Ok(())
 }
@@ -349,14 +338,14 @@ fn batch(
 // ---- a list
 
 fn tell_wrong(rt: HostRuntime, name: &[u8], wrong: Wrong) {
-    console::tell(rt, format_args!("batch: {}: {wrong}\n", Quoted(name)));
+    console::tell(rt, format_args!("batch: {}: {wrong}\n", quote_name(name)));
 }
 
 fn tell_refusal(rt: HostRuntime, name: &[u8], refusal: Refusal) {
     let number = refusal.number();
     console::tell(
         rt,
-        format_args!("batch: {}: refusal {number}: {refusal}\n", Quoted(name)),
+        format_args!("batch: {}: refusal {number}: {refusal}\n", quote_name(name)),
     );
 }
 

@@ -3,7 +3,7 @@
 
 ghost use Rattle.std.specs.Prelude.{◌≤◌, length, IfSome};
 
-use console::{print as say, print_number};
+use std::fmt;
 use text::Radix;
 
 // ---- the items of runs
@@ -174,23 +174,25 @@ impl Function {
         let i = (number as usize).checked_sub(1)?;
         Function::ALL.get(i).copied()
     }
+}
 
-    pub fn name(self) -> &'static [u8] {
+impl fmt::Display for Function {
+    fn fmt<W: fmt::Write>(&self, f: &mut fmt::Formatter<W>) -> fmt::Result {
         match self {
-            Function::Build => b"build",
-            Function::Encode => b"encode",
-            Function::Decode => b"decode",
-            Function::Structure => b"structure",
-            Function::Padding => b"padding",
-            Function::Commitment => b"commitment",
-            Function::RawTable => b"raw table",
-            Function::PaddedTable => b"padded table",
-            Function::PaddedIndex => b"padded index",
-            Function::RawIndex => b"raw index",
-            Function::Group => b"group",
-            Function::NextGroup => b"next group",
-            Function::DecodeStrict => b"decode strict",
-            Function::Compare => b"compare",
+            Function::Build => write!(f, "build"),
+            Function::Encode => write!(f, "encode"),
+            Function::Decode => write!(f, "decode"),
+            Function::Structure => write!(f, "structure"),
+            Function::Padding => write!(f, "padding"),
+            Function::Commitment => write!(f, "commitment"),
+            Function::RawTable => write!(f, "raw table"),
+            Function::PaddedTable => write!(f, "padded table"),
+            Function::PaddedIndex => write!(f, "padded index"),
+            Function::RawIndex => write!(f, "raw index"),
+            Function::Group => write!(f, "group"),
+            Function::NextGroup => write!(f, "next group"),
+            Function::DecodeStrict => write!(f, "decode strict"),
+            Function::Compare => write!(f, "compare"),
         }
     }
 }
@@ -207,31 +209,28 @@ pub struct Case<'a> {
 }
 
 impl Case<'_> {
-    // The start of a line about what differs.
-    fn differs(&mut self, what: &[u8]) {
+    // A line about what differs.
+    fn differs<D: fmt::Display + Drop>(&mut self, what: D) {
         self.same = false;
-        say(self.rt, b"  line ");
-        print_number(self.rt, self.place);
-        say(self.rt, b", ");
-        say(self.rt, self.function.name());
-        say(self.rt, b": ");
-        say(self.rt, what);
+        let Case {
+            place,
+            function,
+            ..
+        } = self;
+        console::print(
+            self.rt,
+            format_args!("  line {place}, {function}: {what}\n"),
+        );
     }
 
-    fn hold(&mut self, what: &[u8], ours: usize, theirs: usize) {
-        if ours == theirs {
-            return;
+    fn hold(&mut self, what: &str, ours: usize, theirs: usize) {
+        if ours != theirs {
+            self.differs(format_args!("{what} is {ours}, in the file {theirs}"));
         }
-        self.differs(what);
-        say(self.rt, b" is ");
-        print_number(self.rt, ours);
-        say(self.rt, b", in the file ");
-        print_number(self.rt, theirs);
-        say(self.rt, b"\n");
     }
 
     // One number of the reply.
-    pub fn is(&mut self, what: &[u8], ours: usize) -> Option<()> {
+    pub fn is(&mut self, what: &str, ours: usize) -> Option<()> {
         let theirs = self.line.index()?;
         self.hold(what, ours, theirs);
         Some(())
@@ -239,16 +238,16 @@ impl Case<'_> {
 
     // The number of refusal and its place, which the original does not always name.
     pub fn refusal(&mut self, number: u8, place: usize) -> Option<()> {
-        self.is(b"number", usize::from(number))?;
+        self.is("number", usize::from(number))?;
         let theirs = self.line.index()?;
         if theirs != usize::MAX {
-            self.hold(b"place", place, theirs);
+            self.hold("place", place, theirs);
         }
         Some(())
     }
 
     // A run of outputs.
-    pub fn run_is<T: Item>(&mut self, what: &[u8], ours: &[T]) -> Option<()> {
+    pub fn run_is<T: Item>(&mut self, what: &str, ours: &[T]) -> Option<()> {
         let Head { length, given } = self.line.head(MOST)?;
         let mut theirs = 0;
         let mut first = None;
@@ -261,13 +260,9 @@ impl Case<'_> {
             }
         }
         if ours.len() != length {
-            self.differs(what);
-            say(self.rt, b" are not so many as in the file\n");
+            self.differs(format_args!("{what} are not so many as in the file"));
         } else if let Some(i) = first {
-            self.differs(what);
-            say(self.rt, b" differ first at ");
-            print_number(self.rt, i);
-            say(self.rt, b"\n");
+            self.differs(format_args!("{what} differ first at {i}"));
         }
         Some(())
     }
@@ -281,13 +276,13 @@ impl Case<'_> {
         operations: usize,
     ) -> Option<()> {
         self.refusal(number, place)?;
-        self.is(b"batches", batches)?;
-        self.is(b"operations", operations)
+        self.is("batches", batches)?;
+        self.is("operations", operations)
     }
 
     pub fn block_is(&mut self, codes: &[u8], values: &[u64], records: &[u8]) -> Option<()> {
-        self.run_is(b"opcodes", codes)?;
-        self.run_is(b"values", values)?;
-        self.run_is(b"records", records)
+        self.run_is("opcodes", codes)?;
+        self.run_is("values", values)?;
+        self.run_is("records", records)
     }
 }

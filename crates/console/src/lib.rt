@@ -193,17 +193,36 @@ impl fmt::Display for Count {
     }
 }
 
-// Somebody else's text, with \xNN for a byte that is not printable.
+// Somebody else's text, cut after so many bytes; with \xNN for a byte that is not printable.
 #[derive(Clone, Copy)]
-pub struct Quoted<'a>(pub &'a [u8]);
+pub struct Quoted<'a> {
+    text: &'a [u8],
+    is_cut: bool,
+}
+
+pub fn quote(text: &[u8], most: usize) -> Quoted<'_> {
+    let n = text.len().min(most);
+    Quoted {
+        text: &text[..n],
+        is_cut: n < text.len(),
+    }
+}
+
+// The name of a file.
+pub fn quote_name(path: &[u8]) -> Quoted<'_> {
+    quote(path, 4096)
+}
 
 impl fmt::Display for Quoted<'_> {
     fn fmt<W: fmt::Write>(&self, f: &mut fmt::Formatter<W>) -> fmt::Result {
-        for b in self.0 {
+        for b in self.text {
             match *b {
                 32..=126 => f.write_char(char::from(*b))?,
                 _ => write!(f, "\\x{b:02x}")?,
             }
+        }
+        if self.is_cut {
+            f.write_str("..")?;
         }
         Ok(())
     }
@@ -235,7 +254,7 @@ fn tell_failed(rt: HostRuntime, what: &str, error: Error) {
 
 // A call that failed, in the system's words.
 pub fn fail(rt: HostRuntime, program: &str, path: &[u8], error: Error) {
-    tell(rt, format_args!("{program}: {}", Quoted(path)));
+    tell(rt, format_args!("{program}: {}", quote_name(path)));
     tell_failed(rt, "", error);
 }
 
@@ -251,7 +270,10 @@ pub fn unread(error: Error) -> &'static str {
 }
 
 pub fn wrong(rt: HostRuntime, program: &str, path: &[u8], what: &str) {
-    tell(rt, format_args!("{program}: {}: {what}\n", Quoted(path)));
+    tell(
+        rt,
+        format_args!("{program}: {}: {what}\n", quote_name(path)),
+    );
 }
 
 fn print_to<D: fmt::Display + Drop>(page: &mut Page, text: D) {

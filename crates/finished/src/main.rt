@@ -4,7 +4,7 @@
 
 ghost use Rattle.std.specs.Prelude.{◌≤◌, ◌<◌, IfSome};
 
-use console::{Page, Quoted, counted};
+use console::{Page, counted, quote_name};
 use decoder::Decoded;
 use listing::{After, Block, Runs};
 use op_batch::OpBatch;
@@ -286,11 +286,11 @@ fn check_bytes(page: &mut Page, path: &[u8], s: &[u8], whole: bool) -> fmt::Resu
                 operations,
                 used,
             };
-            write!(page, "finished {}: ", Quoted(path))?;
+            write!(page, "finished {}: ", quote_name(path))?;
             listing::print_totals(page, runs, block, after(s.len(), used, whole))
         }
         Err(refusal) => {
-            write!(page, "not finished {}: ", Quoted(path))?;
+            write!(page, "not finished {}: ", quote_name(path))?;
             listing::print_numbered(page, s, 0, refusal)?;
             match refusal {
                 Refusal::Unfinished { batch } => print_why(
@@ -324,7 +324,7 @@ fn check_file(rt: HostRuntime, page: &mut Page, path: &[u8]) -> fmt::Result {
         Err(error) => writeln!(
             page,
             "not finished {}: {}",
-            Quoted(path),
+            quote_name(path),
             console::unread(error)
         ),
     }

@@ -2,11 +2,12 @@
 // output whole with the file's.
 #![tactic(auto)]
 
-ghost use Rattle.std.specs.Prelude.{◌≡◌, ◌≤◌, length, IfOk};
-ghost use Rattle.io.specs.Counts.{IsPrefixLen};
+ghost use Rattle.std.specs.Prelude.{◌≡◌, ◌≤◌, length};
 
 use cases::{Case, Function, Line};
-use console::{print as say, print_number};
+use console::Page;
+use std::fmt;
+use std::fmt::Write;
 use std::io;
 
 // ---- the functions, each on what its line lends
@@ -46,8 +47,8 @@ fn encode(case: &mut Case) -> Option<()> {
     let at = case.line.index()?;
     let r = exports::oli_encode(case.table, codes, values, records, out, at);
     case.refusal(r.number, r.place)?;
-    case.is(b"length", r.length)?;
-    case.run_is(b"bytes", out)
+    case.is("length", r.length)?;
+    case.run_is("bytes", out)
 }
 
 fn decode(case: &mut Case) -> Option<()> {
@@ -66,7 +67,7 @@ fn decode(case: &mut Case) -> Option<()> {
         exports::oli_decode(case.table, block, at, codes, values, records)
     };
     case.made(r.number, r.place, r.batches, r.operations)?;
-    case.is(b"bytes used", r.used)?;
+    case.is("bytes used", r.used)?;
     case.block_is(codes, values, records)
 }
 
@@ -109,12 +110,12 @@ fn compare(case: &mut Case) -> Option<()> {
         two_records,
         report,
     );
-    case.is(b"mark", usize::from(r.mark))?;
+    case.is("mark", usize::from(r.mark))?;
     case.refusal(r.number, r.place)?;
-    case.is(b"entries", r.entries)?;
+    case.is("entries", r.entries)?;
     case.block_is(codes, values, records)?;
     case.block_is(two_codes, two_values, two_records)?;
-    case.run_is(b"report", report)
+    case.run_is("report", report)
 }
 
 // The checks and the tables.
@@ -148,8 +149,8 @@ fn index_table(case: &mut Case) -> Option<()> {
         exports::oli_padded_table(codes, values, records, out)
     };
     case.refusal(r.number, r.place)?;
-    case.is(b"entries", r.entries)?;
-    case.run_is(b"entries", out)
+    case.is("entries", r.entries)?;
+    case.run_is("entries", out)
 }
 
 fn index(case: &mut Case) -> Option<()> {
@@ -161,8 +162,8 @@ fn index(case: &mut Case) -> Option<()> {
     } else {
         exports::oli_raw_index(entries, asked)
     };
-    case.is(b"found", usize::from(r.found))?;
-    case.is(b"index", r.index)
+    case.is("found", usize::from(r.found))?;
+    case.is("index", r.index)
 }
 
 fn group(case: &mut Case) -> Option<()> {
@@ -171,9 +172,9 @@ fn group(case: &mut Case) -> Option<()> {
     let asked = case.line.index()?;
     let r = exports::oli_group(record, asked);
     case.refusal(r.number, r.place)?;
-    case.is(b"found", usize::from(r.found))?;
-    case.is(b"group", r.group)?;
-    case.is(b"position", r.position)
+    case.is("found", usize::from(r.found))?;
+    case.is("group", r.group)?;
+    case.is("position", r.position)
 }
 
 fn next_group(case: &mut Case) -> Option<()> {
@@ -182,8 +183,8 @@ fn next_group(case: &mut Case) -> Option<()> {
     let asked = case.line.index()?;
     let r = exports::oli_next_group(record, asked);
     case.refusal(r.number, r.place)?;
-    case.is(b"found", usize::from(r.found))?;
-    case.is(b"group", r.group)
+    case.is("found", usize::from(r.found))?;
+    case.is("group", r.group)
 }
 
 fn run(case: &mut Case) -> Option<()> {
@@ -297,102 +298,85 @@ fn lines(rt: HostRuntime, text: &[u8], counts: &mut Counts) -> Result<(), usize>
 fn print_counts(rt: HostRuntime, counts: &Counts) {
     for (function, n) in Function::ALL.iter().zip(counts.agree) {
         if n != 0 {
-            say(rt, b"  ");
-            say(rt, function.name());
-            say(rt, b": ");
-            print_number(rt, n);
-            say(rt, b" agree\n");
+            console::print(rt, format_args!("  {function}: {n} agree\n"));
         }
     }
 }
 
-fn not_read(rt: HostRuntime, path: &[u8], counts: &mut Counts, why: &[u8]) {
-    say(rt, b"  ");
-    say(rt, path);
-    say(rt, why);
+// A file's name in a line.
+fn print_name<D: fmt::Display + Drop>(rt: HostRuntime, before: &str, path: &[u8], after: D) -> fmt::Result {
+    let mut page = Page::output(rt);
+    page.write_str(before)?;
+    page.say(path)?;
+    writeln!(page, "{after}")?;
+    page.flush()
+}
+
+fn not_read<D: fmt::Display + Drop>(rt: HostRuntime, path: &[u8], counts: &mut Counts, why: D) {
+    let _ = print_name(rt, "  ", path, why);
     add(&mut counts.not_read);
 }
 
-// How many bytes of text the file has; all of the room where it is too long.
-fn load(rt: HostRuntime, path: &[u8], text: &mut [u8]) -> io::Result<usize>
-    ensures { IfOk result (λ n. IsPrefixLen n text.new) }
-{
+// The text of a file, or as much of it as the room takes.
+fn load<'a>(rt: HostRuntime, path: &[u8], room: &'a mut [u8]) -> io::Result<&'a [u8]> {
     let mut file = console::open(rt, path)?;
-    let got = console::fill(&mut file, text);
-    got.failed.map_or(Ok(got.count), Err)
+    console::fill(&mut file, room)
 }
 
 fn file(rt: HostRuntime, path: &[u8], counts: &mut Counts) {
-    say(rt, path);
-    say(rt, b"\n");
+    let _ = print_name(rt, "", path, "");
     counts.agree = [0; 14];
-    let mut text = [0u8; 262144];
-    let n = load(rt, path, &mut text).unwrap_or(0);
-    if n == 0 {
-        not_read(rt, path, counts, b" cannot be read, or has nothing in it\n");
-        return;
+    let mut room = [0u8; 262144];
+    let most = room.len();
+    let text = load(rt, path, &mut room).unwrap_or_default();
+    if text.is_empty() {
+        return not_read(rt, path, counts, " cannot be read, or has nothing in it");
     }
-    if n == text.len() {
-        not_read(rt, path, counts, b" is longer than 262143 bytes\n");
-        return;
+    if text.len() == most {
+        return not_read(rt, path, counts, " is longer than 262143 bytes");
     }
-    let read = lines(rt, &text[..n], counts);
+    let read = lines(rt, text, counts);
     print_counts(rt, counts);
     if let Err(place) = read {
-        not_read(rt, path, counts, b", line ");
-        print_number(rt, place);
-        say(
-            rt,
-            b": neither a case nor a table; what comes after it is not run\n",
-        );
+        not_read(rt, path, counts, format_args!(", line {place}: neither a case nor a table; what comes after it is not run"));
     }
 }
 
-fn total(rt: HostRuntime, counts: &Counts) {
-    print_number(rt, counts.cases);
-    say(rt, b" cases, ");
-    print_number(rt, counts.differ);
-    say(rt, b" differ");
+fn print_total(rt: HostRuntime, counts: &Counts) -> fmt::Result {
+    let mut page = Page::output(rt);
+    write!(page, "{} cases, {} differ", counts.cases, counts.differ)?;
     if counts.not_read != 0 {
-        say(rt, b"; files not read to the end: ");
-        print_number(rt, counts.not_read);
+        write!(page, "; files not read to the end: {}", counts.not_read)?;
     }
-    say(rt, b"\n");
+    writeln!(page)?;
+    page.flush()
 }
 
 // The file that an argument names.
 fn argument(rt: HostRuntime, i: usize, counts: &mut Counts) {
     let mut path = [0u8; 4096];
-    let n = console::argument(rt, i, &mut path);
-    file(rt, &path[..n], counts);
+    let path = console::argument(rt, i, &mut path).unwrap_or_default();
+    file(rt, path, counts);
 }
 
-fn help(rt: HostRuntime) {
-    say(rt, b"usage: replay FILE..\n");
-    say(
-        rt,
-        b"Runs the cases of each file (rust/README.md) on the exported functions, and says where a reply or an output is not the file's.\n",
-    );
-}
+const HELP: &str = "usage: replay FILE..\nRuns the cases of each file (rust/README.md) on the exported functions, and says where a reply or an output is not the file's.\n";
 
 fn asked_for_help(rt: HostRuntime) -> bool {
     let mut word = [0u8; 4096];
-    let n = console::argument(rt, 1, &mut word);
-    &word[..n] == b"--help".as_slice()
+    console::argument(rt, 1, &mut word) == Some(b"--help".as_slice())
 }
 
 fn main(rt: HostRuntime) {
-    if console::arguments(rt) < 2 {
-        console::tell(rt, b"usage: replay FILE.. (replay --help says more)\n");
-        return;
+    let count = console::arguments(rt);
+    if count < 2 {
+        return console::tell(rt, "usage: replay FILE.. (replay --help says more)\n");
     }
     if asked_for_help(rt) {
-        help(rt);
-        return;
+        return console::print(rt, HELP);
     }
     let mut counts = Counts::default();
-    for i in 1..console::arguments(rt) {
+    for i in 1..count {
         argument(rt, i, &mut counts);
     }
-    total(rt, &counts);
+    let _ = print_total(rt, &counts);
 }

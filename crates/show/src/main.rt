@@ -2,7 +2,7 @@
 // what is wrong.
 #![tactic(auto)]
 
-use console::{Page, Quoted};
+use console::{Page, quote_name};
 use decoder::Decoded;
 use listing::{After, Block, Runs};
 use refusal::Refusal;
@@ -23,7 +23,11 @@ fn print_refusal(
     refusal: Refusal,
 ) -> fmt::Result {
     let number = refusal.number();
-    write!(page, "show: {}: refusal {number}: {refusal}", Quoted(path))?;
+    write!(
+        page,
+        "show: {}: refusal {number}: {refusal}",
+        quote_name(path)
+    )?;
     if let Some(byte) = listing::place_byte(s, 0, refusal) {
         let what = match refusal {
             Refusal::CutShort { .. } => "in the item that starts at byte",
