@@ -4,7 +4,7 @@
 
 ghost use Rattle.std.specs.Prelude.{◌+◌, ◌<◌, ◌^◌};
 
-use comparison::NotCompared;
+use comparison::Refused;
 use console::{Page, counted, quote_name};
 use decoder::Decoded;
 use listing::Runs;
@@ -292,15 +292,36 @@ struct Room {
 
 // A block once more, since comparing leaves nothing of it.
 fn read_again<'a>(s: &[u8], at: usize, room: &'a mut Room) -> Whole<'a> {
-    let made = decoder::decode(&vm::table(), s, at, &mut room.codes, &mut room.values, &mut room.records).unwrap_or_default();
+    let made = decoder::decode(
+        &vm::table(),
+        s,
+        at,
+        &mut room.codes,
+        &mut room.values,
+        &mut room.records,
+    )
+    .unwrap_or_default();
     Whole {
-        runs: Runs { codes: &room.codes, values: &room.values, records: &room.records },
+        runs: Runs {
+            codes: &room.codes,
+            values: &room.values,
+            records: &room.records,
+        },
         batches: made.batches,
         operations: made.operations,
     }
 }
 
-fn compare_in(rt: HostRuntime, first: Source, s: &[u8], second: Source, t: &[u8], one: &mut Room, two: &mut Room, report: &mut [i32]) {
+fn compare_in(
+    rt: HostRuntime,
+    first: Source,
+    s: &[u8],
+    second: Source,
+    t: &[u8],
+    one: &mut Room,
+    two: &mut Room,
+    report: &mut [i32],
+) {
     let table = vm::table();
     let compared = comparison::compare(
         &table,
@@ -318,7 +339,10 @@ fn compare_in(rt: HostRuntime, first: Source, s: &[u8], second: Source, t: &[u8]
         report,
     );
     match compared {
-        Ok(0) => console::print(rt, format_args!("same: {first} / {second}: the blocks are the same\n")),
+        Ok(0) => console::print(
+            rt,
+            format_args!("same: {first} / {second}: the blocks are the same\n"),
+        ),
         Ok(entries) => {
             let both = Both {
                 first: read_again(s, first.at, one),
@@ -326,13 +350,16 @@ fn compare_in(rt: HostRuntime, first: Source, s: &[u8], second: Source, t: &[u8]
             };
             let _ = print_different(rt, first, second, both, report, entries);
         }
-        Err(NotCompared::First(refusal)) => {
+        Err(Refused::First(refusal)) => {
             let _ = print_refused(rt, Side::First, first, s, refusal);
         }
-        Err(NotCompared::Second(refusal)) => {
+        Err(Refused::Second(refusal)) => {
             let _ = print_refused(rt, Side::Second, second, t, refusal);
         }
-        Err(NotCompared::Report) => console::print(rt, "refused: there is no room for so many differences\n"),
+        Err(Refused::Report) => console::print(
+            rt,
+            "refused: there is no room for so many differences\n",
+        ),
     }
 }
 
@@ -371,7 +398,12 @@ fn read<'a>(rt: HostRuntime, path: &[u8], room: &'a mut [u8]) -> io::Result<Opti
 }
 
 // The same; a line says why there are none.
-fn had<'a>(rt: HostRuntime, side: Side, source: Source, room: &'a mut [u8]) -> Option<&'a [u8]> {
+fn had<'a>(
+    rt: HostRuntime,
+    side: Side,
+    source: Source,
+    room: &'a mut [u8; 1048576],
+) -> Option<&'a [u8]> {
     match read(rt, source.path, room) {
         Ok(Some(bytes)) => Some(bytes),
         Ok(None) => {
