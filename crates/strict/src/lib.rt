@@ -234,19 +234,19 @@ impl Walk<'_> {
         ensures { result ≡ fed_in self.now (code ∷ []) work }
     {
         let imm = self.table[code as usize] == 1;
+        // Returned at once: with an `else` the work is copied once more (measured).
         if work.draft.joins(imm) {
-            Work {
+            return Work {
                 draft: work.draft.join(code, imm),
                 raw: work.raw + 1,
                 ..work
-            }
-        } else {
-            let room = self.make_room(work, imm);
-            Work {
-                draft: room.draft.add(code, imm),
-                raw: room.raw + 1,
-                ..room
-            }
+            };
+        }
+        let room = self.make_room(work, imm);
+        Work {
+            draft: room.draft.add(code, imm),
+            raw: room.raw + 1,
+            ..room
         }
     }
 
