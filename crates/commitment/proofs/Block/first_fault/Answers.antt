@@ -4,17 +4,16 @@ use Rattle.rules.specs.Checks.{commitment_faults}
 use Rattle.operation.proofs.Faults.{faultless}
 use Rattle.refusal.proofs.Told.{handed}
 use Rattle.checks.proofs.Batches.{came_first, came_last, came_lies, came_stop, came_next}
-use Rattle.checks.proofs.Passed.{checked}
-use Rattle.commitment.proofs.commitment_fault.Goals as goal
+use Rattle.commitment.proofs.Block.first_fault.Goals as goal
 
 pub loop-b-init : goal.loop-b-init
-loop-b-init c = came_first _ _ _ _ (record { width = 8; room = omega arith; passed = c.requires.structure })
+loop-b-init c = came_first _ _ _ _ (record { width = 8; room = omega arith; passed = c.args.self.structure })
 
 pub invariant_of-batch : goal.invariant_of-batch
 invariant_of-batch c =
     let l = c.loop-b in
     let x = came_lies _ _ _ _ _ _ _ l.invariant (omega arith) in
-    record { known = c.requires.known.table; same = x.equal; whole = x.whole; sound = (checked _ _ _ _ c.requires.structure).1.right l.b (omega arith); inside = x.inside }
+    record { within = omega (arith, l.invariant.all); inside = x.inside }
 
 pub returns-in_err-fault : goal.returns-in_err-fault
 unfolding commitment_faults
@@ -23,7 +22,7 @@ returns-in_err-fault c =
     handed _ _ c.from_residual.ensures.1 ∙ came_stop _ _ _ _ _ _ _ l.invariant (omega arith) _ _ c.in_err-fault.ensures
 
 pub loop-b-preserved : goal.loop-b-preserved
-loop-b-preserved c = let l = c.loop-b in came_next _ _ _ _ _ _ _ l.invariant (omega arith) _ c.start-from.ensures.0 (faultless _ _ c.in_ok-fault.ensures)
+loop-b-preserved c = let l = c.loop-b in came_next _ _ _ _ _ _ _ l.invariant (omega arith) _ c.len-from.ensures (faultless _ _ c.in_ok-fault.ensures)
 
 pub returns : goal.returns
 unfolding commitment_faults

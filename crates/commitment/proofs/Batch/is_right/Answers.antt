@@ -2,8 +2,8 @@ use mathlib.Core.Path.{sym, ◌∙◌}
 use native.Mathlib.Omega.{arith}
 use Rattle.commitment.proofs.Groups.{batch_lies, full_group}
 use Rattle.commitment.proofs.Owed.{gone_first, gone_held, gone_free, gone_full, gone_all}
-use Rattle.commitment.proofs.Batch.right.Goals as goal
-use Rattle.commitment.proofs.Batch.right.Goals.{else-held-g-via-then-held-g+else-number-ne0, else-held-g-via-else-held-g}
+use Rattle.commitment.proofs.Batch.is_right.Goals as goal
+use Rattle.commitment.proofs.Batch.is_right.Goals.{else-held-g-via-then-held-g+else-number-ne0, else-held-g-via-else-held-g}
 
 pub loop-g-init : goal.loop-g-init
 loop-g-init c = record { held = omega arith; gone = gone_first _ _ _ _ _ (batch_lies c.args.self) }
@@ -32,7 +32,7 @@ loop-g-preserved c =
     record {
       held = c.if-count-walked.false;
       gone =
-          gone_full _ _ _ _ _ (batch_lies c.args.self) l.held l.g i.gone (omega (arith, c.count-count.ensures.0)) _ c.group-group.ensures c.args.self.known (full_group _ _ c.is_empty.ensures c.if-is_empty.false) c.if-g-held.false w.next
+          gone_full _ _ _ _ _ (batch_lies c.args.self) l.held l.g i.gone (omega (arith, c.count-count.ensures.0)) _ c.group-group.ensures c.args.self.block.known (full_group _ _ c.is_empty.ensures c.if-is_empty.false) c.if-g-held.false w.next
           c.in-Some.ensures.next (omega (arith, c.count-count.ensures, c.if-count-walked.false)) (sym c.number-number.ensures ∙ sym c.if-walked-number.false ∙ c.in-Some.ensures.number);
     }
 
