@@ -230,7 +230,9 @@ fn main(rt: HostRuntime) {
             );
         }
         Ok(text) => {
-            let _ = cases(rt, text);
+            if let Err(error) = cases(rt, text) {
+                console::fail(rt, "check_cases", b"standard output", error);
+            }
         }
     }
 }

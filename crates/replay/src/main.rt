@@ -6,9 +6,8 @@ ghost use Rattle.std.specs.Prelude.{◌≡◌, ◌≤◌, length};
 
 use cases::{Case, Function, Line};
 use console::Page;
-use std::fmt;
 use std::fmt::Write;
-use std::io;
+use std::{fmt, io};
 
 // ---- the functions, each on what its line lends
 
@@ -304,7 +303,12 @@ fn print_counts(rt: HostRuntime, counts: &Counts) {
 }
 
 // A file's name in a line.
-fn print_name<D: fmt::Display + Drop>(rt: HostRuntime, before: &str, path: &[u8], after: D) -> fmt::Result {
+fn print_name<D: fmt::Display + Drop>(
+    rt: HostRuntime,
+    before: &str,
+    path: &[u8],
+    after: D,
+) -> fmt::Result {
     let mut page = Page::output(rt);
     page.write_str(before)?;
     page.say(path)?;
@@ -338,7 +342,14 @@ fn file(rt: HostRuntime, path: &[u8], counts: &mut Counts) {
     let read = lines(rt, text, counts);
     print_counts(rt, counts);
     if let Err(place) = read {
-        not_read(rt, path, counts, format_args!(", line {place}: neither a case nor a table; what comes after it is not run"));
+        not_read(
+            rt,
+            path,
+            counts,
+            format_args!(
+                ", line {place}: neither a case nor a table; what comes after it is not run"
+            ),
+        );
     }
 }
 
@@ -359,7 +370,8 @@ fn argument(rt: HostRuntime, i: usize, counts: &mut Counts) {
     file(rt, path, counts);
 }
 
-const HELP: &str = "usage: replay FILE..\nRuns the cases of each file (rust/README.md) on the exported functions, and says where a reply or an output is not the file's.\n";
+const HELP: &str =
+    "usage: replay FILE..\nRuns the cases of each file (rust/README.md) on the exported functions, and says where a reply or an output is not the file's.\n";
 
 fn asked_for_help(rt: HostRuntime) -> bool {
     let mut word = [0u8; 4096];
