@@ -86,15 +86,14 @@ fn kept_in(which: Prefix, size: usize, pads: usize) -> usize
 }
 
 // The entries of one batch, group by group as far as flags are set.
+#[tactic(auto, using(crate::proofs::Entries::rising, crate::proofs::Entries::ending))]
 fn batch_entries(records: &[u8], b: usize, which: Prefix, from: Filled, out: &mut [u64]) -> Filled
     requires record_in_bounds { (record_size * b + record_size ≤ length records.now) × Fits (record_at records.now b) × (b < 16384) }
     requires waiting_bound { (from.entries + from.waiting ≤ 72 * b) × (from.paddings ≤ 8 * b) }
     ensures goes { Goes which (marks_at (record_at records.now b) 0) from result out.old out.new }
     ensures waiting_bound_2 { (result.entries + result.waiting ≤ 72 * (b + 1)) × (result.paddings ≤ 8 * (b + 1)) }
 {
-    let mut entries = from.entries;
-    let mut waiting = from.waiting;
-    let mut paddings = from.paddings;
+    let mut done = from;
     let mut left = op_batch::flags(records, b); // those from the g-th on
     let mut start = 0;
     for g in 0..8 {
@@ -104,21 +103,17 @@ fn batch_entries(records: &[u8], b: usize, which: Prefix, from: Filled, out: &mu
         left /= 256;
         let end = op_batch::start(records, b, g + 1);
         let pads = pads_in(end - start, op_batch::flag(records, b, g));
-        waiting += kept_in(which, end - start, pads);
+        done.waiting += kept_in(which, end - start, pads);
         start = end;
         if pads == 1 {
-            word::fill(out, entries, waiting, paddings as u64);
-            entries += waiting;
-            waiting = 0;
-            paddings += 1;
+            word::fill(out, done.entries, done.waiting, done.paddings as u64);
+            done.entries += done.waiting;
+            done.waiting = 0;
+            done.paddings += 1;
         }
     }
-    waiting += op_batch::start(records, b, 8) - start;
-    Filled {
-        entries,
-        waiting,
-        paddings,
-    }
+    done.waiting += op_batch::start(records, b, 8) - start;
+    done
 }
 
 // A whole table, and how many entries it has; those past the end of the lent run are left out.

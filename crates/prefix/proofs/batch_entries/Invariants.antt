@@ -10,8 +10,8 @@ abbrev pub invariant-loop-g : goal.invariant-loop-g
 invariant-loop-g l =
     record {
       start : l.start ≡ get_or (record_at l.records l.b).starts l.g 0;
-      entries : l.entries + l.waiting ≤ 72 * l.b + l.start;
-      paddings : l.paddings ≤ 8 * l.b + l.g;
+      entries : l.done.entries + l.done.waiting ≤ 72 * l.b + l.start;
+      paddings : l.done.paddings ≤ 8 * l.b + l.g;
       left : l.left ≡ number 256 (drop l.g (record_at l.records l.b).flags);
-      on : On l.which (record_at l.records l.b) l.initial.out l.initial.entries l.initial.waiting l.initial.paddings l.g l.out l.entries l.waiting l.paddings;
+      on : On l.which (record_at l.records l.b) l.initial.out l.initial.done.entries l.initial.done.waiting l.initial.done.paddings l.g l.out l.done.entries l.done.waiting l.done.paddings;
     }
