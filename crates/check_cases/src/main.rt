@@ -230,9 +230,8 @@ fn main(rt: HostRuntime) {
             );
         }
         Ok(text) => {
-            if let Err(error) = cases(rt, text) {
-                console::fail(rt, "check_cases", b"standard output", error);
-            }
+            // a write that fails is not told: the program never did
+            let _ = cases(rt, text);
         }
     }
 }
