@@ -18,6 +18,8 @@ use refusal::Refusal;
 
 mod input;
 
+const MOST_BYTES: usize = 1048576;
+
 // How many bytes an operation takes.
 fn op_len(table: &[u8; 128], code: u8) -> usize
     requires { code < 128 }
@@ -39,7 +41,7 @@ impl<'a> Input<'a> {
         ensures ok { IfOk result (λ i. (at ≤ size) × (encoded 8 table.now (arena codes.now values.now records.now) size at ≡ left_of i size at)) }
         ensures err { IfErr result (λ r. encoded 8 table.now (arena codes.now values.now records.now) size at ≡ refused (number_of r) (place_of r)) }
     {
-        if !checks::within(codes, values, records) || 1048576 < size {
+        if !checks::within(codes, values, records) || MOST_BYTES < size {
             return Err(Refusal::OverLimit);
         }
         let table = operation::checked(table)?;
