@@ -135,6 +135,7 @@ impl<'a> Input<'a> {
 }
 
 // The block of these opcodes, values and records, into `out` from `at` on; and how many bytes it takes. A refused one writes no byte.
+// The runs come one by one, as the C interface lends them.
 pub fn encode(
     table: &[u8],
     codes: &[u8],
