@@ -6,9 +6,9 @@ ghost use Rattle.std.specs.Prelude.{◌+◌, ◌<◌, ◌^◌};
 
 use comparison::Refused;
 use console::{Page, counted, quote_name};
-use decoder::Decoded;
 use listing::Runs;
 use refusal::Refusal;
+use space::Room;
 use std::fmt::Write;
 use std::fs::File;
 use std::{fmt, io};
@@ -282,14 +282,6 @@ fn not_had(rt: HostRuntime, side: Side, source: Source, why: &str) {
 
 // ---- the bytes of two files
 
-// Room for the largest block.
-#[derive(Drop)]
-struct Room {
-    codes: [u8; 65535],
-    values: [u64; 65535],
-    records: [u8; 1343488],
-}
-
 // A block once more, since comparing leaves nothing of it.
 fn read_again<'a>(s: &[u8], at: usize, room: &'a mut Room) -> Whole<'a> {
     let made = decoder::decode(
@@ -302,11 +294,7 @@ fn read_again<'a>(s: &[u8], at: usize, room: &'a mut Room) -> Whole<'a> {
     )
     .unwrap_or_default();
     Whole {
-        runs: Runs {
-            codes: &room.codes,
-            values: &room.values,
-            records: &room.records,
-        },
+        runs: Runs::from(&*room),
         batches: made.batches,
         operations: made.operations,
     }
@@ -366,14 +354,14 @@ fn compare_in(
 // The room is made where it lies: a function's reply would be copied, and twice the room is more than the stack has where nothing is optimized.
 fn compare_bytes(rt: HostRuntime, first: Source, s: &[u8], second: Source, t: &[u8]) {
     let mut one = Room {
-        codes: [0; 65535],
-        values: [0; 65535],
-        records: [0; 1343488],
+        codes: [0; 65536],
+        values: [0; 65536],
+        records: [0; 1343652],
     };
     let mut two = Room {
-        codes: [0; 65535],
-        values: [0; 65535],
-        records: [0; 1343488],
+        codes: [0; 65536],
+        values: [0; 65536],
+        records: [0; 1343652],
     };
     let mut report = [0i32; 327692];
     compare_in(rt, first, s, second, t, &mut one, &mut two, &mut report);

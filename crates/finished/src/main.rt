@@ -5,11 +5,10 @@
 ghost use Rattle.std.specs.Prelude.{◌≤◌, ◌<◌, IfSome};
 
 use console::{Page, counted, quote_name};
-use decoder::Decoded;
 use listing::{After, Block, Runs};
 use op_batch::OpBatch;
 use refusal::Refusal;
-use space::List;
+use space::{List, Room};
 use std::fmt;
 use std::fmt::Write;
 use std::io::Result;
@@ -167,15 +166,13 @@ fn print_difference(page: &mut Page, batch: &OpBatch, made: &OpBatch) -> fmt::Re
 
 // ---- what is different in a block that is not finished
 
-// A batch is held against the one that batching the block's own list gives at its place. The lent runs take what is batched.
+// A batch is held against the one that batching the block's own list gives at its place. The room takes what is batched.
 fn print_batch(
     page: &mut Page,
     list: &List,
     batch: &OpBatch,
     place: usize,
-    codes: &mut [u8],
-    values: &mut [u64],
-    records: &mut [u8],
+    room: &mut Room,
 ) -> fmt::Result {
     write!(page, " at batch {place}: ")?;
     if batch.starts[8] == 0 {
@@ -185,63 +182,41 @@ fn print_batch(
         &vm::table(),
         list.codes(),
         list.values(),
-        codes,
-        values,
-        records,
+        &mut room.codes,
+        &mut room.values,
+        &mut room.records,
     ) {
         Ok(made) if made.batches <= place => write!(
             page,
             "an extra batch, batching the block's own operations gives only {}",
             made.batches
         ),
-        Ok(_) => print_difference(
-            page,
-            batch,
-            &Runs {
-                codes,
-                values,
-                records,
-            }
-            .record(place),
-        ),
+        Ok(_) => print_difference(page, batch, &Runs::from(&*room).record(place)),
         Err(_) => write!(page, "{UNLIKE}"),
     }
 }
 
 // The block is read once more, since a strict read that is refused leaves nothing of it.
-fn print_why(
-    page: &mut Page,
-    s: &[u8],
-    place: usize,
-    codes: &mut [u8],
-    values: &mut [u64],
-    records: &mut [u8],
-) -> fmt::Result {
-    let Ok(Decoded { batches, .. }) = decoder::decode(&vm::table(), s, 0, codes, values, records)
-    else {
+fn print_why(page: &mut Page, s: &[u8], place: usize, room: &mut Room) -> fmt::Result {
+    let Ok(made) = decoder::decode(
+        &vm::table(),
+        s,
+        0,
+        &mut room.codes,
+        &mut room.values,
+        &mut room.records,
+    ) else {
         return write!(page, ": {UNLIKE}");
     };
-    let runs = Runs {
-        codes,
-        values,
-        records,
-    };
+    let runs = Runs::from(&*room);
     let mut own = Own {
         list: List::new(),
         more: 0,
     };
-    own.push_batches(runs, batches);
+    own.push_batches(runs, made.batches);
     match own.count() {
         0 => write!(page, ": the block has no operations of its own"),
-        1..=16384 => print_batch(
-            page,
-            &own.list,
-            &runs.record(place),
-            place,
-            codes,
-            values,
-            records,
-        ),
+        1..=16384 => print_batch(page, &own.list, &runs.record(place), place, room),
         n => write!(
             page,
             ": the block's own list has {n} operations, more than 16384"
@@ -264,43 +239,35 @@ fn after(read: usize, used: usize, whole: bool) -> After {
 
 // The first bytes of a file, as many as a block may have.
 fn check_bytes(page: &mut Page, path: &[u8], s: &[u8], whole: bool) -> fmt::Result {
-    let mut codes = space::codes();
-    let mut values = space::values();
-    let mut records = space::records();
-    match strict::decode_strict(&vm::table(), s, 0, &mut codes, &mut values, &mut records) {
-        Ok(
-            Decoded {
-                batches,
-                operations,
-                used,
-            },
-        ) => {
-            let runs = Runs {
-                codes: &codes,
-                values: &values,
-                records: &records,
-            };
+    let mut room = Room::new();
+    match strict::decode_strict(
+        &vm::table(),
+        s,
+        0,
+        &mut room.codes,
+        &mut room.values,
+        &mut room.records,
+    ) {
+        Ok(made) => {
             let block = Block {
                 at: 0,
-                batches,
-                operations,
-                used,
+                batches: made.batches,
+                operations: made.operations,
+                used: made.used,
             };
             write!(page, "finished {}: ", quote_name(path))?;
-            listing::print_totals(page, runs, block, after(s.len(), used, whole))
+            listing::print_totals(
+                page,
+                Runs::from(&room),
+                block,
+                after(s.len(), made.used, whole),
+            )
         }
         Err(refusal) => {
             write!(page, "not finished {}: ", quote_name(path))?;
             listing::print_numbered(page, s, 0, refusal)?;
             match refusal {
-                Refusal::Unfinished { batch } => print_why(
-                    page,
-                    s,
-                    batch,
-                    &mut codes,
-                    &mut values,
-                    &mut records,
-                )?,
+                Refusal::Unfinished { batch } => print_why(page, s, batch, &mut room)?,
                 _ => write!(page, ": {refusal}")?,
             }
             writeln!(page)

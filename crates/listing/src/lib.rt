@@ -7,6 +7,7 @@ ghost use Rattle.std.specs.Prelude.{◌<◌};
 use console::{Page, counted};
 use op_batch::OpBatch;
 use refusal::Refusal;
+use space::Room;
 use std::fmt;
 use std::fmt::Write;
 use vm::Kind;
@@ -59,6 +60,16 @@ pub struct Runs<'a> {
     pub codes: &'a [u8],
     pub values: &'a [u64],
     pub records: &'a [u8],
+}
+
+impl<'a> From<&'a Room> for Runs<'a> {
+    fn from(room: &'a Room) -> Runs<'a> {
+        Runs {
+            codes: &room.codes,
+            values: &room.values,
+            records: &room.records,
+        }
+    }
 }
 
 impl Runs<'_> {
