@@ -15,12 +15,12 @@ use std::io::Result;
 
 // ---- a group of a batch
 
-// Whether it is under the group count, how many operations of the list it has, how many paddings (0 or 1), and its flag.
+// Whether it is under the group count, how many operations of the list it has, whether a padding follows them, and its flag.
 #[derive(Clone, Copy, PartialEq, Eq)]
 struct Group {
     there: bool,
     own: usize,
-    pads: usize,
+    padded: bool,
     flag: u8,
 }
 
@@ -30,11 +30,11 @@ impl Group {
     {
         let size = usize::from(batch.starts[g + 1].saturating_sub(batch.starts[g]));
         let flag = batch.flags[g];
-        let pads = if flag == 0 { 0 } else { size.min(1) };
+        let padded = flag != 0 && size != 0;
         Group {
             there: g < usize::from(batch.count),
-            own: size - pads,
-            pads,
+            own: if padded { size - 1 } else { size },
+            padded,
             flag,
         }
     }
@@ -72,7 +72,9 @@ impl Own {
         for g in 0..8 {
             let group = Group::at(batch, g);
             self.push_ops(runs, from, group.own);
-            from = from.wrapping_add(group.own).wrapping_add(group.pads);
+            from = from
+                .wrapping_add(group.own)
+                .wrapping_add(usize::from(group.padded));
         }
     }
 
@@ -99,15 +101,12 @@ fn first_difference(batch: &OpBatch, made: &OpBatch) -> Option<usize>
 // What a group that is there has. That it holds a value alone can't be asked: the groups before it are the same on both sides, and so are their slots.
 impl fmt::Display for Group {
     fn fmt<W: fmt::Write>(&self, f: &mut fmt::Formatter<W>) -> fmt::Result {
-        match (self.own, self.pads) {
-            (0, 0) => write!(f, "only a value"),
-            (0, _) => write!(f, "only a padding"),
-            (own, 0) => write!(f, "{}", counted(own, "operation", "operations")),
-            (own, _) => write!(
-                f,
-                "{} and a padding",
-                counted(own, "operation", "operations")
-            ),
+        let operations = counted(self.own, "operation", "operations");
+        match (self.own, self.padded) {
+            (0, false) => write!(f, "only a value"),
+            (0, true) => write!(f, "only a padding"),
+            (_, false) => write!(f, "{operations}"),
+            (_, true) => write!(f, "{operations} and a padding"),
         }
     }
 }
@@ -116,7 +115,7 @@ impl fmt::Display for Group {
 fn print_group(page: &mut Page, g: usize, group: Group) -> fmt::Result {
     if !group.there {
         write!(page, "the batch ends before group {g}")
-    } else if group.own == 0 && group.pads == 0 {
+    } else if group.own == 0 && !group.padded {
         write!(page, "group {g} is empty and holds no value")
     } else {
         write!(page, "group {g} holds {group}")
