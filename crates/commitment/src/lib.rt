@@ -13,7 +13,7 @@ ghost use Rattle.operation.specs.Verdict.{one_fault};
 ghost use Rattle.checks.specs.Batch.{held_at, Apt, under};
 ghost use Rattle.commitment.specs.Walk.{slot_after, slots_after, AllRight, BatchRight};
 
-use op_batch::{RECORD, WIDTH};
+use op_batch::{RECORD, RecordAt, WIDTH};
 use refusal::Refusal;
 
 // ---- the operations of a group
@@ -90,21 +90,24 @@ impl<'a> Batch<'a> {
     fn len(self) -> usize
         ensures { result ≡ ninth (record_of self.entry) }
     {
-        op_batch::start(self.block.records, self.b, 8)
+        let records = self.block.records;
+        RecordAt { records, b: self.b }.start(8)
     }
 
     #[tactic(auto, using(crate::proofs::Groups::count_low))]
     fn count(self) -> usize
         ensures { (result ≡ (record_of self.entry).count) × (result ≤ 8) }
     {
-        op_batch::count(self.block.records, self.b)
+        let records = self.block.records;
+        RecordAt { records, b: self.b }.count()
     }
 
     fn number(self, g: usize) -> u64
         requires { g < 8 }
         ensures { result ≡ slice_index (record_of self.entry).numbers g }
     {
-        op_batch::number(self.block.records, self.b, g)
+        let records = self.block.records;
+        RecordAt { records, b: self.b }.number(g)
     }
 
     // The g-th group's operations.
@@ -113,8 +116,10 @@ impl<'a> Batch<'a> {
         requires { g < 8 }
         ensures { ops_in result ≡ group_of self.entry g }
     {
-        let start = self.from + op_batch::start(self.block.records, self.b, g);
-        let end = self.from + op_batch::start(self.block.records, self.b, g + 1);
+        let records = self.block.records;
+        let stored = RecordAt { records, b: self.b };
+        let start = self.from + stored.start(g);
+        let end = self.from + stored.start(g + 1);
         Group {
             codes: &self.block.codes[start..end],
             values: &self.block.values[start..end],

@@ -13,7 +13,7 @@ ghost use Rattle.encoder.specs.Replies.{Encodes};
 ghost use Rattle.encoder.specs.Parts.{op_size, ops_size, ops_of, bytes_of, left_of};
 
 use input::Input;
-use op_batch::{RECORD, WIDTH};
+use op_batch::{RECORD, RecordAt, WIDTH};
 use refusal::Refusal;
 
 mod input;
@@ -99,12 +99,13 @@ impl<'a> Input<'a> {
         ensures place { result ≡ at + 4 * (length self.entry.records.now / record_size) }
         ensures bytes { out.new ≡ sets out.old at (nibble_bytes (records_in self.entry.records.now)) }
     {
+        let records = self.records;
         let n = self.batches();
         for b in 0..n {
             word::put::<4>(
                 out,
                 at + 4 * b,
-                op_batch::pack_indptr_deltas(self.records, b),
+                RecordAt { records, b }.pack_indptr_deltas(),
             );
         }
         at + 4 * n
@@ -115,8 +116,9 @@ impl<'a> Input<'a> {
         requires { at + length self.records.now / record_size ≤ length out.old }
         ensures { out.new ≡ sets out.old at (flag_bytes (records_in self.entry.records.now)) }
     {
+        let records = self.records;
         for b in 0..self.batches() {
-            out[at + b] = op_batch::pack_padding(self.records, b);
+            out[at + b] = RecordAt { records, b }.pack_padding();
         }
     }
 

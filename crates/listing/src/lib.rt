@@ -5,7 +5,7 @@
 ghost use Rattle.std.specs.Prelude.{◌<◌};
 
 use console::{Page, counted};
-use op_batch::OpBatch;
+use op_batch::{OpBatch, RecordAt};
 use refusal::Refusal;
 use space::Room;
 use std::fmt;
@@ -92,7 +92,8 @@ impl Runs<'_> {
     // The b-th record, or one of zeros where the run ends before it.
     pub fn record(self, b: usize) -> OpBatch {
         if b < self.records.len() / op_batch::RECORD {
-            return op_batch::load(self.records, b);
+            let records = self.records;
+            return RecordAt { records, b }.load();
         }
         OpBatch {
             starts: [0; 9],

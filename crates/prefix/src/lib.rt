@@ -5,10 +5,11 @@ ghost use Rattle.std.specs.Prelude.{◌≡◌, ◌+◌, ◌*◌, ◌/◌, ◌≤
 ghost use Rattle.rules.specs.Record.{record_size, record_at, records_in};
 ghost use Rattle.rules.specs.Lookups.{marks, raw_at, padded_at, padded_index, raw_index};
 ghost use Rattle.rules.specs.Functions.{arena, raw_tabled, padded_tabled, table_of};
+ghost use Rattle.op_batch.specs.RecordAt.{recorded};
 ghost use Rattle.checks.specs.Batch.{Fits, AllFit};
 ghost use Rattle.prefix.specs.Tables.{padded_found, raw_found, padded_by, raw_by, table_by, table_from, pads_in, kept_in, marks_at, Goes, Filling, Answered};
 
-use op_batch::RECORD;
+use op_batch::{RECORD, RecordAt};
 use refusal::Refusal;
 
 // An index of an operation among those without flagged paddings, and among all.
@@ -87,22 +88,22 @@ fn kept_in(which: Prefix, size: usize, pads: usize) -> usize
 
 // The entries of one batch, group by group as far as flags are set.
 #[tactic(auto, using(crate::proofs::Entries::rising, crate::proofs::Entries::ending))]
-fn batch_entries(records: &[u8], b: usize, which: Prefix, from: Filled, out: &mut [u64]) -> Filled
-    requires record_in_bounds { (record_size * b + record_size ≤ length records.now) × Fits (record_at records.now b) × (b < 16384) }
-    requires waiting_bound { (from.entries + from.waiting ≤ 72 * b) × (from.paddings ≤ 8 * b) }
-    ensures goes { Goes which (marks_at (record_at records.now b) 0) from result out.old out.new }
-    ensures waiting_bound_2 { (result.entries + result.waiting ≤ 72 * (b + 1)) × (result.paddings ≤ 8 * (b + 1)) }
+fn batch_entries(batch: RecordAt<'_>, which: Prefix, from: Filled, out: &mut [u64]) -> Filled
+    requires fits { Fits (recorded batch) × (batch.b < 16384) }
+    requires waiting_bound { (from.entries + from.waiting ≤ 72 * batch.b) × (from.paddings ≤ 8 * batch.b) }
+    ensures goes { Goes which (marks_at (recorded batch.entry) 0) from result out.old out.new }
+    ensures waiting_bound_2 { (result.entries + result.waiting ≤ 72 * (batch.entry.b + 1)) × (result.paddings ≤ 8 * (batch.entry.b + 1)) }
 {
     let mut done = from;
-    let mut left = op_batch::flags(records, b); // those from the g-th on
+    let mut left = batch.flags(); // those from the g-th on
     let mut start = 0;
     for g in 0..8 {
         if left == 0 {
             break;
         }
         left /= 256;
-        let end = op_batch::start(records, b, g + 1);
-        let pads = pads_in(end - start, op_batch::flag(records, b, g));
+        let end = batch.start(g + 1);
+        let pads = pads_in(end - start, batch.flag(g));
         done.waiting += kept_in(which, end - start, pads);
         start = end;
         if pads == 1 {
@@ -112,7 +113,7 @@ fn batch_entries(records: &[u8], b: usize, which: Prefix, from: Filled, out: &mu
             done.paddings += 1;
         }
     }
-    done.waiting += op_batch::start(records, b, 8) - start;
+    done.waiting += batch.start(8) - start;
     done
 }
 
@@ -127,7 +128,7 @@ fn fill(records: &[u8], which: Prefix, out: &mut [u64]) -> usize
         paddings: 0,
     };
     for b in 0..records.len() / RECORD {
-        done = batch_entries(records, b, which, done, out);
+        done = batch_entries(RecordAt { records, b }, which, done, out);
     }
     let last = done.waiting + 1;
     word::fill(out, done.entries, last, done.paddings as u64);

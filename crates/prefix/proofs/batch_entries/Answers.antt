@@ -9,17 +9,17 @@ use Rattle.prefix.proofs.batch_entries.Goals.{then-pads-eq1, else-pads-eq1, else
 
 pub loop-g-init : goal.loop-g-init
 loop-g-init c =
-    let x = laid _ _ c.requires.record_in_bounds.1 in
+    let x = laid _ _ c.requires.fits.0 in
     record { start = sym x.sound.first; entries = omega (arith, c.requires); paddings = omega (arith, c.requires); left = c.flags-left.ensures; on = first_on _ _ _ _ _ _ }
 
 pub loop-g-preserved : goal.loop-g-preserved
 loop-g-preserved c =
     let l = c.loop-g in
     let i = l.invariant in
-    let x = laid _ _ c.requires.record_in_bounds.1 in
+    let x = laid _ _ c.requires.fits.0 in
     let n = c.kept_in.ensures in
-    let up = rising _ _ c.requires.record_in_bounds.1 l.g (omega arith) in
-    let sum : l.done.entries + (l.done.waiting + c.kept_in.result) ≤ 72 * c.args.b + c.start-end.result = omega (arith, n, up, i.start, i.entries, c.start-end.ensures) in
+    let up = rising _ _ c.requires.fits.0 l.g (omega arith) in
+    let sum : l.done.entries + (l.done.waiting + c.kept_in.result) ≤ 72 * c.args.batch.b + c.start-end.result = omega (arith, n, up, i.start, i.entries, c.start-end.ensures) in
     let left = flags_turn _ _ x.sound x.flags l.g l.left i.left (omega arith) in
     elim c.if-pads-eq1.branch [
       | then-pads-eq1 w ↦
@@ -47,6 +47,6 @@ pub returns-clause-goes : goal.returns-clause-goes
 returns-clause-goes c =
     let l = c.loop-g in
     let i = l.invariant in
-    let x = laid _ _ c.requires.record_in_bounds.1 in
+    let x = laid _ _ c.requires.fits.0 in
     let none : l.left ≡ 0 = elim c.loop-g-test.branch [ else-loop-g-test w ↦ none_ahead _ x l.g l.left i.left (omega arith) | then-loop-g-test+then-left-eq0 w ↦ omega arith ] in
     last_on _ _ x _ _ _ _ _ _ _ _ _ i.on l.left (omega arith) i.left none _ _ i.start c.start.ensures.0

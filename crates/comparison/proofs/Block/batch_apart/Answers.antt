@@ -15,10 +15,10 @@ use Rattle.comparison.proofs.Blocks.{of_eight, starts_right_lem, sizes_bytes, fl
 use Rattle.comparison.proofs.Block.batch_apart.Goals as goal
 
 pub sizes-requires : goal.sizes-requires
-sizes-requires c = let x = c.requires.0 in (x.whole, starts_right_lem _ _ _ _ _ x)
+sizes-requires c = starts_right_lem _ _ _ _ _ c.requires.0
 
 pub sizes-requires-2 : goal.sizes-requires-2
-sizes-requires-2 c = let x = c.requires.1 in (x.whole, starts_right_lem _ _ _ _ _ x)
+sizes-requires-2 c = starts_right_lem _ _ _ _ _ c.requires.1
 
 pub returns : goal.returns
 unfolding apart_of

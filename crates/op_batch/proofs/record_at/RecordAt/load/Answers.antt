@@ -1,5 +1,5 @@
 use Rattle.rules.specs.Record.{record_at}
-use Rattle.op_batch.proofs.load.Goals as goal
+use Rattle.op_batch.proofs.record_at.RecordAt.load.Goals as goal
 
 pub returns : goal.returns
 unfolding record_at
