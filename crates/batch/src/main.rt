@@ -7,7 +7,7 @@ use build::Totals;
 use console::{Page, Text, quote, quote_name};
 use listing::{After, Block, Runs};
 use refusal::Refusal;
-use space::{Full, List};
+use space::{Full, List, Room};
 use std::fmt::Write;
 use std::fs::{File, OpenOptions};
 use std::io::{Error, Read, Write as _};
@@ -234,7 +234,7 @@ fn save(rt: HostRuntime, path: &[u8], bytes: &[u8]) -> bool {
         console::wrong(rt, "batch", path, "not a file that can be replaced");
         return false;
     }
-    let mut new = Text::<4100>::new();
+    let mut new = Text::<4100>::new(); // a name has at most 4096 bytes
     new.push(path);
     new.push(b".new");
     if let Err(failed) = replace(rt, path, new.as_bytes(), bytes) {
@@ -296,17 +296,14 @@ fn answer(rt: HostRuntime, file: Option<&[u8]>, runs: Runs, batches: usize, byte
     }
 }
 
-// What was built of a block that comes to so much: `build` makes no more than its room, and lending a part of a run asks for that again.
-fn built<'a>(
-    made: Totals,
-    codes: &'a [u8],
-    values: &'a [u64],
-    records: &'a [u8],
-) -> Option<Runs<'a>> {
+// What was built, which comes to so much: `build` makes no more than its room, and lending a part of a run asks for that again.
+fn built(made: Totals, room: &Room) -> Option<Runs<'_>> {
     Some(Runs {
-        codes: codes.get(..made.operations)?,
-        values: values.get(..made.operations)?,
-        records: records.get(..made.batches.checked_mul(op_batch::RECORD)?)?,
+        codes: room.codes.get(..made.operations)?,
+        values: room.values.get(..made.operations)?,
+        records: room
+            .records
+            .get(..made.batches.checked_mul(op_batch::RECORD)?)?,
     })
 }
 
@@ -314,23 +311,21 @@ fn batch(
     rt: HostRuntime,
     file: Option<&[u8]>,
     list: &List,
-    room: &mut [u8],
+    bytes: &mut [u8],
 ) -> Result<(), Refusal> {
     let table = vm::table();
-    let mut codes = space::codes();
-    let mut values = space::values();
-    let mut records = space::records();
+    let mut room = Room::new();
     let made = build::build(
         &table,
         list.codes(),
         list.values(),
-        &mut codes,
-        &mut values,
-        &mut records,
+        &mut room.codes,
+        &mut room.values,
+        &mut room.records,
     )?;
-    let runs = built(made, &codes, &values, &records).ok_or(Refusal::NoRoom)?;
-    let used = encoder::encode(&table, runs.codes, runs.values, runs.records, room, 0)?;
-    let bytes = room.get(..used).ok_or(Refusal::NoRoom)?;
+    let runs = built(made, &room).ok_or(Refusal::NoRoom)?;
+    let used = encoder::encode(&table, runs.codes, runs.values, runs.records, bytes, 0)?;
+    let bytes = bytes.get(..used).ok_or(Refusal::NoRoom)?;
     answer(rt, file, runs, made.batches, bytes);
     Ok(())
 }

@@ -75,6 +75,7 @@ fn batch(
 }
 
 // The list in batches, written to the lent runs, with zeros after it; or a refusal, and all of them 0.
+// The runs come one by one, as the C interface lends them, here and where they are handed on.
 pub fn build(
     table: &[u8],
     codes: &[u8],

@@ -9,7 +9,7 @@
 
 ghost use Rattle.std.specs.Prelude.{◌≤◌, ◌<◌};
 
-use op_batch::{Place, RECORD};
+use op_batch::{Place, RECORD, RecordAt};
 use prefix::{PaddedIndex, RawIndex};
 use refusal::Refusal;
 use std::io;
@@ -173,11 +173,14 @@ fn run(rt: HostRuntime, what: u64, argument: usize, lent: Lent) -> io::Result<()
             show_table(rt, reply, out)
         }
         5 | 6 if records.len() < RECORD => Ok(()),
-        5 => show_place(
-            rt,
-            op_batch::load(records, 0).op_idx_in_batch_to_group(argument),
-        ),
-        6 => show_number(rt, op_batch::load(records, 0).next_op_group_index(argument)),
+        5 => {
+            let batch = RecordAt { records, b: 0 }.load();
+            show_place(rt, batch.op_idx_in_batch_to_group(argument))
+        }
+        6 => {
+            let batch = RecordAt { records, b: 0 }.load();
+            show_number(rt, batch.next_op_group_index(argument))
+        }
         8 => {
             let raw = prefix::padded_to_raw_index(values, PaddedIndex(argument));
             show_number(rt, Ok(raw.map(|i| i.0)))
@@ -230,6 +233,7 @@ fn main(rt: HostRuntime) {
             );
         }
         Ok(text) => {
+            // a write that fails is not told: the program never did
             let _ = cases(rt, text);
         }
     }

@@ -9,7 +9,7 @@ ghost use Rattle.refusal.specs.Told.{told};
 ghost use Rattle.operation.specs.Verdict.{one_fault};
 ghost use Rattle.checks.specs.Batch.{held_at, Structured, Lies};
 
-use op_batch::{RECORD, WIDTH};
+use op_batch::{RECORD, RecordAt, WIDTH};
 use refusal::Refusal;
 
 // "3": lists of equal length, at most 65,535 operations, whole records and at most 16,384 of them.
@@ -37,10 +37,11 @@ pub fn structure_fault(
     let n = records.len() / RECORD;
     let mut sum: usize = 0;
     for b in 0..n {
-        if !op_batch::record_right(width, records, b) {
+        let record = RecordAt { records, b };
+        if !record.right(width) {
             return Err(Refusal::BadStructure { batch: b });
         }
-        sum += op_batch::start(records, b, 8);
+        sum += record.start(8);
     }
     if sum != codes.len() {
         return Err(Refusal::BadStructure { batch: n });
@@ -71,21 +72,22 @@ pub fn batch_padding(
     requires { Lies (arena codes.now values.now records.now) b from }
     ensures { told result ≡ one_fault (padding_fault (held_at (arena codes.now values.now records.now) b from)) b }
 {
-    let count = op_batch::count(records, b);
-    let mut left = op_batch::flags(records, b); // those from the g-th on: most batches have few, so the walk ends with the last
+    let record = RecordAt { records, b };
+    let count = record.count();
+    let mut left = record.flags(); // those from the g-th on: most batches have few, so the walk ends with the last
     for g in 0..8 {
         if left == 0 {
             return Ok(());
         }
         left /= 256;
-        if op_batch::flag(records, b, g) == 0 {
+        if record.flag(g) == 0 {
             continue;
         }
         if count <= g {
             return Ok(()); // flags from the count on are kept unread (M-100)
         }
-        let end = op_batch::start(records, b, g + 1);
-        if op_batch::start(records, b, g) == end {
+        let end = record.start(g + 1);
+        if record.start(g) == end {
             return Err(Refusal::BadPadding { batch: b });
         }
         if codes[from + end - 1] != 0 {
@@ -104,7 +106,7 @@ fn padding_fault(codes: &[u8], values: &[u64], records: &[u8]) -> Result<(), Ref
     let mut from: usize = 0;
     for b in 0..n {
         batch_padding(codes, values, records, b, from)?;
-        from += op_batch::start(records, b, 8);
+        from += RecordAt { records, b }.start(8);
     }
     Ok(())
 }

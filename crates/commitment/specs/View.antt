@@ -11,14 +11,14 @@ abbrev pub ops_in : Group → List Op
 ops_in g = operations g.codes.now g.values.now
 
 abbrev pub arena_of : Batch → Arena
-arena_of b = arena b.codes.now b.values.now b.records.now
+arena_of b = arena b.block.codes.now b.block.values.now b.block.records.now
 
 abbrev pub record_of : Batch → Record
-record_of b = record_at b.records.now b.b
+record_of b = record_at b.block.records.now b.b
 
 -- the operations of all batches
 abbrev pub ops_of : Batch → List Op
-ops_of b = operations b.codes.now b.values.now
+ops_of b = operations b.block.codes.now b.block.values.now
 
 -- the operations of its g-th group
 abbrev pub group_of : Batch → ℕ → List Op

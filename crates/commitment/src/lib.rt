@@ -2,18 +2,18 @@
 // whether all is right.
 #![tactic(auto)]
 
-ghost use Rattle.std.specs.Prelude.{◌≡◌, ◌↔◌, IsTrue, [], ℕ, true, ◌+◌, ◌*◌, ◌≤◌, ◌<◌, length, drop, nat_eq, option_map, IfSome, slice_index};
+ghost use Rattle.std.specs.Prelude.{◌≡◌, ◌↔◌, IsTrue, [], ℕ, true, ◌+◌, ◌/◌, ◌≤◌, ◌<◌, length, drop, nat_eq, option_map, IfSome, slice_index};
 ghost use Rattle.rules.specs.Answer.{good, refuse_first};
 ghost use Rattle.rules.specs.Operations.{operations, kind_of};
 ghost use Rattle.rules.specs.Record.{record_size, record_at, codes_number, immediates};
-ghost use Rattle.rules.specs.Checks.{ninth, record_right, under_count, placing_fault, begins, empty_zero, commitment_fault, commitment_faults};
+ghost use Rattle.rules.specs.Checks.{ninth, under_count, placing_fault, begins, empty_zero, commitment_fault, commitment_faults};
 ghost use Rattle.rules.specs.Functions.{arena, block_in, structure_checked, commitment_checked};
 ghost use Rattle.refusal.specs.Told.{told};
 ghost use Rattle.operation.specs.Verdict.{one_fault};
 ghost use Rattle.checks.specs.Batch.{held_at, Apt, under};
 ghost use Rattle.commitment.specs.Walk.{slot_after, slots_after, AllRight, BatchRight};
 
-use op_batch::{RECORD, WIDTH};
+use op_batch::{RECORD, RecordAt, WIDTH};
 use refusal::Refusal;
 
 // ---- the operations of a group
@@ -54,21 +54,26 @@ impl<'a> Group<'a> {
     }
 }
 
-// ---- a batch of a block that passed the structure check: its record is the b-th, and its operations begin at `from`
+// ---- a batch: its record is the block's b-th, and its operations begin at `from`
 
+// A block that passed the structure check, and its table.
 #[derive(Clone, Copy)]
-struct Batch<'a> {
+struct Block<'a> {
     table: &'a [u8; 128],
     codes: &'a [u8],
     values: &'a [u64],
     records: &'a [u8],
+    ghost known: { length table.now ≡ 128 },
+    ghost structure: { structure_checked 8 (arena codes.now values.now records.now) ≡ good tt },
+}
+
+#[derive(Clone, Copy)]
+struct Batch<'a> {
+    block: Block<'a>,
     b: usize,
     from: usize,
-    ghost known: { length table.now ≡ 128 },
-    ghost same: { length codes.now ≡ length values.now },
-    ghost whole: { record_size * b + record_size ≤ length records.now },
-    ghost sound: { record_right 8 (record_at records.now b) ≡ true },
-    ghost inside: { from + ninth (record_at records.now b) ≤ length codes.now },
+    ghost within: { b < length block.records.now / record_size },
+    ghost inside: { from + ninth (record_at block.records.now b) ≤ length block.codes.now },
 }
 
 // What a walk over a group's operations found: their number, and the group after those that hold their immediates.
@@ -81,18 +86,28 @@ struct Walked {
 impl<'a> Batch<'a> {
     ghost use Rattle.commitment.specs.View.{ops_in, arena_of, record_of, ops_of, group_of};
 
+    // How many operations it has.
+    fn len(self) -> usize
+        ensures { result ≡ ninth (record_of self.entry) }
+    {
+        let records = self.block.records;
+        RecordAt { records, b: self.b }.start(8)
+    }
+
     #[tactic(auto, using(crate::proofs::Groups::count_low))]
     fn count(self) -> usize
         ensures { (result ≡ (record_of self.entry).count) × (result ≤ 8) }
     {
-        op_batch::count(self.records, self.b)
+        let records = self.block.records;
+        RecordAt { records, b: self.b }.count()
     }
 
     fn number(self, g: usize) -> u64
         requires { g < 8 }
         ensures { result ≡ slice_index (record_of self.entry).numbers g }
     {
-        op_batch::number(self.records, self.b, g)
+        let records = self.block.records;
+        RecordAt { records, b: self.b }.number(g)
     }
 
     // The g-th group's operations.
@@ -101,11 +116,13 @@ impl<'a> Batch<'a> {
         requires { g < 8 }
         ensures { ops_in result ≡ group_of self.entry g }
     {
-        let start = self.from + op_batch::start(self.records, self.b, g);
-        let end = self.from + op_batch::start(self.records, self.b, g + 1);
+        let records = self.block.records;
+        let stored = RecordAt { records, b: self.b };
+        let start = self.from + stored.start(g);
+        let end = self.from + stored.start(g + 1);
         Group {
-            codes: &self.codes[start..end],
-            values: &self.values[start..end],
+            codes: &self.block.codes[start..end],
+            values: &self.block.values[start..end],
         }
     }
 
@@ -131,11 +148,11 @@ impl<'a> Batch<'a> {
     // Whether the numbers of the groups from the g-th on begin with a group's immediates.
     fn values_right(self, g: usize, group: Group<'_>) -> bool
         requires { g ≤ 8 }
-        ensures { result ≡ begins (drop g (record_of self.entry).numbers) (immediates self.entry.table.now (ops_in group.entry)) }
+        ensures { result ≡ begins (drop g (record_of self.entry).numbers) (immediates self.entry.block.table.now (ops_in group.entry)) }
     {
         let mut j = g;
         for (i, code) in group.codes.iter().enumerate() {
-            if !placed(self.table, *code) {
+            if !placed(self.block.table, *code) {
                 continue;
             }
             if 8 <= j || self.number(j) != group.values[i] {
@@ -148,13 +165,13 @@ impl<'a> Batch<'a> {
 
     // Whether every empty group under the count that holds no immediate is 0.
     fn empty_zero(self) -> bool
-        ensures { result ≡ empty_zero self.entry.table.now 0 (under_count (held_at (arena_of self.entry) self.entry.b self.entry.from)) (record_of self.entry).numbers }
+        ensures { result ≡ empty_zero self.entry.block.table.now 0 (under_count (held_at (arena_of self.entry) self.entry.b self.entry.from)) (record_of self.entry).numbers }
     {
         let mut held: usize = 0;
         for g in 0..self.count() {
             let group = self.group(g);
             if !group.is_empty() {
-                held = group.immediates(self.table);
+                held = group.immediates(self.block.table);
             } else if 0 < held {
                 held -= 1;
             } else if self.number(g) != 0 {
@@ -166,8 +183,8 @@ impl<'a> Batch<'a> {
 
     // Group by group: number right, immediates placed, their values right; last, empty groups.
     fn fault(self) -> Result<(), Refusal>
-        requires { Apt self.table.now self.codes.now }
-        ensures { told result ≡ one_fault (commitment_fault self.entry.table.now (held_at (arena_of self.entry) self.entry.b self.entry.from)) self.entry.b }
+        requires { Apt self.block.table.now self.block.codes.now }
+        ensures { told result ≡ one_fault (commitment_fault self.entry.block.table.now (held_at (arena_of self.entry) self.entry.b self.entry.from)) self.entry.b }
     {
         for g in 0..self.count() {
             let group = self.group(g);
@@ -177,7 +194,7 @@ impl<'a> Batch<'a> {
             if self.number(g) != op_batch::group_number(group.codes) {
                 return Err(Refusal::BadCommitment { batch: self.b });
             }
-            self.placing_fault(g + 1, group.immediates(self.table))?;
+            self.placing_fault(g + 1, group.immediates(self.block.table))?;
             if !self.values_right(g + 1, group) {
                 return Err(Refusal::BadCommitment { batch: self.b });
             }
@@ -211,13 +228,13 @@ impl<'a> Batch<'a> {
     #[tactic(auto, using(crate::proofs::Slots::unit_small, crate::proofs::Slots::product_small))]
     fn walk_group(self, g: usize, group: Group<'_>) -> Option<Walked>
         requires { g ≤ 8 }
-        ensures next { option_map (λ (w : Walked). w.next) result ≡ slots_after self.entry.table.now (ops_in group.entry) (record_of self.entry).numbers g }
+        ensures next { option_map (λ (w : Walked). w.next) result ≡ slots_after self.entry.block.table.now (ops_in group.entry) (record_of self.entry).numbers g }
         ensures number { IfSome result (λ w. w.number ≡ codes_number (ops_in group.entry)) }
     {
         let mut number: u64 = 0;
         let mut unit: u64 = 1;
         let mut next = g;
-        let table = self.table;
+        let table = self.block.table;
         for (i, code) in group.codes.iter().enumerate() {
             let kind = table.get(*code as usize)?;
             next = self.slot_after(*kind, group.values[i], next)?;
@@ -228,8 +245,8 @@ impl<'a> Batch<'a> {
     }
 
     // Group by group; the groups under `held` hold the immediates of those before.
-    fn right(self) -> bool
-        ensures { result ≡ true → BatchRight self.entry.table.now (arena_of self.entry) self.entry.b self.entry.from }
+    fn is_right(self) -> bool
+        ensures { result ≡ true → BatchRight self.entry.block.table.now (arena_of self.entry) self.entry.b self.entry.from }
     {
         let count = self.count();
         let mut held: usize = 0;
@@ -257,61 +274,50 @@ impl<'a> Batch<'a> {
     }
 }
 
-// ---- batch by batch, where the arena passed the structure check
+// ---- batch by batch
 
-// The first batch with a fault, where the table has a kind for each opcode.
-fn commitment_fault(
-    table: &[u8; 128],
-    codes: &[u8],
-    values: &[u64],
-    records: &[u8],
-) -> Result<(), Refusal>
-    requires structure { structure_checked 8 (arena codes.now values.now records.now) ≡ good tt }
-    requires known { Apt table.now codes.now }
-    ensures { told result ≡ refuse_first 0 (commitment_faults table.now (block_in (arena codes.now values.now records.now))) (good tt) }
-{
-    let mut from: usize = 0;
-    for b in 0..records.len() / RECORD {
-        let batch = Batch {
-            table,
-            codes,
-            values,
-            records,
-            b,
-            from,
-        };
-        batch.fault()?;
-        from += op_batch::start(records, b, 8);
-    }
-    Ok(())
-}
-
-// Whether every operation is admissible and no batch has a fault.
-fn all_right(table: &[u8; 128], codes: &[u8], values: &[u64], records: &[u8]) -> bool
-    requires { structure_checked 8 (arena codes.now values.now records.now) ≡ good tt }
-    ensures { result ≡ true → AllRight table.now (arena codes.now values.now records.now) }
-{
-    let mut from: usize = 0;
-    for b in 0..records.len() / RECORD {
-        let batch = Batch {
-            table,
-            codes,
-            values,
-            records,
-            b,
-            from,
-        };
-        if !batch.right() {
-            return false;
+impl<'a> Block<'a> {
+    // The first batch with a fault, where the table has a kind for each opcode.
+    fn first_fault(self) -> Result<(), Refusal>
+        requires { Apt self.table.now self.codes.now }
+        ensures { told result ≡ refuse_first 0 (commitment_faults self.entry.table.now (block_in (arena self.entry.codes.now self.entry.values.now self.entry.records.now))) (good tt) }
+    {
+        let mut from: usize = 0;
+        for b in 0..self.records.len() / RECORD {
+            let batch = Batch {
+                block: self,
+                b,
+                from,
+            };
+            batch.fault()?;
+            from += batch.len();
         }
-        from += op_batch::start(records, b, 8);
+        Ok(())
     }
-    true
+
+    // Whether every operation is admissible and no batch has a fault.
+    fn is_right(self) -> bool
+        ensures { result ≡ true → AllRight self.entry.table.now (arena self.entry.codes.now self.entry.values.now self.entry.records.now) }
+    {
+        let mut from: usize = 0;
+        for b in 0..self.records.len() / RECORD {
+            let batch = Batch {
+                block: self,
+                b,
+                from,
+            };
+            if !batch.is_right() {
+                return false;
+            }
+            from += batch.len();
+        }
+        true
+    }
 }
 
 // ---- the check
 
-// Commitment: refusals 3, 14, 15, 4 or 17 (M-101), then batch by batch 16, 8 or 9. Where not all is right, the walks above say what goes first.
+// Commitment: refusals 3, 14, 15, 4 or 17 (M-101), then batch by batch 16, 8 or 9. Where not all is right, slower walks say what goes first.
 pub fn commitment(table: &[u8], codes: &[u8], values: &[u64], records: &[u8]) -> Result<(), Refusal>
     ensures { told result ≡ commitment_checked 8 table.now (arena codes.now values.now records.now) }
 {
@@ -320,9 +326,15 @@ pub fn commitment(table: &[u8], codes: &[u8], values: &[u64], records: &[u8]) ->
     }
     let table = operation::checked(table)?;
     checks::structure_fault(WIDTH, codes, values, records)?;
-    if all_right(table, codes, values, records) {
+    let block = Block {
+        table,
+        codes,
+        values,
+        records,
+    };
+    if block.is_right() {
         return Ok(());
     }
     operation::first_fault(table, codes, values)?;
-    commitment_fault(table, codes, values, records)
+    block.first_fault()
 }

@@ -6,14 +6,14 @@ ghost use Rattle.std.specs.Prelude.{◌+◌, ◌<◌, ◌^◌};
 
 use comparison::Refused;
 use console::{Page, counted, quote_name};
-use decoder::Decoded;
 use listing::Runs;
 use refusal::Refusal;
+use space::Room;
 use std::fmt::Write;
 use std::fs::File;
 use std::{fmt, io};
 
-// ---- one of two blocks
+// ---- two blocks
 
 #[derive(Clone, Copy, Debug, PartialEq, Eq)]
 enum Side {
@@ -27,6 +27,30 @@ impl fmt::Display for Side {
             Side::First => write!(f, "first"),
             Side::Second => write!(f, "second"),
         }
+    }
+}
+
+// What there is of each block.
+#[derive(Clone, Copy)]
+struct Pair<T> {
+    first: T,
+    second: T,
+}
+
+impl<T: Copy> Pair<T> {
+    fn map<U, F: Fn(T) -> U>(self, f: F) -> Pair<U>
+        requires { F.IsAlwaysCallable f }
+    {
+        Pair {
+            first: f(self.first),
+            second: f(self.second),
+        }
+    }
+}
+
+impl<T: fmt::Display> fmt::Display for Pair<T> {
+    fn fmt<W: fmt::Write>(&self, f: &mut fmt::Formatter<W>) -> fmt::Result {
+        write!(f, "{} / {}", self.first, self.second)
     }
 }
 
@@ -84,12 +108,13 @@ impl Whole<'_> {
         self.operations.saturating_sub(self.paddings())
     }
 
+    fn batch_size(self, b: usize) -> usize {
+        usize::from(self.runs.record(b).starts[8])
+    }
+
     // How many operations the batches from one up to another have.
     fn operations_between(self, from: usize, to: usize) -> usize {
-        (from..to).fold(
-            0,
-            |n: usize, b| n.wrapping_add(usize::from(self.runs.record(b).starts[8])),
-        )
+        (from..to).fold(0, |n: usize, b| n.wrapping_add(self.batch_size(b)))
     }
 }
 
@@ -130,113 +155,113 @@ impl Difference {
 
 // ---- the lines of two blocks
 
-#[derive(Clone, Copy)]
-struct Both<'a> {
-    first: Whole<'a>,
-    second: Whole<'a>,
-}
-
-// A batch, and where its operations begin in the first block and in the second.
+// A batch, and where its operations begin.
 #[derive(Clone, Copy)]
 struct Begin {
     batch: usize,
-    first: usize,
-    second: usize,
+    at: Pair<usize>,
 }
 
 impl Begin {
     // Where those of a later batch begin.
-    fn later(self, both: Both, batch: usize) -> Begin {
-        let first = both.first.operations_between(self.batch, batch);
-        let second = both.second.operations_between(self.batch, batch);
+    fn later(self, blocks: Pair<Whole>, batch: usize) -> Begin {
+        let more = blocks.map(|block| block.operations_between(self.batch, batch));
         Begin {
             batch,
-            first: self.first.wrapping_add(first),
-            second: self.second.wrapping_add(second),
+            at: Pair {
+                first: self.at.first.wrapping_add(more.first),
+                second: self.at.second.wrapping_add(more.second),
+            },
         }
     }
 }
 
-fn print_operation(page: &mut Page, both: Both, begin: Begin, place: usize) -> fmt::Result {
+fn print_operation(
+    page: &mut Page,
+    blocks: Pair<Whole>,
+    begin: Begin,
+    place: usize,
+) -> fmt::Result {
     let b = begin.batch;
+    let at = begin.at.map(|at| at.wrapping_add(place));
     write!(page, "  batch {b}, its operation {place}:")?;
-    listing::print_op_at(page, both.first.runs, begin.first.wrapping_add(place))?;
+    listing::print_op_at(page, blocks.first.runs, at.first)?;
     write!(page, " /")?;
-    listing::print_op_at(page, both.second.runs, begin.second.wrapping_add(place))?;
+    listing::print_op_at(page, blocks.second.runs, at.second)?;
     writeln!(page)
 }
 
 fn print_difference(
     page: &mut Page,
-    both: Both,
+    blocks: Pair<Whole>,
     begin: Begin,
     difference: Difference,
 ) -> fmt::Result {
-    let Both { first, second } = both;
     let b = begin.batch;
     match difference {
-        Difference::Number { group: g } => writeln!(
-            page,
-            "  batch {b}, group {g}: number {} / {}",
-            first.number(b, g),
-            second.number(b, g)
-        ),
-        Difference::Flag { group: g } => writeln!(
-            page,
-            "  batch {b}, group {g}: padding flag {} / {}",
-            first.flag(b, g),
-            second.flag(b, g)
-        ),
-        Difference::Length { group: g } => writeln!(
-            page,
-            "  batch {b}, group {g}: {} / {} operations",
-            first.length(b, g),
-            second.length(b, g)
-        ),
-        Difference::Operation { place } => print_operation(page, both, begin, place),
-        Difference::Groups => writeln!(
-            page,
-            "  batch {b}: {} / {} groups",
-            first.groups(b),
-            second.groups(b)
-        ),
+        Difference::Number { group: g } => {
+            let numbers = blocks.map(|block| block.number(b, g));
+            writeln!(page, "  batch {b}, group {g}: number {numbers}")
+        }
+        Difference::Flag { group: g } => {
+            let flags = blocks.map(|block| block.flag(b, g));
+            writeln!(page, "  batch {b}, group {g}: padding flag {flags}")
+        }
+        Difference::Length { group: g } => {
+            let lengths = blocks.map(|block| block.length(b, g));
+            writeln!(page, "  batch {b}, group {g}: {lengths} operations")
+        }
+        Difference::Operation { place } => print_operation(page, blocks, begin, place),
+        Difference::Groups => {
+            let groups = blocks.map(|block| block.groups(b));
+            writeln!(page, "  batch {b}: {groups} groups")
+        }
         Difference::Missing(side) => writeln!(page, "  batch {b}: missing in the {side}"),
-        Difference::Batches(d) => writeln!(
-            page,
-            "  batches: {d:+} ({} / {})",
-            first.batches, second.batches
-        ),
-        Difference::Operations(d) => writeln!(
-            page,
-            "  operations, paddings among them: {d:+} ({} / {})",
-            first.operations, second.operations
-        ),
-        Difference::Own(d) => writeln!(
-            page,
-            "  operations without paddings: {d:+} ({} / {})",
-            first.own(),
-            second.own()
-        ),
-        Difference::Paddings(d) => writeln!(
-            page,
-            "  paddings: {d:+} ({} / {})",
-            first.paddings(),
-            second.paddings()
-        ),
+        Difference::Batches(d) => {
+            let batches = blocks.map(|block| block.batches);
+            writeln!(page, "  batches: {d:+} ({batches})")
+        }
+        Difference::Operations(d) => {
+            let operations = blocks.map(|block| block.operations);
+            writeln!(
+                page,
+                "  operations, paddings among them: {d:+} ({operations})"
+            )
+        }
+        Difference::Own(d) => {
+            let own = blocks.map(|block| block.own());
+            writeln!(page, "  operations without paddings: {d:+} ({own})")
+        }
+        Difference::Paddings(d) => {
+            let paddings = blocks.map(|block| block.paddings());
+            writeln!(page, "  paddings: {d:+} ({paddings})")
+        }
     }
 }
 
 // Entries are in the order of their batches, those of totals last.
-fn print_differences(page: &mut Page, both: Both, report: &[i32], entries: usize) -> fmt::Result {
+fn print_differences(
+    page: &mut Page,
+    blocks: Pair<Whole>,
+    report: &[i32],
+    entries: usize,
+) -> fmt::Result {
     let mut begin = Begin {
         batch: 0,
-        first: 0,
-        second: 0,
+        at: Pair {
+            first: 0,
+            second: 0,
+        },
     };
     for entry in report.chunks_exact(4).take(entries) {
-        begin = begin.later(both, usize::try_from(entry[1]).unwrap_or(0));
+        begin = begin.later(blocks, usize::try_from(entry[1]).unwrap_or(0));
         let place = usize::try_from(entry[2]).unwrap_or(0);
-        print_difference(page, both, begin, Difference::of(entry[0], place, entry[3]))?;
+        print_difference(
+            page,
+            blocks,
+            begin,
+            Difference::of(entry[0], place, entry[3]),
+        )?;
     }
     Ok(())
 }
@@ -245,16 +270,15 @@ fn print_differences(page: &mut Page, both: Both, report: &[i32], entries: usize
 
 fn print_different(
     rt: HostRuntime,
-    first: Source,
-    second: Source,
-    both: Both,
+    sources: Pair<Source>,
+    blocks: Pair<Whole>,
     report: &[i32],
     entries: usize,
 ) -> fmt::Result {
     let mut page = Page::output(rt);
     let differences = counted(entries, "difference", "differences");
-    writeln!(page, "different: {first} / {second}: {differences}")?;
-    print_differences(&mut page, both, report, entries)?;
+    writeln!(page, "different: {sources}: {differences}")?;
+    print_differences(&mut page, blocks, report, entries)?;
     page.flush()
 }
 
@@ -282,14 +306,6 @@ fn not_had(rt: HostRuntime, side: Side, source: Source, why: &str) {
 
 // ---- the bytes of two files
 
-// Room for the largest block.
-#[derive(Drop)]
-struct Room {
-    codes: [u8; 65535],
-    values: [u64; 65535],
-    records: [u8; 1343488],
-}
-
 // A block once more, since comparing leaves nothing of it.
 fn read_again<'a>(s: &[u8], at: usize, room: &'a mut Room) -> Whole<'a> {
     let made = decoder::decode(
@@ -302,11 +318,7 @@ fn read_again<'a>(s: &[u8], at: usize, room: &'a mut Room) -> Whole<'a> {
     )
     .unwrap_or_default();
     Whole {
-        runs: Runs {
-            codes: &room.codes,
-            values: &room.values,
-            records: &room.records,
-        },
+        runs: Runs::from(&*room),
         batches: made.batches,
         operations: made.operations,
     }
@@ -314,47 +326,46 @@ fn read_again<'a>(s: &[u8], at: usize, room: &'a mut Room) -> Whole<'a> {
 
 fn compare_in(
     rt: HostRuntime,
-    first: Source,
-    s: &[u8],
-    second: Source,
-    t: &[u8],
-    one: &mut Room,
-    two: &mut Room,
+    sources: Pair<Source>,
+    bytes: Pair<&[u8]>,
+    first: &mut Room,
+    second: &mut Room,
     report: &mut [i32],
 ) {
     let table = vm::table();
+    let at = sources.map(|source| source.at);
     let compared = comparison::compare(
         &table,
-        s,
-        first.at,
+        bytes.first,
+        at.first,
         &table,
-        t,
-        second.at,
-        &mut one.codes,
-        &mut one.values,
-        &mut one.records,
-        &mut two.codes,
-        &mut two.values,
-        &mut two.records,
+        bytes.second,
+        at.second,
+        &mut first.codes,
+        &mut first.values,
+        &mut first.records,
+        &mut second.codes,
+        &mut second.values,
+        &mut second.records,
         report,
     );
     match compared {
         Ok(0) => console::print(
             rt,
-            format_args!("same: {first} / {second}: the blocks are the same\n"),
+            format_args!("same: {sources}: the blocks are the same\n"),
         ),
         Ok(entries) => {
-            let both = Both {
-                first: read_again(s, first.at, one),
-                second: read_again(t, second.at, two),
+            let blocks = Pair {
+                first: read_again(bytes.first, at.first, first),
+                second: read_again(bytes.second, at.second, second),
             };
-            let _ = print_different(rt, first, second, both, report, entries);
+            let _ = print_different(rt, sources, blocks, report, entries);
         }
         Err(Refused::First(refusal)) => {
-            let _ = print_refused(rt, Side::First, first, s, refusal);
+            let _ = print_refused(rt, Side::First, sources.first, bytes.first, refusal);
         }
         Err(Refused::Second(refusal)) => {
-            let _ = print_refused(rt, Side::Second, second, t, refusal);
+            let _ = print_refused(rt, Side::Second, sources.second, bytes.second, refusal);
         }
         Err(Refused::Report) => console::print(
             rt,
@@ -364,19 +375,19 @@ fn compare_in(
 }
 
 // The room is made where it lies: a function's reply would be copied, and twice the room is more than the stack has where nothing is optimized.
-fn compare_bytes(rt: HostRuntime, first: Source, s: &[u8], second: Source, t: &[u8]) {
-    let mut one = Room {
-        codes: [0; 65535],
-        values: [0; 65535],
-        records: [0; 1343488],
+fn compare_bytes(rt: HostRuntime, sources: Pair<Source>, bytes: Pair<&[u8]>) {
+    let mut first = Room {
+        codes: [0; 65536],
+        values: [0; 65536],
+        records: [0; 1343652],
     };
-    let mut two = Room {
-        codes: [0; 65535],
-        values: [0; 65535],
-        records: [0; 1343488],
+    let mut second = Room {
+        codes: [0; 65536],
+        values: [0; 65536],
+        records: [0; 1343652],
     };
     let mut report = [0i32; 327692];
-    compare_in(rt, first, s, second, t, &mut one, &mut two, &mut report);
+    compare_in(rt, sources, bytes, &mut first, &mut second, &mut report);
 }
 
 // ---- files
@@ -417,16 +428,16 @@ fn had<'a>(
     }
 }
 
-fn compare_files(rt: HostRuntime, first: Source, second: Source) {
+fn compare_files(rt: HostRuntime, sources: Pair<Source>) {
     let mut first_room = [0u8; 1048576];
     let mut second_room = [0u8; 1048576];
-    let Some(s) = had(rt, Side::First, first, &mut first_room) else {
+    let Some(first) = had(rt, Side::First, sources.first, &mut first_room) else {
         return;
     };
-    let Some(t) = had(rt, Side::Second, second, &mut second_room) else {
+    let Some(second) = had(rt, Side::Second, sources.second, &mut second_room) else {
         return;
     };
-    compare_bytes(rt, first, s, second, t);
+    compare_bytes(rt, sources, Pair { first, second });
 }
 
 // ---- arguments
@@ -450,14 +461,14 @@ fn compare_arguments(rt: HostRuntime, i: usize, from: Option<usize>, k: usize, a
     let Some(at) = at else {
         return not_offset(rt, Side::Second, second);
     };
-    compare_files(
-        rt,
-        Source {
+    let sources = Pair {
+        first: Source {
             path: first,
             at: from,
         },
-        Source { path: second, at },
-    );
+        second: Source { path: second, at },
+    };
+    compare_files(rt, sources);
 }
 
 fn not_offset(rt: HostRuntime, side: Side, path: &[u8]) {

@@ -1,5 +1,5 @@
 -- What the structure check says of one block's arena, batch by batch. Assumes nothing.
-use mathlib.Core.Path.{◌≡◌, sym, ap, ◌∙◌}
+use mathlib.Core.Path.{◌≡◌, refl, sym, ◌∙◌}
 use mathlib.Core.Bool.{true}
 use mathlib.Core.List.{List, [], ◌∷◌, map}
 use Prim.Native.Nat.{ℕ, suc, ◌+◌, ◌-◌, ◌*◌, ◌/◌, ◌≤◌, ◌<◌}
@@ -89,12 +89,12 @@ module _ (cs vs rs : List ℕ) (b from : ℕ) (x : Lies (arena cs vs rs) b from)
       })
 
 -- eight bytes, from the numbers that they make
-pub bytes_found : (xs ys : List ℕ) (x y : List ℕ) (m n : ℕ) (r : Option ℕ) → length xs ≡ 8 → Bytes xs → length ys ≡ 8 → Bytes ys → x ≡ to_le_bytes w64 m → m ≡ number 256 xs → y ≡ to_le_bytes w64 n → n ≡ number 256 ys
-    → FirstApart 8 (λ i. get_or x i 0 ≡ get_or y i 0) r → r ≡ apart_from eqb 0 xs ys
-bytes_found xs ys x y m n r l h k g d e f i o =
-    let p : x ≡ xs = d ∙ back xs m l h e in
-    let q : y ≡ ys = f ∙ back ys n k g i in
-    numbers_found 8 x y r (ap length p ∙ l) (ap length q ∙ k) o ∙ (λ j. apart_from eqb 0 (p j) (q j))
+pub bytes_found : (xs ys : List ℕ) (m n : ℕ) (r : Option ℕ) → length xs ≡ 8 → Bytes xs → length ys ≡ 8 → Bytes ys → m ≡ number 256 xs → n ≡ number 256 ys
+    → FirstApart 8 (λ i. get_or (to_le_bytes w64 m) i 0 ≡ get_or (to_le_bytes w64 n) i 0) r → r ≡ apart_from eqb 0 xs ys
+bytes_found xs ys m n r l h k g e i o =
+    let p = back xs m l h e in
+    let q = back ys n k g i in
+    numbers_found 8 (to_le_bytes w64 m) (to_le_bytes w64 n) r refl refl o ∙ (λ j. apart_from eqb 0 (p j) (q j))
   where
     back : (xs : List ℕ) (v : ℕ) → length xs ≡ 8 → Bytes xs → v ≡ number 256 xs → to_le_bytes w64 v ≡ xs
     back xs v l h e = bytes_are v ∙ rw (e, sym l) (digits_number 256 xs h)

@@ -3,17 +3,19 @@
 #![tactic(auto)]
 
 ghost use Rattle.std.specs.Prelude.{◌≡◌, ◌+◌, ◌-◌, ◌*◌, ◌≤◌, ◌<◌, ◌^◌, [], ◌∷◌, length, IfSome, slice_index};
+ghost use Rattle.std.specs.Int.{to_le_bytes, w64};
 ghost use Rattle.std.proofs.lemmas.List.Edits.{sets};
 ghost use Rattle.rules.specs.Lists.{in_row};
 ghost use Rattle.rules.specs.Record.{record_size, record_at, no_block};
 ghost use Rattle.rules.specs.Compare.{paddings_in, total_apart, blocks_apart, entry_numbers};
 ghost use Rattle.rules.specs.Functions.{arena, block_in, room_in, filled, decoded, compared};
+ghost use Rattle.op_batch.specs.RecordAt.{recorded};
 ghost use Rattle.checks.specs.Batch.{Fits, Lies};
 ghost use Rattle.comparison.specs.Replies.{mark_of, refusal_of, side, room_for, Compares};
 ghost use Rattle.comparison.specs.Model.{FirstApart, whole_at, apart_of, Near, number_of, side_number, noted, entries_for, common_from, missing_from, totals_of, totals_for, Few, Adds, against_first, Written, Taken, front, Begins, headless};
 
 use decoder::Decoded;
-use op_batch::RECORD;
+use op_batch::{RECORD, RecordAt};
 use refusal::Refusal;
 
 // Why two blocks are not compared: one of them is refused, or the report is too short.
@@ -107,17 +109,27 @@ struct Report<'a> {
 
 // ---- where two first differ
 
+// The first of eight bytes: those of most batches are the same, which is seen at once.
+fn byte_apart(x: u64, y: u64) -> Option<usize>
+    ensures { FirstApart 8 (λ i. slice_index (to_le_bytes w64 x) i ≡ slice_index (to_le_bytes w64 y) i) result }
+{
+    if x == y {
+        None
+    } else {
+        bytes_apart(x.to_le_bytes(), y.to_le_bytes())
+    }
+}
+
 fn bytes_apart(x: [u8; 8], y: [u8; 8]) -> Option<usize>
     ensures { FirstApart 8 (λ i. slice_index x i ≡ slice_index y i) result }
 {
     (0..8).position(|i| x[i] != y[i])
 }
 
-fn numbers_apart(first: &[u8], second: &[u8], b: usize) -> Option<usize>
-    requires { (record_size * b + record_size ≤ length first.now) × (record_size * b + record_size ≤ length second.now) }
-    ensures { FirstApart 8 (λ g. slice_index (record_at first.now b).numbers g ≡ slice_index (record_at second.now b).numbers g) result }
+fn numbers_apart(first: RecordAt<'_>, second: RecordAt<'_>) -> Option<usize>
+    ensures { FirstApart 8 (λ g. slice_index (recorded first.entry).numbers g ≡ slice_index (recorded second.entry).numbers g) result }
 {
-    (0..8).position(|g| op_batch::number(first, b, g) != op_batch::number(second, b, g))
+    (0..8).position(|g| first.number(g) != second.number(g))
 }
 
 impl<'a> Block<'a> {
@@ -155,30 +167,33 @@ impl<'a> Block<'a> {
         requires { Lies (lying self.now) b from × Lies (lying other.now) b at }
         ensures { result ≡ apart_of (whole_at (lying self.now) b from) (whole_at (lying other.now) b at) }
     {
-        let both = op_batch::start(self.records, b, 8).min(op_batch::start(other.records, b, 8));
+        let x = RecordAt {
+            records: self.records,
+            b,
+        };
+        let y = RecordAt {
+            records: other.records,
+            b,
+        };
+        let both = x.start(8).min(y.start(8));
         Apart {
-            number: numbers_apart(self.records, other.records, b),
-            flag: bytes_apart(
-                op_batch::flags(self.records, b).to_le_bytes(),
-                op_batch::flags(other.records, b).to_le_bytes(),
-            ),
-            length: bytes_apart(
-                op_batch::sizes(self.records, b).to_le_bytes(),
-                op_batch::sizes(other.records, b).to_le_bytes(),
-            ),
+            number: numbers_apart(x, y),
+            flag: byte_apart(x.flags(), y.flags()),
+            length: byte_apart(x.sizes(), y.sizes()),
             operation: self.ops_apart(from, other, at, both),
-            count: op_batch::count(self.records, b) != op_batch::count(other.records, b),
+            count: x.count() != y.count(),
         }
     }
 
     fn totals(&self) -> Totals
         ensures { (result ≡ totals_of (block_in (lying self.now))) × Few result }
     {
-        let batches = self.records.len() / RECORD;
+        let records = self.records;
+        let batches = records.len() / RECORD;
         let padded = self.codes.len();
         let mut flagged = 0;
         for b in 0..batches {
-            flagged += paddings(self.records, b);
+            flagged += paddings(RecordAt { records, b });
         }
         Totals {
             batches,
@@ -190,13 +205,13 @@ impl<'a> Block<'a> {
 }
 
 // The flags under the count of the b-th batch: as far as one is set.
-fn paddings(records: &[u8], b: usize) -> usize
-    requires { (record_size * b + record_size ≤ length records.now) × Fits (record_at records.now b) }
-    ensures { (result ≡ paddings_in (record_at records.now b)) × (result ≤ 8) }
+fn paddings(batch: RecordAt<'_>) -> usize
+    requires { Fits (recorded batch) }
+    ensures { (result ≡ paddings_in (recorded batch.entry)) × (result ≤ 8) }
 {
-    let mut left = op_batch::flags(records, b); // those from the g-th on
+    let mut left = batch.flags(); // those from the g-th on
     let mut n = 0;
-    for g in 0..op_batch::count(records, b) {
+    for g in 0..batch.count() {
         if left == 0 {
             return n;
         }
@@ -255,8 +270,16 @@ impl Report<'_> {
         let mut at = 0;
         for b in 0..k {
             self.batch(b, first.batch_apart(from, second, at, b));
-            from += op_batch::start(first.records, b, 8);
-            at += op_batch::start(second.records, b, 8);
+            from += RecordAt {
+                records: first.records,
+                b,
+            }
+            .start(8);
+            at += RecordAt {
+                records: second.records,
+                b,
+            }
+            .start(8);
         }
     }
 

@@ -13,10 +13,12 @@ ghost use Rattle.encoder.specs.Replies.{Encodes};
 ghost use Rattle.encoder.specs.Parts.{op_size, ops_size, ops_of, bytes_of, left_of};
 
 use input::Input;
-use op_batch::{RECORD, WIDTH};
+use op_batch::{RECORD, RecordAt, WIDTH};
 use refusal::Refusal;
 
 mod input;
+
+const MOST_BYTES: usize = 1048576;
 
 // How many bytes an operation takes.
 fn op_len(table: &[u8; 128], code: u8) -> usize
@@ -39,7 +41,7 @@ impl<'a> Input<'a> {
         ensures ok { IfOk result (λ i. (at ≤ size) × (encoded 8 table.now (arena codes.now values.now records.now) size at ≡ left_of i size at)) }
         ensures err { IfErr result (λ r. encoded 8 table.now (arena codes.now values.now records.now) size at ≡ refused (number_of r) (place_of r)) }
     {
-        if !checks::within(codes, values, records) || 1048576 < size {
+        if !checks::within(codes, values, records) || MOST_BYTES < size {
             return Err(Refusal::OverLimit);
         }
         let table = operation::checked(table)?;
@@ -97,12 +99,13 @@ impl<'a> Input<'a> {
         ensures place { result ≡ at + 4 * (length self.entry.records.now / record_size) }
         ensures bytes { out.new ≡ sets out.old at (nibble_bytes (records_in self.entry.records.now)) }
     {
+        let records = self.records;
         let n = self.batches();
         for b in 0..n {
             word::put::<4>(
                 out,
                 at + 4 * b,
-                op_batch::pack_indptr_deltas(self.records, b),
+                RecordAt { records, b }.pack_indptr_deltas(),
             );
         }
         at + 4 * n
@@ -113,8 +116,9 @@ impl<'a> Input<'a> {
         requires { at + length self.records.now / record_size ≤ length out.old }
         ensures { out.new ≡ sets out.old at (flag_bytes (records_in self.entry.records.now)) }
     {
+        let records = self.records;
         for b in 0..self.batches() {
-            out[at + b] = op_batch::pack_padding(self.records, b);
+            out[at + b] = RecordAt { records, b }.pack_padding();
         }
     }
 
@@ -133,6 +137,7 @@ impl<'a> Input<'a> {
 }
 
 // The block of these opcodes, values and records, into `out` from `at` on; and how many bytes it takes. A refused one writes no byte.
+// The runs come one by one, as the C interface lends them.
 pub fn encode(
     table: &[u8],
     codes: &[u8],

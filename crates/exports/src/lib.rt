@@ -23,7 +23,7 @@ use build::Totals;
 use comparison::Refused;
 use decoder::Decoded;
 use head::Headed;
-use op_batch::Place;
+use op_batch::{Place, RecordAt};
 use prefix::{PaddedIndex, RawIndex};
 use refusal::Refusal;
 
@@ -465,9 +465,8 @@ pub fn oli_group(run: &[u8], index: usize) -> GroupReply
     if run.len() != op_batch::RECORD {
         return GroupReply::from(Err(Refusal::OverLimit));
     }
-    op_batch::load(run, 0)
-        .op_idx_in_batch_to_group(index)
-        .into()
+    let batch = RecordAt { records: run, b: 0 }.load();
+    batch.op_idx_in_batch_to_group(index).into()
 }
 
 pub fn oli_next_group(run: &[u8], group: usize) -> NextReply
@@ -476,7 +475,8 @@ pub fn oli_next_group(run: &[u8], group: usize) -> NextReply
     if run.len() != op_batch::RECORD {
         return NextReply::from(Err(Refusal::OverLimit));
     }
-    op_batch::load(run, 0).next_op_group_index(group).into()
+    let batch = RecordAt { records: run, b: 0 }.load();
+    batch.next_op_group_index(group).into()
 }
 
 // ---- the same functions with runs of 64-bit numbers as little-endian bytes, eight to a number

@@ -5,23 +5,22 @@
 ghost use Rattle.std.specs.Prelude.{◌≤◌, ◌<◌, IfSome};
 
 use console::{Page, counted, quote_name};
-use decoder::Decoded;
 use listing::{After, Block, Runs};
 use op_batch::OpBatch;
 use refusal::Refusal;
-use space::List;
+use space::{List, Room};
 use std::fmt;
 use std::fmt::Write;
 use std::io::Result;
 
 // ---- a group of a batch
 
-// Whether it is under the group count, how many operations of the list it has, how many paddings (0 or 1), and its flag.
+// Whether it is under the group count, how many operations of the list it has, whether a padding follows them, and its flag.
 #[derive(Clone, Copy, PartialEq, Eq)]
 struct Group {
     there: bool,
     own: usize,
-    pads: usize,
+    padded: bool,
     flag: u8,
 }
 
@@ -31,11 +30,11 @@ impl Group {
     {
         let size = usize::from(batch.starts[g + 1].saturating_sub(batch.starts[g]));
         let flag = batch.flags[g];
-        let pads = if flag == 0 { 0 } else { size.min(1) };
+        let padded = flag != 0 && size != 0;
         Group {
             there: g < usize::from(batch.count),
-            own: size - pads,
-            pads,
+            own: if padded { size - 1 } else { size },
+            padded,
             flag,
         }
     }
@@ -73,7 +72,9 @@ impl Own {
         for g in 0..8 {
             let group = Group::at(batch, g);
             self.push_ops(runs, from, group.own);
-            from = from.wrapping_add(group.own).wrapping_add(group.pads);
+            from = from
+                .wrapping_add(group.own)
+                .wrapping_add(usize::from(group.padded));
         }
     }
 
@@ -100,15 +101,12 @@ fn first_difference(batch: &OpBatch, made: &OpBatch) -> Option<usize>
 // What a group that is there has. That it holds a value alone can't be asked: the groups before it are the same on both sides, and so are their slots.
 impl fmt::Display for Group {
     fn fmt<W: fmt::Write>(&self, f: &mut fmt::Formatter<W>) -> fmt::Result {
-        match (self.own, self.pads) {
-            (0, 0) => write!(f, "only a value"),
-            (0, _) => write!(f, "only a padding"),
-            (own, 0) => write!(f, "{}", counted(own, "operation", "operations")),
-            (own, _) => write!(
-                f,
-                "{} and a padding",
-                counted(own, "operation", "operations")
-            ),
+        let operations = counted(self.own, "operation", "operations");
+        match (self.own, self.padded) {
+            (0, false) => write!(f, "only a value"),
+            (0, true) => write!(f, "only a padding"),
+            (_, false) => write!(f, "{operations}"),
+            (_, true) => write!(f, "{operations} and a padding"),
         }
     }
 }
@@ -117,7 +115,7 @@ impl fmt::Display for Group {
 fn print_group(page: &mut Page, g: usize, group: Group) -> fmt::Result {
     if !group.there {
         write!(page, "the batch ends before group {g}")
-    } else if group.own == 0 && group.pads == 0 {
+    } else if group.own == 0 && !group.padded {
         write!(page, "group {g} is empty and holds no value")
     } else {
         write!(page, "group {g} holds {group}")
@@ -167,15 +165,13 @@ fn print_difference(page: &mut Page, batch: &OpBatch, made: &OpBatch) -> fmt::Re
 
 // ---- what is different in a block that is not finished
 
-// A batch is held against the one that batching the block's own list gives at its place. The lent runs take what is batched.
+// A batch is held against the one that batching the block's own list gives at its place. The room takes what is batched.
 fn print_batch(
     page: &mut Page,
     list: &List,
     batch: &OpBatch,
     place: usize,
-    codes: &mut [u8],
-    values: &mut [u64],
-    records: &mut [u8],
+    room: &mut Room,
 ) -> fmt::Result {
     write!(page, " at batch {place}: ")?;
     if batch.starts[8] == 0 {
@@ -185,63 +181,41 @@ fn print_batch(
         &vm::table(),
         list.codes(),
         list.values(),
-        codes,
-        values,
-        records,
+        &mut room.codes,
+        &mut room.values,
+        &mut room.records,
     ) {
         Ok(made) if made.batches <= place => write!(
             page,
             "an extra batch, batching the block's own operations gives only {}",
             made.batches
         ),
-        Ok(_) => print_difference(
-            page,
-            batch,
-            &Runs {
-                codes,
-                values,
-                records,
-            }
-            .record(place),
-        ),
+        Ok(_) => print_difference(page, batch, &Runs::from(&*room).record(place)),
         Err(_) => write!(page, "{UNLIKE}"),
     }
 }
 
 // The block is read once more, since a strict read that is refused leaves nothing of it.
-fn print_why(
-    page: &mut Page,
-    s: &[u8],
-    place: usize,
-    codes: &mut [u8],
-    values: &mut [u64],
-    records: &mut [u8],
-) -> fmt::Result {
-    let Ok(Decoded { batches, .. }) = decoder::decode(&vm::table(), s, 0, codes, values, records)
-    else {
+fn print_why(page: &mut Page, s: &[u8], place: usize, room: &mut Room) -> fmt::Result {
+    let Ok(made) = decoder::decode(
+        &vm::table(),
+        s,
+        0,
+        &mut room.codes,
+        &mut room.values,
+        &mut room.records,
+    ) else {
         return write!(page, ": {UNLIKE}");
     };
-    let runs = Runs {
-        codes,
-        values,
-        records,
-    };
+    let runs = Runs::from(&*room);
     let mut own = Own {
         list: List::new(),
         more: 0,
     };
-    own.push_batches(runs, batches);
+    own.push_batches(runs, made.batches);
     match own.count() {
         0 => write!(page, ": the block has no operations of its own"),
-        1..=16384 => print_batch(
-            page,
-            &own.list,
-            &runs.record(place),
-            place,
-            codes,
-            values,
-            records,
-        ),
+        1..=16384 => print_batch(page, &own.list, &runs.record(place), place, room),
         n => write!(
             page,
             ": the block's own list has {n} operations, more than 16384"
@@ -264,43 +238,35 @@ fn after(read: usize, used: usize, whole: bool) -> After {
 
 // The first bytes of a file, as many as a block may have.
 fn check_bytes(page: &mut Page, path: &[u8], s: &[u8], whole: bool) -> fmt::Result {
-    let mut codes = space::codes();
-    let mut values = space::values();
-    let mut records = space::records();
-    match strict::decode_strict(&vm::table(), s, 0, &mut codes, &mut values, &mut records) {
-        Ok(
-            Decoded {
-                batches,
-                operations,
-                used,
-            },
-        ) => {
-            let runs = Runs {
-                codes: &codes,
-                values: &values,
-                records: &records,
-            };
+    let mut room = Room::new();
+    match strict::decode_strict(
+        &vm::table(),
+        s,
+        0,
+        &mut room.codes,
+        &mut room.values,
+        &mut room.records,
+    ) {
+        Ok(made) => {
             let block = Block {
                 at: 0,
-                batches,
-                operations,
-                used,
+                batches: made.batches,
+                operations: made.operations,
+                used: made.used,
             };
             write!(page, "finished {}: ", quote_name(path))?;
-            listing::print_totals(page, runs, block, after(s.len(), used, whole))
+            listing::print_totals(
+                page,
+                Runs::from(&room),
+                block,
+                after(s.len(), made.used, whole),
+            )
         }
         Err(refusal) => {
             write!(page, "not finished {}: ", quote_name(path))?;
             listing::print_numbered(page, s, 0, refusal)?;
             match refusal {
-                Refusal::Unfinished { batch } => print_why(
-                    page,
-                    s,
-                    batch,
-                    &mut codes,
-                    &mut values,
-                    &mut records,
-                )?,
+                Refusal::Unfinished { batch } => print_why(page, s, batch, &mut room)?,
                 _ => write!(page, ": {refusal}")?,
             }
             writeln!(page)

@@ -5,8 +5,9 @@
 ghost use Rattle.std.specs.Prelude.{◌<◌};
 
 use console::{Page, counted};
-use op_batch::OpBatch;
+use op_batch::{OpBatch, RecordAt};
 use refusal::Refusal;
+use space::Room;
 use std::fmt;
 use std::fmt::Write;
 use vm::Kind;
@@ -61,6 +62,16 @@ pub struct Runs<'a> {
     pub records: &'a [u8],
 }
 
+impl<'a> From<&'a Room> for Runs<'a> {
+    fn from(room: &'a Room) -> Runs<'a> {
+        Runs {
+            codes: &room.codes,
+            values: &room.values,
+            records: &room.records,
+        }
+    }
+}
+
 impl Runs<'_> {
     fn operation(self, at: usize) -> Option<Operation> {
         Some(Operation {
@@ -81,7 +92,8 @@ impl Runs<'_> {
     // The b-th record, or one of zeros where the run ends before it.
     pub fn record(self, b: usize) -> OpBatch {
         if b < self.records.len() / op_batch::RECORD {
-            return op_batch::load(self.records, b);
+            let records = self.records;
+            return RecordAt { records, b }.load();
         }
         OpBatch {
             starts: [0; 9],

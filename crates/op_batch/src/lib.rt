@@ -11,8 +11,12 @@ ghost use Rattle.rules.specs.Lookups.{group_from};
 ghost use Rattle.rules.specs.Functions.{group_lookup, next_lookup};
 ghost use Rattle.refusal.specs.Told.{told};
 ghost use Rattle.op_batch.specs.OpBatch.{layout, record_in, found_in, lookup_of, first_full, next_in, next_of};
+ghost use Rattle.op_batch.specs.RecordAt.{recorded};
 ghost use Rattle.op_batch.specs.Stores.{start_set, starts_set, flag_set, number_set, count_set, record_set, packed};
 
+mod record_at;
+
+pub use record_at::RecordAt;
 use refusal::Refusal;
 
 // A record's bytes in a run, and where its flags, its numbers and its count stand among them. No other crate knows.
@@ -74,65 +78,121 @@ fn layout_right(width: usize, starts: &[u8], flags: &[u8], count: u8) -> bool
         && starts[usize::from(count)] == starts[8]
 }
 
-// Whether the b-th record of a run passes the structure check by itself, where a batch has at most `width` groups.
-pub fn record_right(width: usize, records: &[u8], b: usize) -> bool
-    requires { (width ≤ 8) × (record_size * b + record_size ≤ length records.now) }
-    ensures { result ≡ record_right width (record_at records.now b) }
+// ---- parts of a run by value
+
+fn load_bytes<const N: usize>(s: &[u8], at: usize) -> [u8; N]
+    requires { at + N ≤ length s.now }
+    ensures { result ≡ bytes_at N s.now at }
 {
-    let at = RECORD * b;
-    layout_right(
-        width,
-        &records[at..at + FLAGS],
-        &records[at + FLAGS..at + NUMBERS],
-        records[at + COUNT],
-    )
+    let mut out = [0; N];
+    out.copy_from_slice(&s[at..at + N]);
+    out
 }
 
-// ---- what the b-th record of a run says
-
-pub fn start(records: &[u8], b: usize, g: usize) -> usize
-    requires { (record_size * b + record_size ≤ length records.now) × (g < 9) }
-    ensures { (result ≡ slice_index (record_at records.now b).starts g) × (result < 256) }
+fn load_words(s: &[u8], at: usize) -> [u64; 8]
+    requires { at + 64 ≤ length s.now }
+    ensures { result ≡ words_at 8 s.now at }
 {
-    usize::from(records[RECORD * b + g])
+    std::array::from_fn(|i| word::le::<8>(s, at + 8 * i))
 }
 
-pub fn flag(records: &[u8], b: usize, g: usize) -> u8
-    requires { (record_size * b + record_size ≤ length records.now) × (g < 8) }
-    ensures { result ≡ slice_index (record_at records.now b).flags g }
-{
-    records[RECORD * b + FLAGS + g]
-}
+// ---- what a record of a run says
 
-// All eight as the bytes of one number, the first lowest: 0 where no flag is set.
-pub fn flags(records: &[u8], b: usize) -> u64
-    requires { record_size * b + record_size ≤ length records.now }
-    ensures { result ≡ number 256 (record_at records.now b).flags }
-{
-    word::le::<8>(records, RECORD * b + FLAGS)
-}
+impl RecordAt<'_> {
+    // Whether it passes the structure check by itself, where a batch has at most `width` groups.
+    pub fn right(self, width: usize) -> bool
+        requires { width ≤ 8 }
+        ensures { result ≡ record_right width (recorded self.entry) }
+    {
+        let at = RECORD * self.b;
+        layout_right(
+            width,
+            &self.records[at..at + FLAGS],
+            &self.records[at + FLAGS..at + NUMBERS],
+            self.records[at + COUNT],
+        )
+    }
 
-// All eight sizes, each start i+1 minus start i, in the same way: where starts never fall, no byte borrows from the next.
-pub fn sizes(records: &[u8], b: usize) -> u64
-    requires { (record_size * b + record_size ≤ length records.now) × (starts_right (record_at records.now b).starts ≡ true) }
-    ensures { result ≡ number 256 (differences (record_at records.now b).starts) }
-{
-    let at = RECORD * b;
-    word::le::<8>(records, at + 1) - word::le::<8>(records, at)
-}
+    pub fn start(self, g: usize) -> usize
+        requires { g < 9 }
+        ensures { (result ≡ slice_index (recorded self.entry).starts g) × (result < 256) }
+    {
+        usize::from(self.records[RECORD * self.b + g])
+    }
 
-pub fn number(records: &[u8], b: usize, g: usize) -> u64
-    requires { (record_size * b + record_size ≤ length records.now) × (g < 8) }
-    ensures { result ≡ slice_index (record_at records.now b).numbers g }
-{
-    word::le::<8>(records, RECORD * b + NUMBERS + 8 * g)
-}
+    pub fn flag(self, g: usize) -> u8
+        requires { g < 8 }
+        ensures { result ≡ slice_index (recorded self.entry).flags g }
+    {
+        self.records[RECORD * self.b + FLAGS + g]
+    }
 
-pub fn count(records: &[u8], b: usize) -> usize
-    requires { record_size * b + record_size ≤ length records.now }
-    ensures { (result ≡ (record_at records.now b).count) × (result < 256) }
-{
-    usize::from(records[RECORD * b + COUNT])
+    // All eight as the bytes of one number, the first lowest: 0 where no flag is set.
+    pub fn flags(self) -> u64
+        ensures { result ≡ number 256 (recorded self.entry).flags }
+    {
+        word::le::<8>(self.records, RECORD * self.b + FLAGS)
+    }
+
+    // All eight sizes, each start i+1 minus start i, in the same way: where starts never fall, no byte borrows from the next.
+    pub fn sizes(self) -> u64
+        requires { starts_right (recorded self).starts ≡ true }
+        ensures { result ≡ number 256 (differences (recorded self.entry).starts) }
+    {
+        let at = RECORD * self.b;
+        word::le::<8>(self.records, at + 1) - word::le::<8>(self.records, at)
+    }
+
+    pub fn number(self, g: usize) -> u64
+        requires { g < 8 }
+        ensures { result ≡ slice_index (recorded self.entry).numbers g }
+    {
+        word::le::<8>(self.records, RECORD * self.b + NUMBERS + 8 * g)
+    }
+
+    pub fn count(self) -> usize
+        ensures { (result ≡ (recorded self.entry).count) × (result < 256) }
+    {
+        usize::from(self.records[RECORD * self.b + COUNT])
+    }
+
+    // The sizes packed, four bits each, the first lowest.
+    pub fn pack_indptr_deltas(self) -> u64
+        requires { starts_right (recorded self).starts ≡ true }
+        ensures { result ≡ number 16 (differences (recorded self.entry).starts) }
+    {
+        let at = RECORD * self.b;
+        let mut v = 0;
+        for i in (0..8).rev() {
+            v = v * 16 + u64::from(self.records[at + i + 1] - self.records[at + i]);
+        }
+        v
+    }
+
+    // The flags packed, a bit each, the first lowest.
+    pub fn pack_padding(self) -> u8
+        requires { every (λ (f : ℕ). leb f 1) (recorded self).flags ≡ true }
+        ensures { result ≡ number 2 (recorded self.entry).flags }
+    {
+        let at = RECORD * self.b + FLAGS;
+        let mut v = 0;
+        for i in (0..8).rev() {
+            v = v * 2 + self.records[at + i];
+        }
+        v
+    }
+
+    pub fn load(self) -> OpBatch
+        ensures { record_in result ≡ recorded self.entry }
+    {
+        let at = RECORD * self.b;
+        OpBatch {
+            starts: load_bytes(self.records, at),
+            flags: load_bytes(self.records, at + FLAGS),
+            groups: load_words(self.records, at + NUMBERS),
+            count: self.records[at + COUNT],
+        }
+    }
 }
 
 // ---- stores to the b-th record of a run; what the run has no room for falls away
@@ -182,7 +242,7 @@ pub fn set_count(records: &mut [u8], b: usize, v: u8)
     word::store(records, RECORD * b + COUNT, v);
 }
 
-// ---- a record's packed forms: eight sizes in four bits each and eight flags in one bit each, the first lowest
+// ---- a record by its packed forms: eight sizes in four bits each and eight flags in one bit each, the first lowest
 
 // The nine starts that v's eight nibbles say, stored from `at` on.
 fn unpack_indptr_deltas(v: u64, out: &mut [u8], at: usize)
@@ -240,32 +300,6 @@ pub fn store_packed(
     records[at + COUNT] = count;
 }
 
-// The nibbles of the b-th record's starts.
-pub fn pack_indptr_deltas(records: &[u8], b: usize) -> u64
-    requires { (record_size * b + record_size ≤ length records.now) × (starts_right (record_at records.now b).starts ≡ true) }
-    ensures { result ≡ number 16 (differences (record_at records.now b).starts) }
-{
-    let at = RECORD * b;
-    let mut v = 0;
-    for i in (0..8).rev() {
-        v = v * 16 + u64::from(records[at + i + 1] - records[at + i]);
-    }
-    v
-}
-
-// The bits of the b-th record's flags.
-pub fn pack_padding(records: &[u8], b: usize) -> u8
-    requires { (record_size * b + record_size ≤ length records.now) × (every (λ (f : ℕ). leb f 1) (record_at records.now b).flags ≡ true) }
-    ensures { result ≡ number 2 (record_at records.now b).flags }
-{
-    let at = RECORD * b + FLAGS;
-    let mut v = 0;
-    for i in (0..8).rev() {
-        v = v * 2 + records[at + i];
-    }
-    v
-}
-
 // The number of a group: the sum of opcode times 128^position.
 pub fn group_number(codes: &[u8]) -> u64
     requires { (length codes.now ≤ 9) × ((i : ℕ) → i < length codes.now → slice_index codes.now i < 128) }
@@ -276,38 +310,6 @@ pub fn group_number(codes: &[u8]) -> u64
         v = v * 128 + u64::from(*code);
     }
     v
-}
-
-// ---- a record by value
-
-fn load_bytes<const N: usize>(s: &[u8], at: usize) -> [u8; N]
-    requires { at + N ≤ length s.now }
-    ensures { result ≡ bytes_at N s.now at }
-{
-    let mut out = [0; N];
-    out.copy_from_slice(&s[at..at + N]);
-    out
-}
-
-fn load_words(s: &[u8], at: usize) -> [u64; 8]
-    requires { at + 64 ≤ length s.now }
-    ensures { result ≡ words_at 8 s.now at }
-{
-    std::array::from_fn(|i| word::le::<8>(s, at + 8 * i))
-}
-
-// The b-th record of a run.
-pub fn load(records: &[u8], b: usize) -> OpBatch
-    requires { record_size * b + record_size ≤ length records.now }
-    ensures { record_in result ≡ record_at records.now b }
-{
-    let at = RECORD * b;
-    OpBatch {
-        starts: load_bytes(records, at),
-        flags: load_bytes(records, at + FLAGS),
-        groups: load_words(records, at + NUMBERS),
-        count: records[at + COUNT],
-    }
 }
 
 // The first group whose end is greater than an operation number; a walk, since a batch has only eight.

@@ -20,7 +20,8 @@ use Rattle.rules.specs.Functions.{Arena, block_in, within, padding_checked, tabl
 use Rattle.rules.proofs.Digits.{sets_append}
 use Rattle.rules.proofs.Runs.{zeroed}
 use Rattle.op_batch.proofs.Right.{rise, below_ninth, ninth_small, flagged, flags_ahead}
-use Rattle.checks.proofs.Groups.{Laid}
+use Rattle.checks.specs.Batch.{Fits}
+use Rattle.checks.proofs.Groups.{Laid, laid}
 use Rattle.checks.proofs.Walk.{records_turn, records_end}
 use Rattle.checks.proofs.Passed.{and_then, refuse_then, first_then, went_on}
 use Rattle.std.specs.Prelude.{Ok, Err}
@@ -202,6 +203,13 @@ in_batch r x g left e l =
 pub none_ahead : (r : Record) → Laid r → (g left : ℕ) → left ≡ number 256 (drop g r.flags) → 8 ≤ g → left ≡ 0
 none_ahead r x g zero e h = refl
 none_ahead r x g (suc n) e h = absurd (omega (arith, in_batch r x g (suc n) e (omega arith)))
+
+-- where the groups of a batch begin: none falls, and the last ends at 72 or before
+pub rising : (s : List ℕ) (b : ℕ) → Fits (record_at s b) → (g : ℕ) → g < 8 → get_or (record_at s b).starts g 0 ≤ get_or (record_at s b).starts (g + 1) 0
+rising s b f g h = let x = laid s b f in (rise x.width (record_at s b) x.sound x.starts g h).0
+
+pub ending : (s : List ℕ) (b : ℕ) → Fits (record_at s b) → (g : ℕ) → g ≤ 8 → (get_or (record_at s b).starts g 0 ≤ get_or (record_at s b).starts 8 0) × (get_or (record_at s b).starts 8 0 ≤ 72)
+ending s b f g h = let x = laid s b f in omega (arith, below_ninth x.width (record_at s b) x.sound x.starts g (omega arith), ninth_small x.width (record_at s b) x.sound x.starts)
 
 -- ---- batch by batch
 

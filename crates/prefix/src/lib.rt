@@ -5,10 +5,11 @@ ghost use Rattle.std.specs.Prelude.{◌≡◌, ◌+◌, ◌*◌, ◌/◌, ◌≤
 ghost use Rattle.rules.specs.Record.{record_size, record_at, records_in};
 ghost use Rattle.rules.specs.Lookups.{marks, raw_at, padded_at, padded_index, raw_index};
 ghost use Rattle.rules.specs.Functions.{arena, raw_tabled, padded_tabled, table_of};
+ghost use Rattle.op_batch.specs.RecordAt.{recorded};
 ghost use Rattle.checks.specs.Batch.{Fits, AllFit};
 ghost use Rattle.prefix.specs.Tables.{padded_found, raw_found, padded_by, raw_by, table_by, table_from, pads_in, kept_in, marks_at, Goes, Filling, Answered};
 
-use op_batch::RECORD;
+use op_batch::{RECORD, RecordAt};
 use refusal::Refusal;
 
 // An index of an operation among those without flagged paddings, and among all.
@@ -86,39 +87,34 @@ fn kept_in(which: Prefix, size: usize, pads: usize) -> usize
 }
 
 // The entries of one batch, group by group as far as flags are set.
-fn batch_entries(records: &[u8], b: usize, which: Prefix, from: Filled, out: &mut [u64]) -> Filled
-    requires record_in_bounds { (record_size * b + record_size ≤ length records.now) × Fits (record_at records.now b) × (b < 16384) }
-    requires waiting_bound { (from.entries + from.waiting ≤ 72 * b) × (from.paddings ≤ 8 * b) }
-    ensures goes { Goes which (marks_at (record_at records.now b) 0) from result out.old out.new }
-    ensures waiting_bound_2 { (result.entries + result.waiting ≤ 72 * (b + 1)) × (result.paddings ≤ 8 * (b + 1)) }
+#[tactic(auto, using(crate::proofs::Entries::rising, crate::proofs::Entries::ending))]
+fn batch_entries(batch: RecordAt<'_>, which: Prefix, from: Filled, out: &mut [u64]) -> Filled
+    requires fits { Fits (recorded batch) × (batch.b < 16384) }
+    requires waiting_bound { (from.entries + from.waiting ≤ 72 * batch.b) × (from.paddings ≤ 8 * batch.b) }
+    ensures goes { Goes which (marks_at (recorded batch.entry) 0) from result out.old out.new }
+    ensures waiting_bound_2 { (result.entries + result.waiting ≤ 72 * (batch.entry.b + 1)) × (result.paddings ≤ 8 * (batch.entry.b + 1)) }
 {
-    let mut entries = from.entries;
-    let mut waiting = from.waiting;
-    let mut paddings = from.paddings;
-    let mut left = op_batch::flags(records, b); // those from the g-th on
+    let mut done = from;
+    let mut left = batch.flags(); // those from the g-th on
     let mut start = 0;
     for g in 0..8 {
         if left == 0 {
             break;
         }
         left /= 256;
-        let end = op_batch::start(records, b, g + 1);
-        let pads = pads_in(end - start, op_batch::flag(records, b, g));
-        waiting += kept_in(which, end - start, pads);
+        let end = batch.start(g + 1);
+        let pads = pads_in(end - start, batch.flag(g));
+        done.waiting += kept_in(which, end - start, pads);
         start = end;
         if pads == 1 {
-            word::fill(out, entries, waiting, paddings as u64);
-            entries += waiting;
-            waiting = 0;
-            paddings += 1;
+            word::fill(out, done.entries, done.waiting, done.paddings as u64);
+            done.entries += done.waiting;
+            done.waiting = 0;
+            done.paddings += 1;
         }
     }
-    waiting += op_batch::start(records, b, 8) - start;
-    Filled {
-        entries,
-        waiting,
-        paddings,
-    }
+    done.waiting += batch.start(8) - start;
+    done
 }
 
 // A whole table, and how many entries it has; those past the end of the lent run are left out.
@@ -132,7 +128,7 @@ fn fill(records: &[u8], which: Prefix, out: &mut [u64]) -> usize
         paddings: 0,
     };
     for b in 0..records.len() / RECORD {
-        done = batch_entries(records, b, which, done, out);
+        done = batch_entries(RecordAt { records, b }, which, done, out);
     }
     let last = done.waiting + 1;
     word::fill(out, done.entries, last, done.paddings as u64);

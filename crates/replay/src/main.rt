@@ -227,7 +227,7 @@ impl Counts {
     }
 }
 
-// The table of the cases on the lines after its own.
+// The table of the cases on the lines after its own. It has its bytes: a slice of them, kept from line to line, gets no proof.
 #[derive(Clone, Copy)]
 struct Table {
     room: [u8; 256],

@@ -3,9 +3,9 @@
 #![tactic(auto)]
 
 use console::{Page, quote_name};
-use decoder::Decoded;
 use listing::{After, Block, Runs};
 use refusal::Refusal;
+use space::Room;
 use std::fmt;
 use std::fmt::Write;
 use std::fs::File;
@@ -63,37 +63,24 @@ fn print_block(rt: HostRuntime, runs: Runs, block: Block, rest: After) -> fmt::R
 
 // The bytes of the file from `at` on, as many as a block may have.
 fn show(rt: HostRuntime, path: &[u8], bytes: &[u8], at: usize, end: usize) {
-    let mut codes = space::codes();
-    let mut values = space::values();
-    let mut records = space::records();
+    let mut room = Room::new();
     match decoder::decode(
         &vm::table(),
         bytes,
         0,
-        &mut codes,
-        &mut values,
-        &mut records,
+        &mut room.codes,
+        &mut room.values,
+        &mut room.records,
     ) {
-        Ok(
-            Decoded {
-                batches,
-                operations,
-                used,
-            },
-        ) => {
-            let runs = Runs {
-                codes: &codes,
-                values: &values,
-                records: &records,
-            };
+        Ok(made) => {
             let block = Block {
                 at,
-                batches,
-                operations,
-                used,
+                batches: made.batches,
+                operations: made.operations,
+                used: made.used,
             };
-            let rest = after(at.wrapping_add(used), end, bytes.len(), used);
-            let _ = print_block(rt, runs, block, rest);
+            let rest = after(at.wrapping_add(made.used), end, bytes.len(), made.used);
+            let _ = print_block(rt, Runs::from(&room), block, rest);
         }
         Err(refusal) => refused(rt, path, bytes, at, refusal),
     }

@@ -44,6 +44,26 @@ pub fn list_values() -> [u64; 16384]
     [0; 16384]
 }
 
+// ---- a block
+
+// Room for the largest block.
+#[derive(Drop)]
+pub struct Room {
+    pub codes: [u8; 65536],
+    pub values: [u64; 65536],
+    pub records: [u8; 1343652],
+}
+
+impl Room {
+    pub fn new() -> Room {
+        Room {
+            codes: [0; 65536],
+            values: [0; 65536],
+            records: [0; 1343652],
+        }
+    }
+}
+
 // ---- a list to batch
 
 // There is no room for one more.

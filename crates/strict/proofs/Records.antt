@@ -17,5 +17,5 @@ record_fits s k b h l = record { width = 8; room = omega arith; right = h.right 
 pub laid_at : (s : List ℕ) (k b : ℕ) → Runs s k → b < k → Laid (record_at s b)
 laid_at s k b h l = laid s b (record_fits s k b h l)
 
-pub record_there : (s : List ℕ) (k b : ℕ) → Runs s k → b < k → (record_size * b + record_size ≤ length s) × (starts_right (record_at s b).starts ≡ true)
-record_there s k b h l = (omega (arith, h.whole), right_starts (record_at s b) (record_fits s k b h l))
+pub record_there : (s : List ℕ) (k b : ℕ) → Runs s k → b < k → starts_right (record_at s b).starts ≡ true
+record_there s k b h l = right_starts (record_at s b) (record_fits s k b h l)

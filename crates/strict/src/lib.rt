@@ -20,6 +20,7 @@ ghost use Rattle.strict.specs.Model.{shape_at, held, ended_work, room_work, step
 
 use accumulator::OpBatchAccumulator;
 use decoder::Decoded;
+use op_batch::RecordAt;
 use refusal::Refusal;
 use std::marker::Model;
 
@@ -188,9 +189,13 @@ impl Walk<'_> {
         requires { b < self.now.batches }
         ensures { result ≡ shape_at self.now.records.now b }
     {
+        let record = RecordAt {
+            records: self.records,
+            b,
+        };
         Shape {
-            sizes: op_batch::sizes(self.records, b),
-            flags: op_batch::flags(self.records, b),
+            sizes: record.sizes(),
+            flags: record.flags(),
         }
     }
 
@@ -234,19 +239,19 @@ impl Walk<'_> {
         ensures { result ≡ fed_in self.now (code ∷ []) work }
     {
         let imm = self.table[code as usize] == 1;
+        // Returned at once: with an `else` the work is copied once more (measured).
         if work.draft.joins(imm) {
-            Work {
+            return Work {
                 draft: work.draft.join(code, imm),
                 raw: work.raw + 1,
                 ..work
-            }
-        } else {
-            let room = self.make_room(work, imm);
-            Work {
-                draft: room.draft.add(code, imm),
-                raw: room.raw + 1,
-                ..room
-            }
+            };
+        }
+        let room = self.make_room(work, imm);
+        Work {
+            draft: room.draft.add(code, imm),
+            raw: room.raw + 1,
+            ..room
         }
     }
 
@@ -267,22 +272,26 @@ impl Walk<'_> {
         requires { (b < self.now.batches) × (at + ninth (record_at self.now.records.now b) ≤ length self.now.codes.now) × (work.raw ≤ at) }
         ensures { result ≡ fed_in self.now (unmarked (marks_at (record_at self.now.records.now b) 0) (codes_part (ninth (record_at self.now.records.now b)) self.now.codes.now at)) work }
     {
+        let record = RecordAt {
+            records: self.records,
+            b,
+        };
         let mut w = work;
         let mut from = at;
-        let mut left = op_batch::flags(self.records, b); // those from the g-th on
+        let mut left = record.flags(); // those from the g-th on
         for g in 0..op_batch::WIDTH {
             if left == 0 {
                 break;
             }
             left /= 256;
-            let start = op_batch::start(self.records, b, g);
-            let end = op_batch::start(self.records, b, g + 1);
-            if op_batch::flag(self.records, b, g) == 1 && start < end {
+            let start = record.start(g);
+            let end = record.start(g + 1);
+            if record.flag(g) == 1 && start < end {
                 w = self.add_ops(w, from, at + end - 1);
                 from = at + end;
             }
         }
-        self.add_ops(w, from, at + op_batch::start(self.records, b, 8))
+        self.add_ops(w, from, at + record.start(8))
     }
 
     // The operations of all batches, without flagged padding.
@@ -294,10 +303,11 @@ impl Walk<'_> {
             same: Ok(0),
             raw: 0,
         };
+        let records = self.records;
         let mut at = 0;
         for b in 0..self.batches {
             w = self.add_batch(w, at, b);
-            at += op_batch::start(self.records, b, 8);
+            at += RecordAt { records, b }.start(8);
         }
         w
     }

@@ -63,14 +63,6 @@ fn place<S: Fn(u8) -> bool>(s: &[u8], stops: S) -> usize
     s.iter().position(|b| stops(*b)).unwrap_or(s.len())
 }
 
-// Where the digits from a place on end.
-pub fn digits_end(s: &[u8], from: usize, radix: Radix) -> usize
-    requires { from ≤ length s.now }
-    ensures { (from ≤ result) × (result ≤ length s.now) }
-{
-    from + place(&s[from..], |b| radix.digit(b).is_none())
-}
-
 // What parts words.
 fn blank(b: u8) -> bool {
     matches!(b, b' ' | b'\t' | b'\r' | b'\n')

@@ -104,7 +104,7 @@ impl Cause {
         }
     }
 
-    /// The one place of these sentences in Rust. The programs print the same (crates/listing).
+    /// The one place of these sentences in Rust. The programs print the same (crates/refusal).
     const fn words(self) -> &'static str {
         match self {
             Self::PastEnd => "the place to begin at is past the end of the bytes",

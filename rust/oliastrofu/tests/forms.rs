@@ -62,16 +62,18 @@ fn every_number_has_words() {
     }
 }
 
-/// The programs print the same sentences, each for its number (`print_meaning`, crates/listing).
+/// The programs print the same sentences, each for its number (`Display` of `Refusal`, crates/refusal, by number).
 #[test]
 fn the_words_of_the_programs() {
-    let listing = include_str!("../../../crates/listing/src/lib.rt");
-    for number in 1..=18 {
-        let (_, arm) = listing
-            .split_once(&format!("        {number} => say("))
-            .unwrap();
-        let (_, words) = arm.split_once("b\"").unwrap();
-        let (words, _) = words.split_once('"').unwrap();
+    let refusal = include_str!("../../../crates/refusal/src/lib.rt");
+    let (_, display) = refusal
+        .split_once("impl fmt::Display for Refusal")
+        .unwrap();
+    let sentences: Vec<&str> = display.split('"').skip(1).step_by(2).collect();
+    assert_eq!(sentences.len(), 18);
+    for (number, sentence) in (1..).zip(sentences) {
+        let words = sentence.trim_end_matches(", in batch {batch}");
+        let words = words.trim_end_matches(", operation {operation}");
         let cause = Cause::of_number(number);
         let ours = Refusal { cause, place: 0 }.to_string();
         let rest = ours.strip_prefix(&format!("refusal {number}: {words}"));

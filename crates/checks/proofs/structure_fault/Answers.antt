@@ -6,15 +6,15 @@ use Rattle.checks.proofs.structure_fault.Goals as goal
 pub loop-b-init : goal.loop-b-init
 loop-b-init c = let p = c.requires in (summed_first _ _ _ _ p.1, p.0)
 
-pub returns-then-not-record_right : goal.returns-then-not-record_right
-returns-then-not-record_right c =
+pub returns-then-not-right : goal.returns-then-not-right
+returns-then-not-right c =
     let l = c.loop-b in
-    (summed_stop _ _ _ _ _ _ _ l.invariant.0 (omega arith) (sym c.record_right.ensures ∙ c.if-not-record_right.true))
+    (summed_stop _ _ _ _ _ _ _ l.invariant.0 (omega arith) (sym c.right.ensures ∙ c.if-not-right.true))
 
 pub loop-b-preserved : goal.loop-b-preserved
 loop-b-preserved c =
     let l = c.loop-b in
-    (summed_next _ _ _ _ _ _ _ l.invariant.0 (omega arith) (sym c.record_right.ensures ∙ c.if-not-record_right.false) _ c.start-sum.ensures.0, l.invariant.1)
+    (summed_next _ _ _ _ _ _ _ l.invariant.0 (omega arith) (sym c.right.ensures ∙ c.if-not-right.false) _ c.start-sum.ensures.0, l.invariant.1)
 
 pub returns-then-sum-codes : goal.returns-then-sum-codes
 returns-then-sum-codes c = let l = c.loop-b in (summed_short _ _ _ _ _ _ _ l.invariant.0 (omega arith) c.if-sum-codes.true)

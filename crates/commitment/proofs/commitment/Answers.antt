@@ -1,6 +1,7 @@
 use mathlib.Core.Path.{sym, ◌∙◌}
 use native.Mathlib.Omega.{arith}
 use Rattle.rules.specs.Functions.{commitment_checked}
+use Rattle.rules.proofs.Operations.{table_128}
 use Rattle.refusal.proofs.Told.{handed}
 use Rattle.checks.proofs.Walk.{equal_lengths}
 use Rattle.checks.proofs.Passed.{apt}
@@ -22,13 +23,15 @@ pub returns-in_err-structure_fault : goal.returns-in_err-structure_fault
 returns-in_err-structure_fault c =
     handed _ _ c.from_residual-in_err-structure_fault.ensures.1 ∙ no_structure _ _ _ (sym c.if-not-within.ensures) c.in_ok-table.ensures.ok.1 _ _ c.in_err-structure_fault.ensures
 
-pub all_right-requires : goal.all_right-requires
-all_right-requires c = structure_passed _ _ _ (sym c.if-not-within.ensures) c.in_ok-table.ensures.ok.1 c.in_ok-structure_fault.ensures
-
-pub returns-then-all_right : goal.returns-then-all_right
-returns-then-all_right c =
+pub invariant_of-block : goal.invariant_of-block
+invariant_of-block c =
     let t = c.in_ok-table.ensures.ok in
-    all_well _ _ _ (sym c.if-not-within.ensures) t.1 c.in_ok-structure_fault.ensures (rw t.0 at (c.all_right.ensures c.if-all_right.true))
+    record { known = rw t.0 (table_128 _ t.1); structure = structure_passed _ _ _ (sym c.if-not-within.ensures) t.1 c.in_ok-structure_fault.ensures }
+
+pub returns-then-is_right : goal.returns-then-is_right
+returns-then-is_right c =
+    let t = c.in_ok-table.ensures.ok in
+    all_well _ _ _ (sym c.if-not-within.ensures) t.1 c.in_ok-structure_fault.ensures (rw t.0 at (c.is_right.ensures c.if-is_right.true))
 
 pub first_fault-requires : goal.first_fault-requires
 first_fault-requires c = equal_lengths _ _ _ (sym c.if-not-within.ensures)
@@ -39,15 +42,12 @@ returns-in_err-first_fault c =
     handed _ _ c.from_residual-in_err-first_fault.ensures.1
     ∙ not_admissible _ _ _ (sym c.if-not-within.ensures) t.1 c.in_ok-structure_fault.ensures _ _ (rw t.0 at c.in_err-first_fault.ensures)
 
-pub commitment_fault-requires-clause-structure : goal.commitment_fault-requires-clause-structure
-commitment_fault-requires-clause-structure c = structure_passed _ _ _ (sym c.if-not-within.ensures) c.in_ok-table.ensures.ok.1 c.in_ok-structure_fault.ensures
-
-pub commitment_fault-requires-clause-known : goal.commitment_fault-requires-clause-known
-commitment_fault-requires-clause-known c =
+pub first_fault-requires-2 : goal.first_fault-requires-2
+first_fault-requires-2 c =
     let t = c.in_ok-table.ensures.ok in
     apt _ _ _ (rw t.0 t.1) (equal_lengths _ _ _ (sym c.if-not-within.ensures)) (sym c.in_ok-first_fault.ensures)
 
 pub returns : goal.returns
 returns c =
     let t = c.in_ok-table.ensures.ok in
-    rw t.0 at c.commitment_fault.ensures ∙ by_batches _ _ _ (sym c.if-not-within.ensures) t.1 c.in_ok-structure_fault.ensures (rw t.0 at c.in_ok-first_fault.ensures)
+    rw t.0 at c.first_fault-2.ensures ∙ by_batches _ _ _ (sym c.if-not-within.ensures) t.1 c.in_ok-structure_fault.ensures (rw t.0 at c.in_ok-first_fault.ensures)

@@ -2,7 +2,7 @@ use mathlib.Core.Path.{◌≡◌, refl, sym, ap, ◌∙◌}
 use Prim.Native.Nat.{ℕ}
 use native.Mathlib.Omega.{arith}
 use lib.ListN.{take}
-use Rattle.rules.specs.Record.{record_at}
+use Rattle.op_batch.specs.RecordAt.{recorded}
 use Rattle.rules.specs.Compare.{flags_set, paddings_in}
 use Rattle.op_batch.proofs.Right.{flags_ahead}
 use Rattle.checks.proofs.Groups.{laid}
@@ -18,8 +18,8 @@ unfolding paddings_in
 returns-then-left-eq0 c =
     let l = c.loop-g in
     let v = l.invariant in
-    let r = record_at c.args.records.now c.args.b in
-    let x = laid c.args.records.now c.args.b c.requires.1 in
+    let r = recorded c.args.batch in
+    let x = laid _ _ c.requires in
     let e = c.count-g-end.ensures.0 in
     (v.1 ∙ sym (flags_rest l.g r.count r.flags (omega arith) (sym v.0 ∙ c.if-left-eq0.true)), omega (arith, v.2, x.count))
 
@@ -27,8 +27,8 @@ pub loop-g-preserved : goal.loop-g-preserved
 loop-g-preserved c =
     let l = c.loop-g in
     let v = l.invariant in
-    let r = record_at c.args.records.now c.args.b in
-    let x = laid c.args.records.now c.args.b c.requires.1 in
+    let r = recorded c.args.batch in
+    let x = laid _ _ c.requires in
     let h = c.count-g-end.ensures.0 in
     let f = x.sound.flags l.g (omega (arith, x.flags, x.count)) in
     let e = flags_ahead x.width r x.sound x.flags l.g (omega (arith, x.count)) in
@@ -40,7 +40,7 @@ unfolding paddings_in
 returns c =
     let l = c.loop-g in
     let v = l.invariant in
-    let r = record_at c.args.records.now c.args.b in
-    let x = laid c.args.records.now c.args.b c.requires.1 in
+    let r = recorded c.args.batch in
+    let x = laid _ _ c.requires in
     let e : l.g ≡ r.count = omega (arith, c.count-g-end.ensures.0) in
     (v.1 ∙ ap (λ (k : ℕ). flags_set (take k r.flags)) e, omega (arith, v.2, x.count))

@@ -2,9 +2,9 @@ use mathlib.Core.Path.{◌≡◌}
 use Prim.Native.Nat.{◌≤◌}
 use lib.ListN.{take, drop}
 use Rattle.rules.specs.Digits.{number}
-use Rattle.rules.specs.Record.{record_at}
+use Rattle.op_batch.specs.RecordAt.{recorded}
 use Rattle.rules.specs.Compare.{flags_set}
 use Rattle.comparison.proofs.paddings.Given as goal
 
 abbrev pub invariant-loop-g : goal.invariant-loop-g
-invariant-loop-g l = (l.left ≡ number 256 (drop l.g (record_at l.records l.b).flags)) × (l.n ≡ flags_set (take l.g (record_at l.records l.b).flags)) × (l.n ≤ l.g)
+invariant-loop-g l = (l.left ≡ number 256 (drop l.g (recorded l.batch).flags)) × (l.n ≡ flags_set (take l.g (recorded l.batch).flags)) × (l.n ≤ l.g)

@@ -16,5 +16,5 @@ pub returns : goal.returns
 unfolding one_record
 returns c =
     let a = c.args in
-    let e = c.op_idx_in_batch_to_group.ensures ∙ ap (λ (r : Record). lookup_of (group_lookup 8 r a.index)) c.load.ensures in
+    let e = c.op_idx_in_batch_to_group.ensures ∙ ap (λ (r : Record). lookup_of (group_lookup 8 r a.index)) c.load-batch.ensures in
     simp (eq-eqb _ _ c.if-run-ne-RECORD.false) (c.into.ensures ∙ (ap flat_group e ∙ cross_group (group_lookup 8 (record_at a.run.now 0) a.index)))

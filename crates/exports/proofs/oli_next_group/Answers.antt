@@ -16,5 +16,5 @@ pub returns : goal.returns
 unfolding one_record
 returns c =
     let a = c.args in
-    let e = c.next_op_group_index.ensures ∙ ap (λ (r : Record). next_of (next_lookup 8 r a.group)) c.load.ensures in
+    let e = c.next_op_group_index.ensures ∙ ap (λ (r : Record). next_of (next_lookup 8 r a.group)) c.load-batch.ensures in
     simp (eq-eqb _ _ c.if-run-ne-RECORD.false) (c.into.ensures ∙ (ap flat_next e ∙ cross_next (next_lookup 8 (record_at a.run.now 0) a.group)))

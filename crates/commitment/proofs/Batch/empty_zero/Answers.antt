@@ -9,14 +9,14 @@ returns-then-number-ne0 c =
     let l = c.loop-g in
     let k = c.args.self in
     let x = batch_lies k in
-    sym (empty_wrong k.table.now _ _ _ _ x l.g (omega (arith, c.count-g-end.ensures.0)) _ c.group-group.ensures (c.is_empty.ensures.0 c.if-not-is_empty.false) l.held (omega arith) (λ z. c.if-number-ne0.true (c.number.ensures ∙ z))) ∙ l.invariant ∙ empty_begin k.table.now _ _ _ _ x
+    sym (empty_wrong k.block.table.now _ _ _ _ x l.g (omega (arith, c.count-g-end.ensures.0)) _ c.group-group.ensures (c.is_empty.ensures.0 c.if-not-is_empty.false) l.held (omega arith) (λ z. c.if-number-ne0.true (c.number.ensures ∙ z))) ∙ l.invariant ∙ empty_begin k.block.table.now _ _ _ _ x
 
 pub loop-g-preserved : goal.loop-g-preserved
 loop-g-preserved c =
     let l = c.loop-g in
     let k = c.args.self in
     let x = batch_lies k in
-    let t = k.table.now in
+    let t = k.block.table.now in
     elim c.if-not-is_empty.branch [
       | then-not-is_empty w ↦
           empty_skip t _ _ _ _ x l.g (omega (arith, c.count-g-end.ensures.0)) _ c.group-group.ensures (full_group _ _ c.is_empty.ensures w.if-not-is_empty.true) l.held c.if-not-is_empty.held (w.held-is ∙ w.immediates-held.ensures.count) ∙ l.invariant
@@ -31,4 +31,4 @@ returns c =
     let l = c.loop-g in
     let k = c.args.self in
     let x = batch_lies k in
-    sym (empty_done k.table.now _ _ _ _ x l.g l.held (omega (arith, c.count-g-end.ensures.0))) ∙ l.invariant ∙ empty_begin k.table.now _ _ _ _ x
+    sym (empty_done k.block.table.now _ _ _ _ x l.g l.held (omega (arith, c.count-g-end.ensures.0))) ∙ l.invariant ∙ empty_begin k.block.table.now _ _ _ _ x

@@ -4,4 +4,4 @@ use Rattle.commitment.proofs.Groups.{groups_left}
 use Rattle.commitment.proofs.Batch.fault.Given as goal
 
 abbrev pub invariant-loop-g : goal.invariant-loop-g
-invariant-loop-g l = groups_left l.self.table.now (record_of l.self) (ops_of l.self) l.self.from l.g ≡ groups_left l.self.table.now (record_of l.self) (ops_of l.self) l.self.from 0
+invariant-loop-g l = groups_left l.self.block.table.now (record_of l.self) (ops_of l.self) l.self.from l.g ≡ groups_left l.self.block.table.now (record_of l.self) (ops_of l.self) l.self.from 0

@@ -12,6 +12,6 @@ invariant-loop-i l =
     record {
       low : l.j ≤ 8;
       same :
-          begins (drop l.j (record_of l.self).numbers) (immediates l.self.table.now (from_on l.group.codes.now l.group.values.now l.i))
-          ≡ begins (drop l.g (record_of l.self).numbers) (immediates l.self.table.now (ops_in l.group));
+          begins (drop l.j (record_of l.self).numbers) (immediates l.self.block.table.now (from_on l.group.codes.now l.group.values.now l.i))
+          ≡ begins (drop l.g (record_of l.self).numbers) (immediates l.self.block.table.now (ops_in l.group));
     }

@@ -13,5 +13,5 @@ invariant-loop-i l =
       unit : l.unit ≡ 128 ^ l.i;
       below : l.number < l.unit;
       number : l.number + l.unit * codes_number (from_on l.group.codes.now l.group.values.now l.i) ≡ codes_number (ops_in l.group);
-      slots : slots_after l.self.table.now (from_on l.group.codes.now l.group.values.now l.i) (record_of l.self).numbers l.next ≡ slots_after l.self.table.now (ops_in l.group) (record_of l.self).numbers l.g;
+      slots : slots_after l.self.block.table.now (from_on l.group.codes.now l.group.values.now l.i) (record_of l.self).numbers l.next ≡ slots_after l.self.block.table.now (ops_in l.group) (record_of l.self).numbers l.g;
     }

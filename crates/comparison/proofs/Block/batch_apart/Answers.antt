@@ -15,10 +15,10 @@ use Rattle.comparison.proofs.Blocks.{of_eight, starts_right_lem, sizes_bytes, fl
 use Rattle.comparison.proofs.Block.batch_apart.Goals as goal
 
 pub sizes-requires : goal.sizes-requires
-sizes-requires c = let x = c.requires.0 in (x.whole, starts_right_lem _ _ _ _ _ x)
+sizes-requires c = starts_right_lem _ _ _ _ _ c.requires.0
 
 pub sizes-requires-2 : goal.sizes-requires-2
-sizes-requires-2 c = let x = c.requires.1 in (x.whole, starts_right_lem _ _ _ _ _ x)
+sizes-requires-2 c = starts_right_lem _ _ _ _ _ c.requires.1
 
 pub returns : goal.returns
 unfolding apart_of
@@ -33,8 +33,8 @@ returns c =
     let l = of_eight _ _ _ _ _ p in
     let m = of_eight _ _ _ _ _ q in
     let number = numbers_found 8 r.numbers s.numbers _ (numbers_length x.records.now a.b) (numbers_length y.records.now a.b) c.numbers_apart.ensures in
-    let flag = bytes_found r.flags s.flags _ _ _ _ _ l.flags (flags_bytes _ _ _ _ _ p) m.flags (flags_bytes _ _ _ _ _ q) c.to_le_bytes.ensures c.flags.ensures c.to_le_bytes-2.ensures c.flags-2.ensures c.bytes_apart.ensures in
-    let size = bytes_found (differences r.starts) (differences s.starts) _ _ _ _ _ (sizes_bytes _ _ _ _ _ p).0 (sizes_bytes _ _ _ _ _ p).1 (sizes_bytes _ _ _ _ _ q).0 (sizes_bytes _ _ _ _ _ q).1 c.to_le_bytes-3.ensures c.sizes.ensures c.to_le_bytes-4.ensures c.sizes-2.ensures c.bytes_apart-2.ensures in
+    let flag = bytes_found r.flags s.flags _ _ _ l.flags (flags_bytes _ _ _ _ _ p) m.flags (flags_bytes _ _ _ _ _ q) c.flags.ensures c.flags-2.ensures c.byte_apart.ensures in
+    let size = bytes_found (differences r.starts) (differences s.starts) _ _ _ (sizes_bytes _ _ _ _ _ p).0 (sizes_bytes _ _ _ _ _ p).1 (sizes_bytes _ _ _ _ _ q).0 (sizes_bytes _ _ _ _ _ q).1 c.sizes.ensures c.sizes-2.ensures c.byte_apart-2.ensures in
     let n = c.min-both.ensures ∙ ap₂ min c.start.ensures.0 c.start-2.ensures.0 in
     let operation = ops_found _ a.from a.at x.codes.now x.values.now y.codes.now y.values.now _ (omega (arith, p.inside, n)) x.even (omega (arith, q.inside, n)) y.even c.ops_apart.ensures
     ∙ apart_take same_op 0 _ (ninth r) (ninth s) (drop a.from (operations x.codes.now x.values.now)) (drop a.at (operations y.codes.now y.values.now)) n in

@@ -11,7 +11,7 @@ pub loop-b-init : goal.loop-b-init
 loop-b-init c = let b = c.args.self.now in zero-add _ ∙ paddings_all b.codes.now b.values.now b.records.now
 
 pub paddings-flagged-requires : goal.paddings-flagged-requires
-paddings-flagged-requires c = (omega arith, fits_at _ _ _ (structured c.args.self.now.taken) c.loop-b.b c.loop-b-test.true)
+paddings-flagged-requires c = fits_at _ _ _ (structured c.args.self.now.taken) c.loop-b.b c.loop-b-test.true
 
 pub loop-b-preserved : goal.loop-b-preserved
 loop-b-preserved c =

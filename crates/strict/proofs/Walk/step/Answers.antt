@@ -12,8 +12,8 @@ add-requires c =
     let b = c.args.self.now in
     rw c.make_room-room.ensures (room_fits 8 (omega arith) b.records.now b.batches c.args.work _, c.requires.0)
 
-pub overflow_add-result-else-joins : goal.overflow_add-result-else-joins
-overflow_add-result-else-joins c =
+pub overflow_add-result-2 : goal.overflow_add-result-2
+overflow_add-result-2 c =
     let b = c.args.self.now in
     rw c.make_room-room.ensures (omega (arith, room_raw 8 (eqb (get_or b.table.now c.args.code 0) 1) b.records.now b.batches c.args.work, c.requires.1))
 
@@ -24,6 +24,6 @@ returns-then-joins c =
     let j = joins_says _ _ _ (sym c.joins.ensures ∙ c.if-joins.true) in
     rw (c.join.ensures, join_is c.args.code _ c.args.work.draft j.0) (joined_step b.records.now b.batches c.args.work c.args.code _ (join_fits 8 _ c.args.work.draft.acc j.0 j.1))
 
-pub returns-else-joins : goal.returns-else-joins
+pub returns : goal.returns
 unfolding fed stepped_work
-returns-else-joins c = rw (c.add.ensures, c.make_room-room.ensures)
+returns c = rw (c.add.ensures, c.make_room-room.ensures)

@@ -13,12 +13,12 @@ returns-in_err-table-clause-err c =
     let w = sym c.within.ensures ∙ c.if-not-within.false in
     let p = err_from_is_err_and c.from_residual.result c.from_residual.ensures.1 in
     let e = c.in_err-table.ensures.err in
-    rw (p.1, p.2, e.0) (encoded_14 _ _ _ _ _ _ w c.if-size-gt1048576.false e.1)
+    rw (p.1, p.2, e.0) (encoded_14 _ _ _ _ _ _ w c.if-size-gt-MOST_BYTES.false e.1)
 
 pub returns-then-size-at-clause-err : goal.returns-then-size-at-clause-err
 returns-then-size-at-clause-err c =
     let w = sym c.within.ensures ∙ c.if-not-within.false in
-    encoded_1 _ _ _ _ _ _ w c.if-size-gt1048576.false c.in_ok-table.ensures.ok.1 c.if-size-at.true
+    encoded_1 _ _ _ _ _ _ w c.if-size-gt-MOST_BYTES.false c.in_ok-table.ensures.ok.1 c.if-size-at.true
 
 pub structure_fault-requires : goal.structure_fault-requires
 structure_fault-requires c = (omega arith, equal_lengths _ _ _ (sym c.within.ensures ∙ c.if-not-within.false))
@@ -30,20 +30,20 @@ pub returns-in_err-structure_fault-clause-err : goal.returns-in_err-structure_fa
 returns-in_err-structure_fault-clause-err c =
     let w = sym c.within.ensures ∙ c.if-not-within.false in
     let p = err_from_is_err_and c.from_residual-in_err-structure_fault.result c.from_residual-in_err-structure_fault.ensures.1 in
-    rw (p.1, p.2) (encoded_15 _ _ _ _ _ _ w c.if-size-gt1048576.false c.in_ok-table.ensures.ok.1 c.if-size-at.false _ _ c.in_err-structure_fault.ensures)
+    rw (p.1, p.2) (encoded_15 _ _ _ _ _ _ w c.if-size-gt-MOST_BYTES.false c.in_ok-table.ensures.ok.1 c.if-size-at.false _ _ c.in_err-structure_fault.ensures)
 
 pub returns-in_err-first_fault-clause-err : goal.returns-in_err-first_fault-clause-err
 returns-in_err-first_fault-clause-err c =
     let w = sym c.within.ensures ∙ c.if-not-within.false in
     let p = err_from_is_err_and c.from_residual-in_err-first_fault.result c.from_residual-in_err-first_fault.ensures.1 in
     let t = c.in_ok-table.ensures.ok in
-    rw (p.1, p.2) (encoded_4 _ _ _ _ _ _ w c.if-size-gt1048576.false t.1 c.if-size-at.false c.in_ok-structure_fault.ensures _ _ (rw t.0 at c.in_err-first_fault.ensures))
+    rw (p.1, p.2) (encoded_4 _ _ _ _ _ _ w c.if-size-gt-MOST_BYTES.false t.1 c.if-size-at.false c.in_ok-structure_fault.ensures _ _ (rw t.0 at c.in_err-first_fault.ensures))
 
 pub invariant_of-result : goal.invariant_of-result
 invariant_of-result c =
     let w = sym c.within.ensures ∙ c.if-not-within.false in
     let t = c.in_ok-table.ensures.ok in
-    let s = c.if-size-gt1048576.false in
+    let s = c.if-size-gt-MOST_BYTES.false in
     let i = c.if-size-at.false in
     let e = c.in_ok-structure_fault.ensures in
     let f = rw t.0 at c.in_ok-first_fault.ensures in
@@ -58,4 +58,4 @@ pub returns-clause-ok : goal.returns-clause-ok
 returns-clause-ok c =
     let w = sym c.within.ensures ∙ c.if-not-within.false in
     let t = c.in_ok-table.ensures.ok in
-    (c.if-size-at.false, rw t.0 (encoded_left _ _ _ _ _ _ w c.if-size-gt1048576.false t.1 c.if-size-at.false c.in_ok-structure_fault.ensures (rw t.0 at c.in_ok-first_fault.ensures)))
+    (c.if-size-at.false, rw t.0 (encoded_left _ _ _ _ _ _ w c.if-size-gt-MOST_BYTES.false t.1 c.if-size-at.false c.in_ok-structure_fault.ensures (rw t.0 at c.in_ok-first_fault.ensures)))

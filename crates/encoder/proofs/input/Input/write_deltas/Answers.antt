@@ -10,7 +10,7 @@ pub loop-b-init : goal.loop-b-init
 loop-b-init c = rw (add-zero, c.batches-n.ensures, all_records)
 
 pub pack_indptr_deltas-requires : goal.pack_indptr_deltas-requires
-pack_indptr_deltas-requires c = (omega arith, right_starts _ (record { width = 8; room = omega arith; right = c.args.self.right c.loop-b.b (omega arith) }))
+pack_indptr_deltas-requires c = right_starts _ (record { width = 8; room = omega arith; right = c.args.self.right c.loop-b.b (omega arith) })
 
 pub loop-b-preserved : goal.loop-b-preserved
 loop-b-preserved c =

@@ -10,7 +10,7 @@ pub loop-b-init : goal.loop-b-init
 loop-b-init c = rw (add-zero, c.batches-b-end.ensures, all_records)
 
 pub pack_padding-requires : goal.pack_padding-requires
-pack_padding-requires c = (omega arith, right_flags _ (record { width = 8; room = omega arith; right = c.args.self.right c.loop-b.b (omega arith) }))
+pack_padding-requires c = right_flags _ (record { width = 8; room = omega arith; right = c.args.self.right c.loop-b.b (omega arith) })
 
 pub loop-b-preserved : goal.loop-b-preserved
 loop-b-preserved c =

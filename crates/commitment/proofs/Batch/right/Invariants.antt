@@ -1,7 +1,0 @@
-use Prim.Native.Nat.{◌≤◌}
-use Rattle.commitment.specs.View.{record_of}
-use Rattle.commitment.proofs.Owed.{Gone}
-use Rattle.commitment.proofs.Batch.right.Given as goal
-
-abbrev pub invariant-loop-g : goal.invariant-loop-g
-invariant-loop-g l = record { held : l.held ≤ l.count; gone : Gone l.self.table.now (record_of l.self) l.self.codes.now l.self.values.now l.self.from l.held l.g }

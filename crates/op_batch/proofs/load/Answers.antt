@@ -1,6 +1,0 @@
-use Rattle.rules.specs.Record.{record_at}
-use Rattle.op_batch.proofs.load.Goals as goal
-
-pub returns : goal.returns
-unfolding record_at
-returns c = rw (c.load_bytes.ensures, c.load_bytes-2.ensures, c.load_words.ensures)

@@ -1,9 +1,0 @@
-use Rattle.std.proofs.Common.{◌+◌, ◌*◌, ◌∙◌, sym, arith}
-use Rattle.rules.specs.Record.{record_size}
-use Rattle.op_batch.proofs.Right.{start_at}
-use Rattle.op_batch.proofs.start.Goals as goal
-
-pub returns : goal.returns
-returns c =
-    let a = c.args in
-    (c.from.ensures ∙ sym (start_at a.records.now a.b a.g (omega arith)), omega (arith, c.type_inv.records (record_size * a.b + a.g)))
