@@ -5,3 +5,4 @@ pub mod Lookups
 pub mod OneAnswer
 pub mod FromContracts
 pub mod Compare
+pub mod Refusals
