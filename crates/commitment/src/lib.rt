@@ -318,6 +318,7 @@ impl<'a> Block<'a> {
 // ---- the check
 
 // Commitment: refusals 3, 14, 15, 4 or 17 (M-101), then batch by batch 16, 8 or 9. Where not all is right, slower walks say what goes first.
+// The runs come one by one, as the C interface lends them.
 pub fn commitment(table: &[u8], codes: &[u8], values: &[u64], records: &[u8]) -> Result<(), Refusal>
     ensures { told result ≡ commitment_checked 8 table.now (arena codes.now values.now records.now) }
 {

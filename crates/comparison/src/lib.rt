@@ -385,6 +385,7 @@ impl Block<'_> {
 
 // How the block in `second` from `second_at` on differs from the one in `first` from `first_at` on, each with its table and its working room. The rooms
 // end zeroed. The report has the entries, then zeros; zeros alone where a block is refused or the report is too short.
+// The runs come one by one, as the C interface lends them.
 pub fn compare(
     first_table: &[u8],
     first: &[u8],

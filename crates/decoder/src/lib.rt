@@ -217,6 +217,7 @@ pub fn clear_after(
 }
 
 // The block in `s` from `at` on, into lent runs for opcodes, values and records: content, then zeros; zeros alone where it is refused.
+// The runs come one by one, as the C interface lends them.
 pub fn decode(
     table: &[u8],
     s: &[u8],

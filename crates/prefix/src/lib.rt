@@ -136,6 +136,7 @@ fn fill(records: &[u8], which: Prefix, out: &mut [u64]) -> usize
 }
 
 // Either table, for callers that tell them apart by a value: how many entries it has.
+// The runs come one by one, as the C interface lends them.
 pub fn table(
     codes: &[u8],
     values: &[u64],

@@ -331,6 +331,7 @@ impl Walk<'_> {
 
 // The block in `s` from `at` on, if it is finished, into lent runs for opcodes, values and records: content, then zeros; zeros alone where it is refused.
 // The contract is decode's with another definition (crates/decoder/specs/Replies.antt).
+// The runs come one by one, as the C interface lends them.
 pub fn decode_strict(
     table: &[u8],
     s: &[u8],
