@@ -1,9 +1,16 @@
--- What the answer of one fault says of it. Assumes nothing.
-use mathlib.Core.Path.{◌≡◌, refl}
-use Prim.Native.Nat.{ℕ, zero, suc}
+-- What the answer of one fault says of it; and which kind is unassigned. Assumes nothing.
+use mathlib.Core.Path.{◌≡◌, refl, sym, ap, ◌∙◌}
+use Prim.Native.Nat.{ℕ, zero, suc, ◌≤◌}
 use native.Mathlib.Omega.{arith}
+use lib.Dec.{ltb}
+use borrow.Author.Tests.{le-ltb}
+use mathlib.Core.Bool.{Bool, not}
+use denote.Enum.Bare.{sameb}
+use Rattle.operation.specs.contracts.Kind.{the_type}
+use Rattle.operation.specs.declared.Kind.{Kind}
+use Rattle.operation.specs.declared.Kind.TheVariants.{Unassigned}
 use Rattle.rules.specs.Answer.{Answer, good, refused}
-use Rattle.operation.specs.Verdict.{one_fault}
+use Rattle.operation.specs.Verdict.{one_fault, kind_named}
 
 pub faultless : (n p : ℕ) → good tt ≡ one_fault n p → n ≡ 0
 faultless zero p e = refl
@@ -18,3 +25,13 @@ pub record Faulted (n p m q : ℕ) : Type 0 where
 pub faulted : (n p m q : ℕ) → ◌≡◌ {A = Answer Unit} (refused m q) (one_fault n p) → Faulted n p m q
 faulted zero p m q e = cc
 faulted (suc n) p m q e = record { number = cc; place = cc; some = λ h. omega arith }
+
+-- what the test for it says of a kind's number
+pub assigned_by : (k : ℕ) (kind : Kind) (b : Bool) → kind ≡ kind_named k → b ≡ sameb the_type kind Unassigned → ltb k 3 ≡ not b
+assigned_by k kind b n e = go k ∙ ap not (sym (e ∙ ap (λ (x : Kind). sameb the_type x Unassigned) n))
+  where
+    go : (k : ℕ) → ltb k 3 ≡ not (sameb the_type (kind_named k) Unassigned)
+    go zero = refl
+    go (suc zero) = refl
+    go (suc (suc zero)) = refl
+    go (suc (suc (suc k))) = let h : 3 ≤ suc (suc (suc k)) = omega arith in le-ltb _ _ h

@@ -1,7 +1,9 @@
--- An operation by its two numbers, and what a fault answers.
+-- An operation by its two numbers, what a fault answers, and a kind by its number.
 use Rattle.std.specs.Prelude.{ℕ, zero, suc}
 use Rattle.rules.specs.Answer.{Answer, good, refused}
 use Rattle.rules.specs.Operations.{Op}
+use Rattle.operation.specs.declared.Kind.{Kind}
+use Rattle.operation.specs.declared.Kind.TheVariants.{Plain, Placed, Carried, Unassigned}
 
 abbrev pub op : ℕ → ℕ → Op
 op c v = record { code = c; value = v }
@@ -10,3 +12,10 @@ op c v = record { code = c; value = v }
 abbrev pub one_fault : ℕ → ℕ → Answer Unit
 one_fault zero p = good tt
 one_fault (suc n) p = refused (suc n) p
+
+-- "0 no value; 1 an immediate, placed in a group; 2 a value carried but never placed; 3 unassigned"
+abbrev pub kind_named : ℕ → Kind
+kind_named zero = Plain
+kind_named (suc zero) = Placed
+kind_named (suc (suc zero)) = Carried
+kind_named (suc (suc (suc n))) = Unassigned

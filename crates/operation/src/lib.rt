@@ -1,12 +1,12 @@
 // Operations and their table (document 01, "Operations and their table").
 #![tactic(auto)]
 
-ghost use Rattle.std.specs.Prelude.{◌≡◌, true, false, IfOk, IfErr, cond, not, ◌&&◌, map, ℕ, length, leb, ltb, eqb};
+ghost use Rattle.std.specs.Prelude.{◌≡◌, true, false, IfOk, IfErr, cond, not, ◌&&◌, map, ℕ, ◌<◌, length, leb, ltb, eqb};
 ghost use Rattle.rules.specs.Lists.{every};
 ghost use Rattle.rules.specs.Answer.{good, refuse_first};
-ghost use Rattle.rules.specs.Operations.{operations, good_table, field, op_fault};
+ghost use Rattle.rules.specs.Operations.{operations, kind_of, good_table, field, op_fault};
 ghost use Rattle.refusal.specs.Told.{told};
-ghost use Rattle.operation.specs.Verdict.{op, one_fault};
+ghost use Rattle.operation.specs.Verdict.{op, one_fault, kind_named};
 
 use refusal::Refusal;
 
@@ -14,6 +14,44 @@ use refusal::Refusal;
 pub const FIELD: u64 = 18446744069414584321;
 
 // ---- the table
+
+// What an operation has beside its opcode: nothing, a value that is placed in a group, or one that is carried and never placed.
+#[derive(Clone, Copy, Debug, PartialEq, Eq)]
+pub enum Kind {
+    Plain,
+    Placed,
+    Carried,
+    Unassigned,
+}
+
+impl From<u8> for Kind {
+    ghost from_gives = { λ n kind. kind ≡ kind_named n };
+
+    fn from(number: u8) -> Kind {
+        match number {
+            0 => Kind::Plain,
+            1 => Kind::Placed,
+            2 => Kind::Carried,
+            _ => Kind::Unassigned,
+        }
+    }
+}
+
+// Whether an opcode has a value.
+pub fn has_value(table: &[u8; 128], code: u8) -> bool
+    requires { code < 128 }
+    ensures { result ≡ not (eqb (kind_of table.now code) 0) }
+{
+    Kind::from(table[code as usize]) != Kind::Plain
+}
+
+// Whether an opcode has a value that is placed in a group.
+pub fn has_immediate(table: &[u8], code: u8) -> bool
+    requires { code < length table.now }
+    ensures { result ≡ eqb (kind_of table.now code) 1 }
+{
+    Kind::from(table[code as usize]) == Kind::Placed
+}
 
 // Only kinds 0 to 3: all are looked at, whatever the first ones say, so that the machine can look at them abreast.
 fn kinds_right(table: &[u8; 128]) -> bool
@@ -57,7 +95,10 @@ pub fn checked(table: &[u8]) -> Result<&[u8; 128], Refusal>
 pub fn value_right(kind: u8, v: u64) -> bool
     ensures { result ≡ cond (not (eqb kind 0)) (ltb v field) (eqb v 0) }
 {
-    if kind == 0 { v == 0 } else { v < FIELD }
+    match Kind::from(kind) {
+        Kind::Plain => v == 0,
+        Kind::Placed | Kind::Carried | Kind::Unassigned => v < FIELD,
+    }
 }
 
 // Whether the i-th operation is admissible; its opcode is looked at first.
@@ -68,7 +109,7 @@ pub fn fault(table: &[u8; 128], code: u8, v: u64, i: usize) -> Result<(), Refusa
         return Err(Refusal::Unassigned { operation: i });
     }
     let kind = table[code as usize];
-    if 3 <= kind {
+    if Kind::from(kind) == Kind::Unassigned {
         return Err(Refusal::Unassigned { operation: i });
     }
     if value_right(kind, v) {
