@@ -65,27 +65,6 @@ one_told (Err r) (Err s) e =
     let p : place_of r ≡ place_of s = cc in
     ap (λ (x : Refusal). Err x) (one_refusal r s h p)
 
--- a refusal's number is none of no fault
-pub is_fault : (r : Refusal) → number_of r ≡ 0 → ⊥
-is_fault PastEnd e = omega arith
-is_fault (CutShort at) e = omega arith
-is_fault OverLimit e = omega arith
-is_fault (Unassigned i) e = omega arith
-is_fault TooManyBatches e = omega arith
-is_fault (BadNibble b) e = omega arith
-is_fault (PastOperations b) e = omega arith
-is_fault (NoSlot b) e = omega arith
-is_fault (SlotTaken b) e = omega arith
-is_fault (BadPadding b) e = omega arith
-is_fault LeftOver e = omega arith
-is_fault EmptyList e = omega arith
-is_fault NoRoom e = omega arith
-is_fault BadTable e = omega arith
-is_fault (BadStructure b) e = omega arith
-is_fault (BadCommitment b) e = omega arith
-is_fault (BadValue i) e = omega arith
-is_fault (Unfinished b) e = omega arith
-
 -- what is left where `?` hands a refusal on
 pub handed : {A : Type 0} (r : Result A Refusal) (e : Refusal) → IsErrAnd r (λ y. y ≡ e) → told r ≡ refused (number_of e) (place_of e)
 handed (Ok a) e h = absurd h

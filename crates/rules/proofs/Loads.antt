@@ -3,13 +3,11 @@ use mathlib.Core.Path.{◌≡◌, sym, ap, ap₂, ◌∙◌}
 use mathlib.Core.List.{List}
 use Prim.Native.Nat.{ℕ, suc, ◌+◌, ◌-◌, ◌*◌, ◌≤◌, ◌<◌, zero}
 use native.Mathlib.Omega.{arith}
-use lib.ListN.{length, get_or, set, replicate, length-replicate, drop, drop_of_length-le}
+use lib.ListN.{length, get_or, set, drop, drop_of_length-le}
 use lib.Seq.{sets, drop-cons}
 use Rattle.rules.specs.Digits.{le_at, le_bytes}
 use Rattle.rules.specs.Record.{bytes_at, words_at, word_bytes}
 use Rattle.rules.proofs.Digits.{length_le_bytes, sets_append}
-use Rattle.rules.proofs.Sizes.{length_bytes_at, length_words_at}
-use Rattle.rules.proofs.Runs.{sets_all}
 use native.Mathlib.Numerals.{add-one}
 use native.Mathlib.Nat.{add-zero}
 use Rattle.rules.specs.Lists.{in_row}
@@ -30,24 +28,6 @@ word (suc k) s at zero h = rw (add-zero at)
 word (suc k) s at (suc i) h = word k s (at + 8) i (omega arith) ∙ ap (le_at 8 s) (omega arith)
 
 -- ---- loops that read
-
-pub bytes_start : (n : ℕ) (s : List ℕ) (at : ℕ) → sets (replicate n 0) 0 (bytes_at n s at) ≡ bytes_at n s at
-bytes_start n s at = sets_all (replicate n 0) (bytes_at n s at) (length_bytes_at n s at ∙ sym (length-replicate {A = ℕ} n 0))
-
-pub words_start : (n : ℕ) (s : List ℕ) (at : ℕ) → sets (replicate n 0) 0 (words_at n s at) ≡ words_at n s at
-words_start n s at = sets_all (replicate n 0) (words_at n s at) (length_words_at n s at ∙ sym (length-replicate {A = ℕ} n 0))
-
-pub bytes_turn : (d s : List ℕ) (n at i : ℕ) → i < n → sets (set d i (get_or s (at + i) 0)) (i + 1) (bytes_at (n - (i + 1)) s (at + (i + 1))) ≡ sets d i (bytes_at (n - i) s (at + i))
-unfolding bytes_at
-bytes_turn d s n at i h =
-    let e : n - i ≡ suc (n - (i + 1)) = omega arith in
-    let f : i + 1 ≡ suc i = omega arith in
-    let g : at + (i + 1) ≡ at + i + 1 = omega arith in
-    ap₂ (λ (j k : ℕ). sets (set d i (get_or s (at + i) 0)) j (bytes_at (n - (i + 1)) s k)) f g ∙ sym (ap (λ (k : ℕ). sets d i (bytes_at k s (at + i))) e)
-
-pub bytes_end : (d s : List ℕ) (n i k j : ℕ) → n ≤ i → sets d k (bytes_at (n - i) s j) ≡ d
-unfolding bytes_at
-bytes_end d s n i k j h = let e : n - i ≡ 0 = omega arith in rw e
 
 pub words_turn : (d s : List ℕ) (n at i : ℕ) → i < n → sets (set d i (le_at 8 s (at + 8 * i))) (i + 1) (words_at (n - (i + 1)) s (at + 8 * (i + 1))) ≡ sets d i (words_at (n - i) s (at + 8 * i))
 unfolding words_at

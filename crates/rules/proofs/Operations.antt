@@ -31,12 +31,6 @@ true_right false b h = let y : ◌≡◌ {A = ℕ} 0 1 = cc in absurd (omega ari
 pub true_both : (a b : Bool) → a ≡ true → b ≡ true → (a && b) ≡ true
 true_both a b h k = rw (h, k)
 
--- tests that go on whatever they find: the next one, and the end
-pub swap : (a b c : Bool) → ((a && b) && c) ≡ (b && (a && c))
-swap true b c = refl
-swap false true c = refl
-swap false false c = refl
-
 pub none_left : (a : Bool) → a ≡ (a && true)
 none_left true = refl
 none_left false = refl

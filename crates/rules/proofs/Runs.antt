@@ -5,7 +5,7 @@ use Prim.Native.Nat.{ℕ, zero, suc, ◌+◌, ◌-◌, ◌/◌, ◌%◌, ◌≤�
 use native.Mathlib.Nat.{add-suc, zero-add, suc-add, not-suc-le-zero, le_of_suc-le-suc}
 use native.Mathlib.Omega.{arith}
 use lib.ListN.{length, take, set, replicate, length-set, drop_of_length-le}
-use lib.Seq.{sets, sets-eq, set-append_left, append_snoc}
+use lib.Seq.{sets, sets-eq, set-append_left}
 use Rattle.rules.specs.Digits.{digits, le_bytes}
 use Rattle.rules.specs.Lists.{fitted}
 use Rattle.rules.proofs.Digits.{sets_append}
@@ -43,46 +43,11 @@ unfolding fitted
 zeros_fitted zero = refl
 zeros_fitted (suc n) = ap (λ (l : List ℕ). 0 ∷ l) (zeros_fitted n)
 
-pub length_snoc : (xs : List ℕ) (v : ℕ) → length (xs ++ (v ∷ [])) ≡ suc (length xs)
-length_snoc [] v = refl
-length_snoc (x ∷ xs) v = ap suc (length_snoc xs v)
-
-pub fitted_sets : (n : ℕ) (xs vs : List ℕ) → sets (fitted n xs) (length xs) vs ≡ fitted n (xs ++ vs)
-fitted_sets n xs [] = ap (fitted n) (sym (append-nil xs))
-fitted_sets n xs (v ∷ vs) =
-    ap₂ (λ (l : List ℕ) (k : ℕ). sets l k vs) (fitted_set n xs v) (sym (length_snoc xs v))
-    ∙ fitted_sets n (xs ++ (v ∷ [])) vs
-    ∙ ap (fitted n) (append_snoc xs v vs)
-
--- zeros from a place on, one more at each turn
-pub zero_turn : (xs : List ℕ) (i : ℕ) → fitted (length (set xs i 0)) (take (suc i) (set xs i 0)) ≡ fitted (length xs) (take i xs)
-unfolding fitted
-zero_turn [] zero = refl
-zero_turn [] (suc i) = refl
-zero_turn (x ∷ xs) zero = refl
-zero_turn (x ∷ xs) (suc i) = ap (λ (r : List ℕ). x ∷ r) (zero_turn xs i)
-
-pub zero_end : (xs : List ℕ) (i : ℕ) → length xs ≤ i → fitted (length xs) (take i xs) ≡ xs
-unfolding fitted
-zero_end [] zero h = refl
-zero_end [] (suc i) h = refl
-zero_end (x ∷ xs) zero h = absurd (not-suc-le-zero h)
-zero_end (x ∷ xs) (suc i) h = ap (λ (r : List ℕ). x ∷ r) (zero_end xs i (le_of_suc-le-suc h))
-
 -- a run that begins with xs, zeroed from xs's end on
 pub zeroed : (e d xs : List ℕ) (k : ℕ) → length d ≡ length e → take (length xs) d ≡ xs → k ≡ length xs → fitted (length d) (take k d) ≡ fitted (length e) xs
 zeroed e d xs k h t n = rw (n, h, t)
 
--- loops that store element by element: copies of one value, and the bytes of a number
-pub fill_turn : (d : List ℕ) (at i n v : ℕ) → i < n → sets (set d (at + i) v) (at + (i + 1)) (replicate (n - (i + 1)) v) ≡ sets d (at + i) (replicate (n - i) v)
-fill_turn d at i n v h =
-    let e : n - i ≡ suc (n - (i + 1)) = omega arith in
-    let f : at + (i + 1) ≡ suc (at + i) = omega arith in
-    ap (λ (k : ℕ). sets (set d (at + i) v) k (replicate (n - (i + 1)) v)) f ∙ sym (ap (λ (k : ℕ). sets d (at + i) (replicate k v)) e)
-
-pub fill_end : (d : List ℕ) (k i n v : ℕ) → n ≤ i → sets d k (replicate (n - i) v) ≡ d
-fill_end d k i n v h = let e : n - i ≡ 0 = omega arith in rw e
-
+-- a number stored byte by byte
 pub bytes_turn : (d : List ℕ) (at i n v : ℕ) → i < n → sets (set d (at + i) (v % 256)) (at + (i + 1)) (le_bytes (n - (i + 1)) (v / 256)) ≡ sets d (at + i) (le_bytes (n - i) v)
 unfolding digits
 bytes_turn d at i n v h =

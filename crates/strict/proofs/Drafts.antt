@@ -164,6 +164,3 @@ pub joined_fine : {w : ℕ} (c : ℕ) (imm : Bool) (d : Draft) → Fine w d → 
 joined_fine c imm d f k h l = rw (slots_joined c imm d, join_is c imm d h) (added_fine imm d f (join_fits _ imm d.acc h l) c k)
 
 -- ---- the first
-
-pub new_fine : (w : ℕ) → 2 ≤ w → Fine w new_draft
-new_fine w h = record { good = new_good w h; sizes = omega arith; flags = omega arith }

@@ -110,8 +110,3 @@ module _ {A : Type 0} where
 
   pub onto_found : (xs : List A) (next : ℕ) → onto xs (found [] next) ≡ found xs next
   onto_found xs next = rw append-nil
-
-  -- where only their number is wanted
-  pub more_then : (b : ℕ) (x : A) (r : Read (List A)) → counted (λ (l : List A). b + length l) (r then λ l end. found (x ∷ l) end) ≡ counted (λ (l : List A). b + 1 + length l) r
-  more_then b x (good i) = let e : b + suc (length i.item) ≡ b + 1 + length i.item = omega arith in rw e
-  more_then b x (refused n p) = refl
