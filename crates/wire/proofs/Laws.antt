@@ -7,23 +7,23 @@ use native.Mathlib.Omega.{arith}
 use borrow.Author.Tests.{le-leb, lt-leb, lt-ltb, ne_eqb}
 use lib.ListN.{length, get_or}
 use Rattle.rules.specs.Lists.{every}
-use lib.Dec.{ltb}
+use lib.Dec.{ltb, eqb}
 use Rattle.rules.specs.Answer.{found, refuse}
 use Rattle.rules.specs.Digits.{le_bytes, le_at}
-use Rattle.rules.specs.Operations.{assigned, valued, field}
+use Rattle.rules.specs.Operations.{kind_of, assigned, valued, field}
 use Rattle.rules.specs.Bytes.{op_at, value_at, op_bytes, up_to}
 use Rattle.rules.proofs.Operations.{op, kind_at, op_guards, value_guards, value_tested}
 
 -- ---- the bytes of an operation, by its kind
 
-module _ (t : List ℕ) (c v : ℕ) (h : c < length t) where
-  pub op_plain : get_or t c 0 ≡ 0 → op_bytes t (op c v) ≡ c ∷ []
+module _ (t : List ℕ) (c v : ℕ) where
+  pub op_plain : not (eqb (kind_of t c) 0) ≡ false → op_bytes t (op c v) ≡ c ∷ []
   unfolding op_bytes valued
-  op_plain e = rw (kind_at t c h, e)
+  op_plain e = rw e
 
-  pub op_valued : (get_or t c 0 ≡ 0 → ⊥) → op_bytes t (op c v) ≡ c ∷ le_bytes 8 v
+  pub op_valued : not (eqb (kind_of t c) 0) ≡ true → op_bytes t (op c v) ≡ c ∷ le_bytes 8 v
   unfolding op_bytes valued
-  op_valued e = rw (kind_at t c h, ne_eqb (get_or t c 0) 0 e)
+  op_valued e = rw e
 
 -- ---- an operation at a place, its opcode assigned
 

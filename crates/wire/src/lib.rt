@@ -1,14 +1,37 @@
 // The items of a block's bytes (document 01, "Block bytes"): count, operation and batch count, each read and written, and the test of nibbles.
 #![tactic(auto)]
 
-ghost use Rattle.std.specs.Prelude.{◌≡◌, true, ◌+◌, ◌/◌, ◌^◌, ◌≤◌, ◌<◌, length};
+ghost use Rattle.std.specs.Prelude.{◌≡◌, true, IfOk, ◌+◌, ◌/◌, ◌^◌, ◌≤◌, ◌<◌, length};
 ghost use Rattle.std.proofs.lemmas.List.Edits.{sets};
 ghost use Rattle.rules.specs.Digits.{digits, number, le_at};
 ghost use Rattle.rules.specs.Bytes.{count_at, least, more, count_bytes, op_at, op_bytes, batch_count_at, up_to};
+ghost use Rattle.rules.specs.Operations.{good_table};
+ghost use Rattle.refusal.specs.Told.{told_by};
 ghost use Rattle.operation.specs.Verdict.{op};
 ghost use Rattle.wire.specs.Replies.{count_told, op_told};
+ghost use Rattle.wire.specs.Opened.{opened};
 
+use operation::Kind;
 use refusal::Refusal;
+
+// The most bytes that a block is read from or written to.
+pub const MOST_BYTES: usize = 1048576;
+
+// What is looked at before a block is read or written: 3, 14 and 1, for so many bytes and a place to begin at. The table comes back as one of 128 kinds.
+pub fn opened(table: &[u8], size: usize, at: usize) -> Result<&[u8; 128], Refusal>
+    ensures kinds { IfOk result (λ kinds. (kinds.now ≡ table.now) × (good_table table.now ≡ true)) }
+    ensures bounds { IfOk result (λ kinds. (size ≤ 1048576) × (at ≤ size)) }
+    ensures answer { told_by (λ kinds. tt) result ≡ opened table.now size at }
+{
+    if MOST_BYTES < size {
+        return Err(Refusal::OverLimit);
+    }
+    let table = operation::checked(table)?;
+    if size < at {
+        return Err(Refusal::PastEnd);
+    }
+    Ok(table)
+}
 
 // What was read, and the place after it.
 #[derive(Clone, Copy, Debug, PartialEq, Eq)]
@@ -122,15 +145,15 @@ pub fn read_op(table: &[u8; 128], s: &[u8], at: usize, i: usize) -> Result<Item<
     if 128 <= code {
         return Err(Refusal::Unassigned { operation: i });
     }
-    let kind = table[code as usize];
-    if 3 <= kind {
-        return Err(Refusal::Unassigned { operation: i });
-    }
-    if kind == 0 {
-        return Ok(Item {
-            item: Op { code, value: 0 },
-            next: at + 1,
-        });
+    match Kind::from(table[code as usize]) {
+        Kind::Unassigned => return Err(Refusal::Unassigned { operation: i }),
+        Kind::Plain => {
+            return Ok(Item {
+                item: Op { code, value: 0 },
+                next: at + 1,
+            });
+        }
+        Kind::Placed | Kind::Carried => {}
     }
     if s.len() - at < 9 {
         return Err(Refusal::CutShort { byte: at });
@@ -151,7 +174,7 @@ pub fn write_op(table: &[u8; 128], out: &mut [u8], at: usize, code: u8, v: u64) 
     ensures { (result ≡ at + length (op_bytes table.now (op code v))) × (out.new ≡ sets out.old at (op_bytes table.now (op code v))) }
 {
     out[at] = code;
-    if table[code as usize] == 0 {
+    if !operation::has_value(table, code) {
         return at + 1;
     }
     word::put::<8>(out, at + 1, v);

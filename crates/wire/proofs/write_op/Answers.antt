@@ -1,4 +1,4 @@
-use mathlib.Core.Path.{refl, ap, ◌∙◌}
+use mathlib.Core.Path.{refl, sym, ap, ◌∙◌}
 use native.Mathlib.Numerals.{add-one}
 use native.Mathlib.Omega.{arith}
 use lib.ListN.{length, length-set}
@@ -12,16 +12,16 @@ pub bounds-out-at : goal.bounds-out-at
 unfolding op_bytes
 bounds-out-at c = omega arith
 
-pub returns-then-table-code-eq0 : goal.returns-then-table-code-eq0
-returns-then-table-code-eq0 c =
+pub returns-then-not-has_value : goal.returns-then-not-has_value
+returns-then-not-has_value c =
     let a = c.args in
-    rw (op_plain a.table.now a.code a.v (omega arith) c.if-table-code-eq0.true) (refl, refl)
+    rw (op_plain a.table.now a.code a.v (sym c.has_value.ensures ∙ c.if-not-has_value.true)) (refl, refl)
 
 pub put-requires : goal.put-requires
 unfolding digits
 put-requires c =
     let a = c.args in
-    simp length-set (omega (arith, ap length (op_valued a.table.now a.code a.v (omega arith) c.if-table-code-eq0.false)))
+    simp length-set (omega (arith, ap length (op_valued a.table.now a.code a.v (sym c.has_value.ensures ∙ c.if-not-has_value.false))))
 
 pub shape_of-out : goal.shape_of-out
 shape_of-out c =
@@ -31,5 +31,5 @@ shape_of-out c =
 pub returns : goal.returns
 returns c =
     let a = c.args in
-    rw (op_valued a.table.now a.code a.v (omega arith) (omega arith))
+    rw (op_valued a.table.now a.code a.v (sym c.has_value.ensures ∙ c.if-not-has_value.false))
     (rw length_le_bytes (omega arith), c.put.ensures ∙ rw add-one)
