@@ -191,13 +191,7 @@ fn decode_checked(
     requires { width ≡ 8 }
     ensures { Reading at (decoded width table.now s.now at (room_in (arena out_codes.old out_values.old records.old))) (arena out_codes.new out_values.new records.new) result }
 {
-    if 1048576 < s.len() {
-        return Err(Refusal::OverLimit);
-    }
-    let table = operation::checked(table)?;
-    if s.len() < at {
-        return Err(Refusal::PastEnd);
-    }
+    let table = wire::opened(table, s.len(), at)?;
     decode_block(width, table, s, at, out_codes, out_values, records)
 }
 

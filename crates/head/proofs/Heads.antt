@@ -89,23 +89,3 @@ module _ (t s : List ℕ) (at : ℕ) where
       pub head_good : (k a₃ : ℕ) → batch_count_at s a₂ ≡ found k a₃ → head_at t s at most ≡ found (record { ops = xs; batches = k }) a₃
       unfolding head_at
       head_good k a₃ g = rw (e, few, f, g, le-ltb 16384 k (held _ (batch_count_at s a₂) k a₃ g (few_batches s a₂)))
-
--- ---- what is looked at first
-
-module _ (t s : List ℕ) (at : ℕ) where
-  pub headed_3 : 1048576 < length s → headed t s at ≡ refused over_limit₃ 0
-  unfolding headed
-  headed_3 h = rw (lt-ltb 1048576 (length s) h)
-
-  module _ (h : length s ≤ 1048576) where
-    pub headed_14 : good_table t ≡ false → headed t s at ≡ refused bad_table₁₄ 0
-    unfolding headed
-    headed_14 g = rw (le-ltb 1048576 (length s) h, g)
-
-    pub headed_1 : good_table t ≡ true → length s < at → headed t s at ≡ refused past_end₁ 0
-    unfolding headed
-    headed_1 g l = rw (le-ltb 1048576 (length s) h, g, lt-ltb (length s) at l)
-
-    pub headed_head : good_table t ≡ true → at ≤ length s → headed t s at ≡ head_at t s at most
-    unfolding headed
-    headed_head g l = rw (le-ltb 1048576 (length s) h, g, le-ltb (length s) at l)

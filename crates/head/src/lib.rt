@@ -11,8 +11,6 @@ ghost use Rattle.head.specs.Replies.{head_of};
 
 use refusal::Refusal;
 
-const MOST_BYTES: usize = 1048576;
-
 // How many padded operations and batches the block has, and the place after its head.
 #[derive(Clone, Copy, Debug, PartialEq, Eq)]
 pub struct Headed {
@@ -51,12 +49,6 @@ fn read_head(table: &[u8; 128], s: &[u8], at: usize) -> Result<Headed, Refusal>
 pub fn head(table: &[u8], s: &[u8], at: usize) -> Result<Headed, Refusal>
     ensures { told result ≡ head_of (headed table.now s.now at) }
 {
-    if MOST_BYTES < s.len() {
-        return Err(Refusal::OverLimit);
-    }
-    let table = operation::checked(table)?;
-    if s.len() < at {
-        return Err(Refusal::PastEnd);
-    }
+    let table = wire::opened(table, s.len(), at)?;
     read_head(table, s, at)
 }

@@ -8,8 +8,6 @@ ghost use Rattle.wire.specs.Replies.{count_told, op_told};
 use refusal::Refusal;
 use wire::{Item, Op};
 
-const MOST_BYTES: usize = 1048576;
-
 #[derive(Clone, Copy)]
 pub struct Reader<'a> {
     pub src: &'a [u8],
@@ -21,7 +19,7 @@ impl<'a> Reader<'a> {
     pub fn count(self) -> Result<Item<u64>, Refusal>
         ensures { count_told result ≡ count_here self.entry.src.now self.entry.at }
     {
-        if MOST_BYTES < self.src.len() {
+        if wire::MOST_BYTES < self.src.len() {
             return Err(Refusal::OverLimit);
         }
         if self.src.len() < self.at {
@@ -34,13 +32,7 @@ impl<'a> Reader<'a> {
     pub fn op(self, table: &[u8], i: usize) -> Result<Item<Op>, Refusal>
         ensures { op_told result ≡ op_here table.now self.entry.src.now self.entry.at i }
     {
-        if MOST_BYTES < self.src.len() {
-            return Err(Refusal::OverLimit);
-        }
-        let table = operation::checked(table)?;
-        if self.src.len() < self.at {
-            return Err(Refusal::PastEnd);
-        }
+        let table = wire::opened(table, self.src.len(), self.at)?;
         wire::read_op(table, self.src, self.at, i)
     }
 }
