@@ -1,6 +1,5 @@
 -- The ways that a block's stages end, composed. Assumes nothing.
 use mathlib.Core.Path.{◌≡◌, refl, ◌∙◌}
-use mathlib.Core.Bool.{true, false}
 use mathlib.Core.List.{List}
 use Prim.Native.Nat.{ℕ, ◌+◌, ◌≤◌, ◌<◌}
 use native.Mathlib.Nat.{lt_of_not-le}
@@ -8,12 +7,12 @@ use native.Mathlib.Decide.{dec_le}
 use borrow.Author.Tests.{lt-ltb, le-ltb, lt-leb, le-leb}
 use lib.ListN.{length}
 use Rattle.rules.specs.Answer.{good, refused, Read, found, ◌then◌}
-use Rattle.rules.specs.Refusals.{past_end₁, over_limit₃, left_over₁₁, no_room₁₃, bad_table₁₄}
-use Rattle.rules.specs.Operations.{Op, good_table}
+use Rattle.rules.specs.Refusals.{left_over₁₁, no_room₁₃}
+use Rattle.rules.specs.Operations.{Op}
 use Rattle.rules.specs.Record.{Record, Block}
 use Rattle.rules.specs.Bytes.{count_at, nibbles_at, flags_at}
 use Rattle.rules.specs.Block.{Head, Layout, Room, head_at, layout_at, batches_at, batches_by, block_at}
-use Rattle.rules.specs.Functions.{Arena, decoded}
+use Rattle.rules.specs.Functions.{Arena}
 use Rattle.std.specs.Prelude.{Result}
 use Rattle.refusal.specs.declared.Refusal.{Refusal}
 use Rattle.refusal.specs.Told.{told}
@@ -90,26 +89,6 @@ module _ (w : ℕ) (t s : List ℕ) (at : ℕ) (room : Room) where
 
         pub block_good : (rs : List Record) (end : ℕ) → records_at w t s hd.ops hd.batches a₃ ≡ found rs end → block_at w t s at room ≡ found (record { ops = hd.ops; records = rs }) end
         block_good rs end r = block_records ∙ rw r
-
--- ---- what is looked at first
-
-module _ (w : ℕ) (t s : List ℕ) (at : ℕ) (room : Room) where
-  pub decoded_3 : 1048576 < length s → decoded w t s at room ≡ refused over_limit₃ 0
-  unfolding decoded
-  decoded_3 h = rw (lt-ltb 1048576 (length s) h)
-
-  module _ (h : length s ≤ 1048576) where
-    pub decoded_14 : good_table t ≡ false → decoded w t s at room ≡ refused bad_table₁₄ 0
-    unfolding decoded
-    decoded_14 g = rw (le-ltb 1048576 (length s) h, g)
-
-    pub decoded_1 : good_table t ≡ true → length s < at → decoded w t s at room ≡ refused past_end₁ 0
-    unfolding decoded
-    decoded_1 g l = rw (le-ltb 1048576 (length s) h, g, lt-ltb (length s) at l)
-
-    pub decoded_block : good_table t ≡ true → at ≤ length s → decoded w t s at room ≡ block_at w t s at room
-    unfolding decoded
-    decoded_block g l = rw (le-ltb 1048576 (length s) h, g, le-ltb (length s) at l)
 
 -- ---- a reply to an answer that is known
 

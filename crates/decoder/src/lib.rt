@@ -93,7 +93,6 @@ fn nibbles_right(s: &[u8], at: usize, k: usize) -> Result<usize, Refusal>
 
 // The batches in these operations, one after the other: k batches, their sizes from `sizes` on and their flags from `flags` on.
 fn decode_each(
-    width: usize,
     table: &[u8; 128],
     ops: Ops<'_>,
     s: &[u8],
@@ -103,13 +102,13 @@ fn decode_each(
     records: &mut [u8],
 ) -> Result<usize, Refusal>
     requires k_in_bounds { (sizes + 4 * k ≤ length s.now) × (flags + k ≤ length s.now) × (record_size * k ≤ length records.old) }
-    requires width_bound { (width ≤ 8) × ((b : ℕ) → b < k → RightSizes width (le_at 4 s.now (sizes + 4 * b))) }
-    ensures { Passed (λ (rs : List Record) (end : ℕ). (length rs ≡ k) × RecordsIn records.new rs) (batches_at width table.now (ops_in ops.entry) (sizes_from k s.now sizes) (flags_from k s.now flags)) result }
+    requires right { (b : ℕ) → b < k → RightSizes 8 (le_at 4 s.now (sizes + 4 * b)) }
+    ensures { Passed (λ (rs : List Record) (end : ℕ). (length rs ≡ k) × RecordsIn records.new rs) (batches_at 8 table.now (ops_in ops.entry) (sizes_from k s.now sizes) (flags_from k s.now flags)) result }
 {
     let mut next = 0;
     for b in 0..k {
         let batch = unpacker::decode_batch(
-            width,
+            op_batch::WIDTH,
             table,
             ops,
             word::le::<4>(s, sizes + 4 * b),
@@ -125,7 +124,6 @@ fn decode_each(
 
 // Items 4 and 5 from `at` on, all nibbles first, and the batches that they say, which take all operations.
 fn decode_batches(
-    width: usize,
     table: &[u8; 128],
     ops: Ops<'_>,
     s: &[u8],
@@ -133,11 +131,11 @@ fn decode_batches(
     k: usize,
     records: &mut [u8],
 ) -> Result<usize, Refusal>
-    requires { (width ≡ 8) × (at + 5 * k ≤ length s.now) × (record_size * k ≤ length records.old) }
-    ensures { Passed (λ (rs : List Record) (end : ℕ). (length rs ≡ k) × RecordsIn records.new rs × (at ≤ end)) (records_at width table.now s.now (ops_in ops.entry) k at) result }
+    requires { (at + 5 * k ≤ length s.now) × (record_size * k ≤ length records.old) }
+    ensures { Passed (λ (rs : List Record) (end : ℕ). (length rs ≡ k) × RecordsIn records.new rs × (at ≤ end)) (records_at 8 table.now s.now (ops_in ops.entry) k at) result }
 {
     let flags = nibbles_right(s, at, k)?;
-    let end = decode_each(width, table, ops, s, at, flags, k, records)?;
+    let end = decode_each(table, ops, s, at, flags, k, records)?;
     if end < ops.codes.len() {
         return Err(Refusal::LeftOver);
     }
@@ -147,7 +145,6 @@ fn decode_batches(
 // ---- the block
 
 fn decode_block(
-    width: usize,
     table: &[u8; 128],
     s: &[u8],
     at: usize,
@@ -155,8 +152,7 @@ fn decode_block(
     out_values: &mut [u64],
     records: &mut [u8],
 ) -> Result<Decoded, Refusal>
-    requires { width ≡ 8 }
-    ensures { Reading at (block_at width table.now s.now at (room_in (arena out_codes.old out_values.old records.old))) (arena out_codes.new out_values.new records.new) result }
+    ensures { Reading at (block_at 8 table.now s.now at (room_in (arena out_codes.old out_values.old records.old))) (arena out_codes.new out_values.new records.new) result }
 {
     let count = wire::read_count(s, at)?;
     let n = count.item as usize;
@@ -170,7 +166,7 @@ fn decode_block(
         codes: &out_codes[..n],
         values: &out_values[..n],
     };
-    let end = decode_batches(width, table, ops, s, batches.next, k, records)?;
+    let end = decode_batches(table, ops, s, batches.next, k, records)?;
     Ok(Decoded {
         batches: k,
         operations: n,
@@ -180,7 +176,6 @@ fn decode_block(
 
 // What is looked at first: 3, 14 and 1.
 fn decode_checked(
-    width: usize,
     table: &[u8],
     s: &[u8],
     at: usize,
@@ -188,11 +183,10 @@ fn decode_checked(
     out_values: &mut [u64],
     records: &mut [u8],
 ) -> Result<Decoded, Refusal>
-    requires { width ≡ 8 }
-    ensures { Reading at (decoded width table.now s.now at (room_in (arena out_codes.old out_values.old records.old))) (arena out_codes.new out_values.new records.new) result }
+    ensures { Reading at (decoded 8 table.now s.now at (room_in (arena out_codes.old out_values.old records.old))) (arena out_codes.new out_values.new records.new) result }
 {
     let table = wire::opened(table, s.len(), at)?;
-    decode_block(width, table, s, at, out_codes, out_values, records)
+    decode_block(table, s, at, out_codes, out_values, records)
 }
 
 // Zeros after the first n operations and the first m bytes of records.
@@ -222,15 +216,7 @@ pub fn decode(
 ) -> Result<Decoded, Refusal>
     ensures { Decodes table.now s.now at (arena out_codes.old out_values.old records.old) (arena out_codes.new out_values.new records.new) result }
 {
-    let r = decode_checked(
-        op_batch::WIDTH,
-        table,
-        s,
-        at,
-        out_codes,
-        out_values,
-        records,
-    );
+    let r = decode_checked(table, s, at, out_codes, out_values, records);
     let made = r.unwrap_or_default();
     clear_after(
         out_codes,

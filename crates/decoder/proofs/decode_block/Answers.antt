@@ -29,7 +29,7 @@ invariant_of-ops c =
 pub decode_batches-requires : goal.decode_batches-requires
 decode_batches-requires c =
     let i = items_in _ _ _ _ _ _ _ c.in_ok-batches.ensures in
-    (c.requires, i.bytes, omega (arith, i.records))
+    (i.bytes, omega (arith, i.records))
 
 pub returns-in_err-end : goal.returns-in_err-end
 unfolding room_in
