@@ -8,8 +8,8 @@ use borrow.Author.Tests.{lt-leb, lt-ltb}
 use Rattle.std.specs.Int.{from_bool}
 use Rattle.accumulator.specs.declared.OpBatchAccumulator.{OpBatchAccumulator}
 use Rattle.accumulator.specs.Model.{fits_in, pads, pad_of, turned_acc, slotted_acc, joined_acc, crosses, ready_acc, added_acc}
-use Rattle.accumulator.proofs.Good.{turned_good, turned_next, Ready, ready, added_good, new_good}
-use Rattle.strict.specs.Draft.{Draft, new_draft, closed_draft, closed_times, ready_draft, joined_draft, added_draft, Fine}
+use Rattle.accumulator.proofs.Good.{turned_good, turned_next, Ready, ready, added_good}
+use Rattle.strict.specs.Draft.{Draft, closed_draft, closed_times, ready_draft, joined_draft, added_draft, Fine}
 
 -- ---- bytes of a number
 

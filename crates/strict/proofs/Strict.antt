@@ -14,7 +14,7 @@ use Rattle.rules.specs.Answer.{Answer, good, found, refuse, refuse_first}
 use Rattle.rules.specs.Refusals.{unfinished₁₈}
 use Rattle.rules.specs.Operations.{Op, codes, values}
 use Rattle.rules.specs.Batching.{Group, start, end_batch, steps, batches_of}
-use Rattle.rules.specs.Record.{Record, Block, record_of, record_size, records_bytes, records_from, records_in}
+use Rattle.rules.specs.Record.{Record, Block, record_of, record_size, records_bytes, records_from, records_in, record_at}
 use Rattle.rules.specs.Block.{Room}
 use Rattle.rules.specs.Lookups.{marks}
 use Rattle.rules.specs.Functions.{decoded}
@@ -23,7 +23,7 @@ use Rattle.rules.proofs.Digits.{split}
 use Rattle.rules.proofs.Operations.{noop_plain, table_128}
 use Rattle.rules.proofs.Records.{records_length, records_back}
 use Rattle.claims.proofs.Shape.{RightBatch, RightBatches}
-use Rattle.claims.proofs.Right.{width_8, right_batches}
+use Rattle.claims.proofs.Right.{Width, right_batches}
 use Rattle.claims.proofs.ReadThenChecked.{Encodable, encodable, codes_below}
 use Rattle.claims.proofs.Passes.{decode_passes}
 use Rattle.checks.proofs.Passed.{checked}
@@ -32,6 +32,7 @@ use Rattle.claims.proofs.OwnList.{unmarked_all}
 use Rattle.claims.proofs.Shapes.{shapes_differing, shapes}
 use Rattle.strict.specs.declared.Work.{Work}
 use Rattle.strict.specs.Model.{new_work, fed, judged, batches_judged, Judged, verdict_in}
+use Rattle.strict.proofs.Records.{right_within}
 use Rattle.strict.proofs.Judged.{seen, work_of, work_start, work_ended, work_fed}
 use Rattle.strict.proofs.Apart.{said_is}
 
@@ -77,9 +78,9 @@ unfolding codes
 codes_all P [] h = tt
 codes_all P (x ∷ xs) h = (h.0, codes_all P xs h.1)
 
-module _ (t s : List ℕ) (at : ℕ) (room : Room) (b : Block) (next : ℕ) (taken : decoded 8 t s at room ≡ found b next) where
-  e : Encodable 8 t b
-  e = encodable 8 t s at room b next taken
+module _ (w : ℕ) (width : Width w) (t s : List ℕ) (at : ℕ) (room : Room) (b : Block) (next : ℕ) (taken : decoded w t s at room ≡ found b next) where
+  e : Encodable w t b
+  e = encodable w t s at room b next taken
 
   abbrev rb : List ℕ
   rb = records_bytes b.records
@@ -96,10 +97,10 @@ module _ (t s : List ℕ) (at : ℕ) (room : Room) (b : Block) (next : ℕ) (tak
 
   pub ready : Judged t (codes b.ops) rb k
   ready =
-      let c = (checked 8 (codes b.ops) (values b.ops) rb (decode_passes 8 t s at room b next taken).structure).1 in
+      let c = (checked w (codes b.ops) (values b.ops) rb (decode_passes w t s at room b next taken).structure).1 in
       let n = length_codes b.ops in
       record {
-        runs = record { whole = long; right = λ b l. c.right b (omega (arith, long)) };
+        runs = record { whole = long; right = λ b l. right_within w 8 (record_at rb b) width.eight (c.right b (omega (arith, long))) };
         apt = record { table = table_128 t e.table; codes = all_at (codes b.ops) (codes_below t b.ops e.allowed) };
         few = omega (arith, e.few);
         sum = rw each (e.sum ∙ sym n);
@@ -111,14 +112,14 @@ module _ (t s : List ℕ) (at : ℕ) (room : Room) (b : Block) (next : ℕ) (tak
   known : All (λ x. x.code < length t) (own_list b)
   known = rw (table_128 t e.table) (unmarked_all (λ x. x.code < 128) (marks b.records) b.ops (codes_all (λ c. c < 128) b.ops (codes_below t b.ops e.allowed)))
 
-  pub judged_is : verdict_in 8 t (codes b.ops) rb k ≡ refuse_unfinished 8 t b (good tt)
+  pub judged_is : verdict_in w t (codes b.ops) rb k ≡ refuse_unfinished w t b (good tt)
   unfolding verdict_in refuse_unfinished
   judged_is =
-      ap (λ (cs : List ℕ). judged rb k (fed 8 t rb k cs new_work) (good tt)) own_codes
-      ∙ (walked rb k 8 t (own_list b) known (good tt) ∙ go (listable (own_list b)) refl)
+      ap (λ (cs : List ℕ). judged rb k (fed w t rb k cs new_work) (good tt)) own_codes
+      ∙ (walked rb k w t (own_list b) known (good tt) ∙ go (listable (own_list b)) refl)
     where
       bs : List (List Group)
-      bs = batches_of 8 t (own_list b)
+      bs = batches_of w t (own_list b)
 
       saw : Answer Unit
       saw = batches_judged k (seen rb k (Ok 0) bs) (good tt)
@@ -129,5 +130,5 @@ module _ (t s : List ℕ) (at : ℕ) (room : Room) (b : Block) (next : ℕ) (tak
       go : (y : Bool) → listable (own_list b) ≡ y → refuse (not y) unfinished₁₈ 0 saw ≡ refuse (not y) unfinished₁₈ 0 (refuse_first 0 (differing b.records (map record_of bs)) (good tt))
       go false l = refl
       go true l =
-          sym (said_is rb k ready.runs 8 (omega arith) t (good tt) 0 bs (each_batch 8 t bs (right_batches 8 width_8 t (noop_plain t e.table) (own_list b))))
-          ∙ (ap compared (ap (λ (n : ℕ). records_from n rb 0) (sub-zero k) ∙ each) ∙ sym (shapes 8 width_8 t s at room b next taken l (good tt)))
+          sym (said_is rb k ready.runs w width.eight t (good tt) 0 bs (each_batch w t bs (right_batches w width t (noop_plain t e.table) (own_list b))))
+          ∙ (ap compared (ap (λ (n : ℕ). records_from n rb 0) (sub-zero k) ∙ each) ∙ sym (shapes w width t s at room b next taken l (good tt)))

@@ -15,6 +15,7 @@ use Rattle.rules.specs.Record.{Block, no_block, record_of, record_size, records_
 use Rattle.rules.specs.Refusals.{unfinished₁₈}
 use Rattle.rules.specs.Strict.{own_list, listable, differing, refuse_unfinished}
 use Rattle.rules.specs.Functions.{Arena, room_in, filled, decoded, strictly_decoded, leaves}
+use Rattle.claims.proofs.Right.{width_8}
 use Rattle.checks.proofs.Passed.{and_then, refuse_then, first_then}
 use Rattle.refusal.proofs.Told.{handed}
 use Rattle.decoder.specs.declared.Decoded.{Decoded}
@@ -74,14 +75,14 @@ module _ (t s : List ℕ) (at : ℕ) (before after : Arena) (r : Result Decoded 
     asks = (
       (room t s at before after r d k n x).0,
       (room t s at before after r d k n x).2,
-      judged_as t _ _ _ _ _ _ same.0 same.1 (sym x.batches) (ready t s at (room_in before) b x.next x.is),
+      judged_as t _ _ _ _ _ _ same.0 same.1 (sym x.batches) (ready 8 width_8 t s at (room_in before) b x.next x.is),
     )
 
     abbrev walk : Answer Unit
     walk = verdict_in 8 t (take n after.codes) (take (record_size * k) after.records) k
 
     verdict : walk ≡ refuse_unfinished 8 t b (good tt)
-    verdict = (let e = same in let f = sym x.batches in λ j. verdict_in 8 t (e.0 j) (e.1 j) (f j)) ∙ judged_is t s at (room_in before) b x.next x.is
+    verdict = (let e = same in let f = sym x.batches in λ j. verdict_in 8 t (e.0 j) (e.1 j) (f j)) ∙ judged_is 8 width_8 t s at (room_in before) b x.next x.is
 
     strictly : strictly_decoded 8 t s at (room_in before) ≡ and_then (refuse_unfinished 8 t b (good tt)) (found b x.next)
     unfolding strictly_decoded
