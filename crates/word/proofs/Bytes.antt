@@ -1,17 +1,18 @@
 -- The bytes of a number, as a run takes and gives them. Assumes nothing.
 use mathlib.Core.Path.{◌≡◌, refl, sym, ap, ◌∙◌}
 use mathlib.Core.List.{List, [], ◌++◌, append_assoc}
-use Prim.Native.Nat.{ℕ, zero, suc, ◌+◌, ◌-◌, ◌^◌, ◌≤◌, ◌<◌}
+use Prim.Native.Nat.{ℕ, zero, suc, ◌+◌, ◌-◌, ◌/◌, ◌^◌, ◌≤◌, ◌<◌}
 use native.Mathlib.Nat.{add-zero, zero-add, pow-suc, div-div-eq-div-mul}
 use native.Mathlib.Omega.{arith}
 use lib.ListN.{length, take, drop, get_or, replicate}
-use lib.Seq.{sets}
+use lib.Seq.{sets, length-sets}
 use borrow.Rule.Slice.PartMut.{put_mid}
 use Rattle.std.specs.Int.{from_le_bytes, to_le_bytes, w64}
 use Rattle.std.proofs.lemmas.List.{take_at, get_or-take, get_or-drop, get_or-append-add, get_or_append_left, get_or-replicate, length-take-le, length-drop, drop-drop}
 use Rattle.std.proofs.lemmas.List.Edits.{sets-eq}
 use Rattle.rules.specs.Digits.{digits, le_at, le_bytes}
-use Rattle.rules.proofs.Digits.{le_at_split, le_bytes_split, length_le_bytes}
+use Rattle.rules.proofs.Digits.{split, le_at_split, le_bytes_split, length_le_bytes, sets_append}
+use Rattle.word.proofs.Copies.{past}
 
 -- ---- written
 
@@ -33,6 +34,16 @@ written out ys at n v h k e =
     let d : drop n (drop at out) ≡ drop (at + length b) out = rw l (drop-drop n at out) in
     let p : put_mid at n out b ≡ take at out ++ (b ++ drop (at + length b) out) = ap (λ (r : List ℕ). take at out ++ (b ++ r)) d in
     rw (m, e ∙ first_bytes n v h) (p ∙ sym (sets-eq b out at (omega arith) ∙ append_assoc (take at out) b (drop (at + length b) out)))
+
+-- the first n bytes of a number, where no more of it fits
+pub fewer : (out : List ℕ) (at n v : ℕ) → n ≤ 8 → (n < 8 → length out ≤ at + n) → sets out at (le_bytes n v) ≡ sets out at (le_bytes 8 v)
+unfolding digits
+fewer out at n v h k =
+    let e : n + (8 - n) ≡ 8 = omega arith in
+    let m : at + length (le_bytes n v) ≡ at + n = ap (λ (j : ℕ). at + j) (length_le_bytes n v) in
+    let rest : sets (sets out at (le_bytes n v)) (at + n) (le_bytes (8 - n) (v / 256 ^ n)) ≡ sets out at (le_bytes n v) =
+    split n 8 (λ few. past (sets out at (le_bytes n v)) (le_bytes (8 - n) (v / 256 ^ n)) (at + n) (omega (arith, k few, length-sets out at (le_bytes n v)))) (λ all. let z : 8 - n ≡ 0 = omega arith in rw z) in
+    sym rest ∙ sym (ap (λ (i : ℕ). sets (sets out at (le_bytes n v)) i (le_bytes (8 - n) (v / 256 ^ n))) m) ∙ sym (sets_append out at (le_bytes n v) (le_bytes (8 - n) (v / 256 ^ n))) ∙ ap (λ (r : List ℕ). sets out at r) (sym (le_bytes_split n (8 - n) v) ∙ ap (λ (j : ℕ). le_bytes j v) e)
 
 -- ---- read
 

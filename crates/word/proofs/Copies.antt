@@ -20,7 +20,7 @@ module _ {A : Type 0} where
       let e : m - i ≡ suc (m - (i + 1)) = omega arith in
       rw (e, add-one)
 
-  past : (l vs : List A) (i : ℕ) → length l ≤ i → sets l i vs ≡ l
+  pub past : (l vs : List A) (i : ℕ) → length l ≤ i → sets l i vs ≡ l
   past l [] i h = refl
   past l (v ∷ vs) i h = ap (λ (d : List A). sets d (suc i) vs) (set_out l i v h) ∙ past l vs (suc i) (omega arith)
 

@@ -1,3 +1,4 @@
+mod Bases
 mod Bytes
 mod Copies
 mod Zeros

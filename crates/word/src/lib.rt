@@ -1,10 +1,11 @@
 // Bytes and words in lent runs: little-endian numbers, stores that fall away past the end, zeroed tails.
 #![tactic(auto)]
 
-ghost use Rattle.std.specs.Prelude.{◌≡◌, ◌+◌, ◌-◌, ◌≤◌, ◌<◌, ◌^◌, ◌++◌, ℕ, List, length, take, set, replicate, pos};
+ghost use Rattle.std.specs.Prelude.{◌≡◌, ◌+◌, ◌-◌, ◌*◌, ◌≤◌, ◌<◌, ◌^◌, ◌++◌, ℕ, List, length, take, set, replicate, pos};
 ghost use Rattle.std.proofs.lemmas.List.Edits.{sets};
-ghost use Rattle.rules.specs.Digits.{le_at, le_bytes};
+ghost use Rattle.rules.specs.Digits.{digits, number, le_at, le_bytes};
 ghost use Rattle.rules.specs.Lists.{fitted};
+ghost use Rattle.rules.specs.Record.{words_at, word_bytes};
 ghost use Rattle.word.specs.Numbers.{zeroed, fitted_after, zeroed_after};
 
 // ---- little-endian numbers
@@ -25,6 +26,55 @@ pub fn put<const N: usize>(out: &mut [u8], at: usize, v: u64)
     ensures { out.new ≡ sets out.old at (le_bytes N v) }
 {
     out[at..at + N].copy_from_slice(&v.to_le_bytes()[..N]);
+}
+
+// ---- runs of numbers, eight bytes to each
+
+// As many numbers as there is room for, from `at` on.
+pub fn read_words(s: &[u8], at: usize, words: &mut [u64])
+    requires { at + 8 * length words.old ≤ length s.now }
+    ensures { words.new ≡ words_at (length words.old) s.now at }
+{
+    for i in 0..words.len() {
+        words[i] = le::<8>(s, at + 8 * i);
+    }
+}
+
+pub fn put_words(out: &mut [u8], at: usize, words: &[u64])
+    requires { at + 8 * length words.now ≤ length out.old }
+    ensures { out.new ≡ sets out.old at (word_bytes words.now) }
+{
+    for (i, number) in words.iter().enumerate() {
+        put::<8>(out, at + 8 * i, *number);
+    }
+}
+
+// ---- numbers in a base, the lowest digit first
+
+// The N lowest digits of v.
+pub fn digits<const B: u64, const N: usize>(v: u64) -> [u8; N]
+    requires { (2 ≤ B) × (B ≤ 256) }
+    ensures { result ≡ digits B N v }
+{
+    let mut out = [0; N];
+    let mut left = v;
+    for digit in out.iter_mut() {
+        *digit = (left % B) as u8;
+        left /= B;
+    }
+    out
+}
+
+// The number that has these digits. No `fold`: its closure would have to ask that each sum fits.
+pub fn from_digits<const B: u64>(digits: &[u8]) -> u64
+    requires { (1 ≤ B) × (number B digits.now < 2 ^ 64) }
+    ensures { result ≡ number B digits.now }
+{
+    let mut v = 0;
+    for digit in digits.iter().rev() {
+        v = v * B + u64::from(*digit);
+    }
+    v
 }
 
 // ---- stores that fall away past the end, as `set` and `sets` do on lists
@@ -49,18 +99,18 @@ pub fn store_le8(out: &mut [u8], at: usize, v: u64)
     }
 }
 
+// As many of the bytes as fit.
 fn put_some(out: &mut [u8], at: usize, v: u64)
     requires { at < 2 ^ 62 }
     ensures { out.new ≡ sets out.old at (le_bytes 8 v) }
 {
-    let mut left = v;
-    for i in 0..8 {
-        store(out, at + i, (left % 256) as u8);
-        left /= 256;
+    let end = out.len().min(at + 8);
+    if at < end {
+        out[at..end].copy_from_slice(&v.to_le_bytes()[..end - at]);
     }
 }
 
-// n copies of a value.
+// n copies of a value. A loop, here and in `zero_after`: std's `fill` asks for a `clone` that can't fail, which `Copy` doesn't say.
 pub fn fill<T: Copy>(out: &mut [T], at: usize, n: usize, v: T)
     requires { at + n < 2 ^ 64 }
     ensures { out.new ≡ sets out.old at (replicate n v) }
@@ -139,4 +189,21 @@ pub fn zero_after<T: Number>(out: &mut [T], k: usize)
     for i in k..out.len() {
         out[i] = T::ZERO;
     }
+}
+
+// The runs of a block: operations after the first n, and bytes of records after the first m.
+pub fn clear_after<T: Number>(
+    codes: &mut [u8],
+    values: &mut [T],
+    records: &mut [u8],
+    n: usize,
+    m: usize,
+)
+    ensures codes { codes.new ≡ fitted (length codes.old) (take n codes.old) }
+    ensures values { values.new ≡ T.zeroed values.old n }
+    ensures records { records.new ≡ fitted (length records.old) (take m records.old) }
+{
+    zero_after(codes, n);
+    zero_after(values, n);
+    zero_after(records, m);
 }

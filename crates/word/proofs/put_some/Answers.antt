@@ -1,19 +1,22 @@
-use mathlib.Core.Path.{ap, sym, ◌∙◌}
+use mathlib.Core.Path.{◌≡◌, ap, sym, ◌∙◌}
 use native.Mathlib.Omega.{arith}
-use Prim.Native.Nat.{ℕ, ◌-◌, ◌+◌, ◌/◌}
-use lib.Seq.{sets}
+use Prim.Native.Nat.{ℕ, ◌-◌, ◌+◌}
 use mathlib.Core.List.{List}
-use Rattle.rules.proofs.Runs.{bytes_turn, bytes_end}
+use lib.ListN.{take}
+use borrow.Rule.Slice.PartMut.{put_mid}
 use Rattle.rules.specs.Digits.{le_bytes}
+use Rattle.word.proofs.Bytes.{written, fewer}
+use Rattle.word.proofs.Copies.{past}
 use Rattle.word.proofs.put_some.Goals as goal
 
-pub loop-i-preserved : goal.loop-i-preserved
-loop-i-preserved c =
-    let l = c.loop-i in
+pub returns-then-at-end : goal.returns-then-at-end
+returns-then-at-end c =
     let a = c.args in
-    ap (λ (x : List ℕ). sets x (a.at + (l.i + 1)) (le_bytes (8 - (l.i + 1)) (l.left / 256))) c.store.ensures ∙ bytes_turn l.out a.at l.i 8 l.left (omega arith) ∙ l.invariant
+    let n = c.min-end.result - a.at in
+    let e : n ≡ a.at + n - a.at = omega arith in
+    ap (λ (k : ℕ). put_mid a.at k a.out.now c.copy_from_slice.new.self) e
+    ∙ written a.out.now _ a.at n a.v (omega (arith, c.min-end.ensures)) (omega (arith, c.min-end.ensures)) (c.copy_from_slice.ensures.after ∙ ap (λ (l : List ℕ). take n l) c.to_le_bytes.ensures)
+    ∙ fewer a.out.now a.at n a.v (omega (arith, c.min-end.ensures)) (λ few. omega (arith, c.min-end.ensures))
 
-pub returns : goal.returns
-returns c =
-    let l = c.loop-i in
-    sym (bytes_end l.out (c.args.at + l.i) l.i 8 l.left (omega arith)) ∙ l.invariant
+pub returns-else-at-end : goal.returns-else-at-end
+returns-else-at-end c = let a = c.args in sym (past a.out.now (le_bytes 8 a.v) a.at (omega (arith, c.min-end.ensures)))
