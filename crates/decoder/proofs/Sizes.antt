@@ -35,10 +35,13 @@ module _ (s : List ℕ) (at b : ℕ) where
   unfolding bits_at digits every
   bits_found = refl
 
-pub flags_found : (s : List ℕ) (k at b : ℕ) → flags_at 8 s k at b ≡ found (flags_from k s at) (at + k)
+all_flags : (s : List ℕ) (k at b : ℕ) → flags_at 8 s k at b ≡ found (flags_from k s at) (at + k)
 unfolding row flags_from
-flags_found s zero at b = rw add-zero
-flags_found s (suc k) at b = let e : at + 1 + k ≡ at + suc k = omega arith in rw (bits_found s at b, flags_found s k (at + 1) (b + 1), e)
+all_flags s zero at b = rw add-zero
+all_flags s (suc k) at b = let e : at + 1 + k ≡ at + suc k = omega arith in rw (bits_found s at b, all_flags s k (at + 1) (b + 1), e)
+
+pub flags_found : {w : ℕ} → w ≡ 8 → (s : List ℕ) (k at : ℕ) → flags_at w s k at 0 ≡ found (flags_from k s at) (at + k)
+flags_found e s k at = rw e (all_flags s k at 0)
 
 -- ---- the walk over the sizes
 
@@ -94,5 +97,5 @@ module _ (w : ℕ) (s : List ℕ) where
       at_j zero l h f = rw add-zero h
       at_j (suc j) l h f = let e : at + 4 * suc j ≡ at + 4 + 4 * j = omega arith in rw e (f j (omega arith))
 
-pub sized_by : {s : List ℕ} {k at : ℕ} {r : Result ℕ Refusal} → told r ≡ after (nibbles_at 8 s k at 0) → Passed (Sized 8 s k at) (nibbles_at 8 s k at 0) r
-sized_by {s} {k} {at} e = record { reply = e; left = nibbles_found 8 s k at 0 }
+pub sized_by : {w : ℕ} → w ≡ 8 → {s : List ℕ} {k at : ℕ} {r : Result ℕ Refusal} → told r ≡ after (nibbles_at 8 s k at 0) → Passed (Sized w s k at) (nibbles_at w s k at 0) r
+sized_by {w} d {s} {k} {at} e = record { reply = rw d e; left = nibbles_found w s k at 0 }

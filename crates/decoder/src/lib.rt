@@ -93,7 +93,6 @@ fn nibbles_right(s: &[u8], at: usize, k: usize) -> Result<usize, Refusal>
 
 // The batches in these operations, one after the other: k batches, their sizes from `sizes` on and their flags from `flags` on.
 fn decode_each(
-    table: &[u8; 128],
     ops: Ops<'_>,
     s: &[u8],
     sizes: usize,
@@ -102,15 +101,12 @@ fn decode_each(
     records: &mut [u8],
 ) -> Result<usize, Refusal>
     requires k_in_bounds { (sizes + 4 * k ≤ length s.now) × (flags + k ≤ length s.now) × (record_size * k ≤ length records.old) }
-    requires right { (b : ℕ) → b < k → RightSizes 8 (le_at 4 s.now (sizes + 4 * b)) }
-    ensures { Passed (λ (rs : List Record) (end : ℕ). (length rs ≡ k) × RecordsIn records.new rs) (batches_at 8 table.now (ops_in ops.entry) (sizes_from k s.now sizes) (flags_from k s.now flags)) result }
+    requires right { (b : ℕ) → b < k → RightSizes ops.width (le_at 4 s.now (sizes + 4 * b)) }
+    ensures { Passed (λ (rs : List Record) (end : ℕ). (length rs ≡ k) × RecordsIn records.new rs) (batches_at ops.entry.width ops.entry.table.now (ops_in ops.entry) (sizes_from k s.now sizes) (flags_from k s.now flags)) result }
 {
     let mut next = 0;
     for b in 0..k {
-        let batch = unpacker::decode_batch(
-            op_batch::WIDTH,
-            table,
-            ops,
+        let batch = ops.decode_batch(
             word::le::<4>(s, sizes + 4 * b),
             s[flags + b],
             b,
@@ -124,18 +120,17 @@ fn decode_each(
 
 // Items 4 and 5 from `at` on, all nibbles first, and the batches that they say, which take all operations.
 fn decode_batches(
-    table: &[u8; 128],
     ops: Ops<'_>,
     s: &[u8],
     at: usize,
     k: usize,
     records: &mut [u8],
 ) -> Result<usize, Refusal>
-    requires { (at + 5 * k ≤ length s.now) × (record_size * k ≤ length records.old) }
-    ensures { Passed (λ (rs : List Record) (end : ℕ). (length rs ≡ k) × RecordsIn records.new rs × (at ≤ end)) (records_at 8 table.now s.now (ops_in ops.entry) k at) result }
+    requires { (ops.width ≡ 8) × (at + 5 * k ≤ length s.now) × (record_size * k ≤ length records.old) }
+    ensures { Passed (λ (rs : List Record) (end : ℕ). (length rs ≡ k) × RecordsIn records.new rs × (at ≤ end)) (records_at ops.entry.width ops.entry.table.now s.now (ops_in ops.entry) k at) result }
 {
     let flags = nibbles_right(s, at, k)?;
-    let end = decode_each(table, ops, s, at, flags, k, records)?;
+    let end = decode_each(ops, s, at, flags, k, records)?;
     if end < ops.codes.len() {
         return Err(Refusal::LeftOver);
     }
@@ -163,10 +158,12 @@ fn decode_block(
     let batches = read_items(table, s, count.next, n, room, out_codes, out_values)?;
     let k = batches.item as usize;
     let ops = Ops {
+        width: op_batch::WIDTH,
+        table,
         codes: &out_codes[..n],
         values: &out_values[..n],
     };
-    let end = decode_batches(table, ops, s, batches.next, k, records)?;
+    let end = decode_batches(ops, s, batches.next, k, records)?;
     Ok(Decoded {
         batches: k,
         operations: n,

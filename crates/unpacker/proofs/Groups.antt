@@ -1,23 +1,23 @@
 -- A walk over the groups of a batch: their numbers, and their immediates in the slots right after them. Assumes nothing.
 use mathlib.Core.Path.{◌≡◌, refl, sym, ap, ◌∙◌}
-use mathlib.Core.Bool.{true}
+use mathlib.Core.Bool.{true, false}
 use mathlib.Core.List.{List, [], ◌∷◌, ◌++◌}
 use Prim.Native.Nat.{ℕ, zero, suc, ◌+◌, ◌-◌, ◌/◌, ◌%◌, ◌≤◌, ◌<◌}
 use native.Mathlib.Numerals.{add-one}
 use native.Mathlib.Omega.{arith}
-use borrow.Author.Tests.{ne_eqb, leb-true}
+use borrow.Author.Tests.{leb-true}
 use lib.ListN.{length, get_or, take, drop, set, length-take, length-drop}
 use lib.Seq.{append_snoc, take-suc-set, length-take-le, get_or-take, get_or-drop}
-use lib.Dec.{leb}
+use lib.Dec.{leb, eqb}
 use Rattle.rules.specs.Lists.{fitted, total, every}
 use Rattle.rules.specs.Digits.{digits, number}
 use Rattle.rules.specs.Answer.{good, refused, Read, found, ◌then◌}
 use Rattle.rules.specs.Refusals.{no_slot₈, slot_taken₉}
-use Rattle.rules.specs.Operations.{Op, operations, has_immediate}
+use Rattle.rules.specs.Operations.{Op, operations, kind_of, has_immediate}
 use Rattle.rules.specs.Record.{codes_number, part, immediates}
 use Rattle.rules.specs.Bytes.{up_to}
 use Rattle.rules.proofs.Slots.{empty_before, slots}
-use Rattle.rules.proofs.Operations.{kind_at, operations_turn, operations_end, true_left, true_right, codes_operations, part_operations}
+use Rattle.rules.proofs.Operations.{operations_turn, operations_end, true_left, true_right, codes_operations, part_operations}
 use Rattle.rules.proofs.Runs.{fitted_set, fitted_length}
 use Rattle.rules.proofs.Digits.{digits_turn, digits_end}
 use Rattle.unpacker.specs.Coded.{Coded}
@@ -29,13 +29,13 @@ module _ (t cs vs : List ℕ) (i : ℕ) where
   abbrev pub due : List ℕ
   due = immediates t (operations (drop i cs) (drop i vs))
 
-  pub due_plain : i < length cs → i < length vs → get_or cs i 0 < length t → (get_or t (get_or cs i 0) 0 ≡ 1 → ⊥) → due ≡ immediates t (operations (drop (i + 1) cs) (drop (i + 1) vs))
+  pub due_plain : i < length cs → i < length vs → eqb (kind_of t (get_or cs i 0)) 1 ≡ false → due ≡ immediates t (operations (drop (i + 1) cs) (drop (i + 1) vs))
   unfolding immediates has_immediate
-  due_plain h k l e = rw (operations_turn cs vs i h k, kind_at t (get_or cs i 0) l, ne_eqb (get_or t (get_or cs i 0) 0) 1 e)
+  due_plain h k e = rw (operations_turn cs vs i h k, e)
 
-  pub due_placed : i < length cs → i < length vs → get_or cs i 0 < length t → get_or t (get_or cs i 0) 0 ≡ 1 → due ≡ get_or vs i 0 ∷ immediates t (operations (drop (i + 1) cs) (drop (i + 1) vs))
+  pub due_placed : i < length cs → i < length vs → eqb (kind_of t (get_or cs i 0)) 1 ≡ true → due ≡ get_or vs i 0 ∷ immediates t (operations (drop (i + 1) cs) (drop (i + 1) vs))
   unfolding immediates has_immediate
-  due_placed h k l e = rw (operations_turn cs vs i h k, kind_at t (get_or cs i 0) l, e)
+  due_placed h k e = rw (operations_turn cs vs i h k, e)
 
   pub due_none : length cs ≤ i → due ≡ []
   unfolding immediates
@@ -146,8 +146,8 @@ module _ (w : ℕ) (t : List ℕ) (b : ℕ) (xs : List Op) where
 
   taken : (n : ℕ) (ns : List ℕ) (v : ℕ) (due : List ℕ) (at : ℕ) → (n ≡ 0 → ⊥) → slots t b (n ∷ ns) (v ∷ due) xs at ≡ refused slot_taken₉ b
   unfolding slots
-  taken zero ns v due at h = absurd (h refl)
-  taken (suc n) ns v due at h = refl
+  taken zero ns v _ at h = absurd (h refl)
+  taken (suc n) ns v _ at h = refl
 
   pub stop_9 : (gs : List ℕ) (g left v : ℕ) (due : List ℕ) (end : ℕ) → g < w → (left % 16 ≡ 0 → ⊥) → onward w t b xs end gs g left (v ∷ due) ≡ refused slot_taken₉ b
   stop_9 gs g left v due end h e = rw (digits_turn 16 w g left h, taken (left % 16) (digits 16 (w - (g + 1)) (left / 16)) v due end e)

@@ -24,12 +24,12 @@ returns-in_err-batches c =
 pub invariant_of-ops : goal.invariant_of-ops
 invariant_of-ops c =
     let i = items_in _ _ _ _ _ _ _ c.in_ok-batches.ensures in
-    record { even = i.even; coded = i.coded }
+    record { low = omega arith; even = i.even; coded = i.coded }
 
 pub decode_batches-requires : goal.decode_batches-requires
 decode_batches-requires c =
     let i = items_in _ _ _ _ _ _ _ c.in_ok-batches.ensures in
-    (i.bytes, omega (arith, i.records))
+    (refl, i.bytes, omega (arith, i.records))
 
 pub returns-in_err-end : goal.returns-in_err-end
 unfolding room_in

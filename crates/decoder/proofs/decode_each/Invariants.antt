@@ -7,4 +7,4 @@ use Rattle.decoder.proofs.decode_each.Given as goal
 
 abbrev pub invariant-loop-b : goal.invariant-loop-b
 invariant-loop-b l =
-    (l.next ≤ length l.ops.codes.now) × (length l.records ≡ length l.initial.records) × B.Going 8 l.table (ops_in l.ops) l.s l.sizes l.flags l.k l.records l.b l.next
+    (l.next ≤ length l.ops.codes.now) × (length l.records ≡ length l.initial.records) × B.Going l.ops.width l.ops.table.now (ops_in l.ops) l.s l.sizes l.flags l.k l.records l.b l.next

@@ -6,7 +6,7 @@ use Rattle.rules.specs.Answer.{found}
 use Rattle.refusal.proofs.Told.{handed_by}
 use Rattle.wire.proofs.Stages.{staged_lost, staged_found}
 use Rattle.unpacker.proofs.Groups as G
-use Rattle.unpacker.proofs.decode_groups.Goals as goal
+use Rattle.unpacker.proofs.ops.Ops.decode_groups.Goals as goal
 
 pub loop-g-preserved-then-n-eq0 : goal.loop-g-preserved-then-n-eq0
 loop-g-preserved-then-n-eq0 c = G.walk_empty c.loop-g.invariant (omega arith) (omega arith) c.if-n-eq0.true
@@ -19,29 +19,30 @@ group_number-requires c =
     let l = c.loop-g in
     let f = G.group_fits l.invariant (omega arith) (omega arith) in
     let s = G.group_small l.invariant (omega arith) (omega arith) in
-    (omega (arith, G.lent_length c.args.ops.codes.now l.from (l.left % 16) f), G.lent_coded _ _ _ f c.args.ops.coded)
+    (omega (arith, G.lent_length c.args.self.codes.now l.from (l.left % 16) f), G.lent_coded _ _ _ f c.args.self.coded)
 
 pub invariant_of-group : goal.invariant_of-group
 invariant_of-group c =
     let l = c.loop-g in
     let f = G.group_fits l.invariant (omega arith) (omega arith) in
     record {
-      even = G.lent_length c.args.ops.codes.now l.from (l.left % 16) f ∙ sym (G.lent_length c.args.ops.values.now l.from (l.left % 16) (omega arith));
-      coded = G.lent_coded _ _ _ f c.args.ops.coded;
+      low = c.args.self.low;
+      even = G.lent_length c.args.self.codes.now l.from (l.left % 16) f ∙ sym (G.lent_length c.args.self.values.now l.from (l.left % 16) (omega arith));
+      coded = G.lent_coded _ _ _ f c.args.self.coded;
     }
 
 pub place_immediates-requires : goal.place_immediates-requires
-place_immediates-requires c = (omega arith, omega arith, G.group_stored c.loop-g.invariant (omega arith) (omega arith) _)
+place_immediates-requires c = (omega arith, G.group_stored c.loop-g.invariant (omega arith) (omega arith) _)
 
 pub returns-in_err-placed : goal.returns-in_err-placed
 returns-in_err-placed c =
     let l = c.loop-g in
-    staged_lost (G.walk_refused l.invariant (omega arith) (omega arith) c.group_number.ensures c.if-n-eq0.false c.args.ops.even c.in_err-placed.ensures) (handed_by _ _ _ c.from_residual.ensures.1)
+    staged_lost (G.walk_refused l.invariant (omega arith) (omega arith) c.group_number.ensures c.if-n-eq0.false c.args.self.even c.in_err-placed.ensures) (handed_by _ _ _ c.from_residual.ensures.1)
 
 pub loop-g-preserved : goal.loop-g-preserved
 loop-g-preserved c =
     let l = c.loop-g in
-    G.walk_group l.invariant (omega arith) (omega arith) c.group_number.ensures c.if-n-eq0.false c.args.ops.even c.in_ok-placed.ensures
+    G.walk_group l.invariant (omega arith) (omega arith) c.group_number.ensures c.if-n-eq0.false c.args.self.even c.in_ok-placed.ensures
 
 pub returns : goal.returns
 returns c =
