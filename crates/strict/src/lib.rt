@@ -238,7 +238,7 @@ impl Walk<'_> {
         requires { (code < 128) × (work.raw < 2 ^ 32) }
         ensures { result ≡ fed_in self.now (code ∷ []) work }
     {
-        let imm = self.table[code as usize] == 1;
+        let imm = operation::has_immediate(self.table, code);
         // Returned at once: with an `else` the work is copied once more (measured).
         if work.draft.joins(imm) {
             return Work {

@@ -1,11 +1,13 @@
 use mathlib.Core.Path.{sym, ◌∙◌}
 use native.Mathlib.Omega.{arith}
-use lib.ListN.{get_or}
-use lib.Dec.{eqb}
+use Rattle.rules.proofs.Operations.{kind_at}
 use Rattle.strict.specs.Model.{stepped_work, fed}
 use Rattle.strict.proofs.Drafts.{join_is, join_fits}
 use Rattle.strict.proofs.Works.{room_fits, room_raw, joins_says, joined_step}
 use Rattle.strict.proofs.Walk.step.Goals as goal
+
+pub has_immediate-imm-requires : goal.has_immediate-imm-requires
+has_immediate-imm-requires c = omega (arith, c.args.self.now.judged.apt.table, c.requires.0)
 
 pub add-requires : goal.add-requires
 add-requires c =
@@ -15,15 +17,19 @@ add-requires c =
 pub overflow_add-result-2 : goal.overflow_add-result-2
 overflow_add-result-2 c =
     let b = c.args.self.now in
-    rw c.make_room-room.ensures (omega (arith, room_raw 8 (eqb (get_or b.table.now c.args.code 0) 1) b.records.now b.batches c.args.work, c.requires.1))
+    rw c.make_room-room.ensures (omega (arith, room_raw 8 c.has_immediate-imm.result b.records.now b.batches c.args.work, c.requires.1))
 
 pub returns-then-joins : goal.returns-then-joins
 unfolding fed
 returns-then-joins c =
     let b = c.args.self.now in
+    let k = kind_at b.table.now c.args.code (omega (arith, b.judged.apt.table, c.requires.0)) in
     let j = joins_says _ _ _ (sym c.joins.ensures ∙ c.if-joins.true) in
-    rw (c.join.ensures, join_is c.args.code _ c.args.work.draft j.0) (joined_step b.records.now b.batches c.args.work c.args.code _ (join_fits 8 _ c.args.work.draft.acc j.0 j.1))
+    rw (← k, ← c.has_immediate-imm.ensures, c.join.ensures, join_is c.args.code _ c.args.work.draft j.0)
+    (joined_step b.records.now b.batches c.args.work c.args.code _ (join_fits 8 _ c.args.work.draft.acc j.0 j.1))
 
 pub returns : goal.returns
 unfolding fed stepped_work
-returns c = rw (c.add.ensures, c.make_room-room.ensures)
+returns c =
+    let b = c.args.self.now in
+    rw (c.add.ensures, c.make_room-room.ensures, c.has_immediate-imm.ensures, kind_at b.table.now c.args.code (omega (arith, b.judged.apt.table, c.requires.0)))
