@@ -36,9 +36,7 @@ pub fn read_words(s: &[u8], work: &mut [u64])
     requires { length s.now / 8 ≤ length work.old }
     ensures { take (length s.now / 8) work.new ≡ words_in s.now }
 {
-    for i in 0..s.len() / 8 {
-        work[i] = word::le::<8>(s, 8 * i);
-    }
+    word::read_words(s, 0, &mut work[..s.len() / 8]);
 }
 
 // ---- out
@@ -50,20 +48,11 @@ pub fn lent(n: usize) -> usize
     (n / 8).min(LARGE)
 }
 
-fn put_words(words: &[u64], out: &mut [u8])
-    requires { 8 * length words.now ≤ length out.old }
-    ensures { out.new ≡ sets out.old 0 (word_bytes words.now) }
-{
-    for (i, number) in words.iter().enumerate() {
-        word::put::<8>(out, 8 * i, *number);
-    }
-}
-
 // The numbers as bytes, then zeros.
 pub fn bytes_out(words: &[u64], out: &mut [u8])
     requires { 8 * length words.now ≤ length out.old }
     ensures { out.new ≡ fitted (length out.old) (word_bytes words.now) }
 {
-    put_words(words, out);
+    word::put_words(out, 0, words);
     word::zero_after(out, 8 * words.len());
 }
