@@ -6,6 +6,7 @@
 use build::Totals;
 use console::{Page, Text, quote, quote_name};
 use listing::{After, Block, Runs};
+use operation::Kind;
 use refusal::Refusal;
 use space::{Full, List, Room};
 use std::fmt::Write;
@@ -13,7 +14,6 @@ use std::fs::{File, OpenOptions};
 use std::io::{Error, Read, Write as _};
 use std::{fmt, fs, io};
 use text::NotNumber;
-use vm::Kind;
 
 // ---- a line of the list
 
@@ -78,7 +78,7 @@ fn number(word: &[u8]) -> Result<u64, Fault> {
 
 // An operation's value, by the word for it, if there is one.
 fn value(code: u8, word: Option<&[u8]>) -> Result<u64, Fault> {
-    match (Kind::of(code), word) {
+    match (vm::kind(code), word) {
         (Kind::Unassigned, _) => Err(Fault::Unassigned),
         (Kind::Plain, None) => Ok(0),
         (Kind::Plain, Some(_)) => Err(Fault::Unneeded),

@@ -6,11 +6,11 @@ ghost use Rattle.std.specs.Prelude.{◌<◌};
 
 use console::{Page, counted};
 use op_batch::{OpBatch, RecordAt};
+use operation::Kind;
 use refusal::Refusal;
 use space::Room;
 use std::fmt;
 use std::fmt::Write;
-use vm::Kind;
 use wire::Item;
 
 // ---- operations
@@ -38,7 +38,7 @@ struct Operation {
 impl fmt::Display for Operation {
     fn fmt<W: fmt::Write>(&self, f: &mut fmt::Formatter<W>) -> fmt::Result {
         let name = Name(self.code);
-        match Kind::of(self.code) {
+        match vm::kind(self.code) {
             Kind::Plain => write!(f, "{name}"),
             Kind::Placed | Kind::Carried | Kind::Unassigned => write!(f, "{name}({})", self.value),
         }
@@ -47,7 +47,7 @@ impl fmt::Display for Operation {
 
 // How many bytes of a block an operation takes.
 fn op_size(code: u8) -> usize {
-    match Kind::of(code) {
+    match vm::kind(code) {
         Kind::Plain => 1,
         Kind::Placed | Kind::Carried | Kind::Unassigned => 9,
     }

@@ -2,7 +2,11 @@
 #![tactic(auto)]
 
 ghost use Rattle.std.specs.Prelude.{◌≡◌};
+ghost use Rattle.rules.specs.Operations.{kind_of};
+ghost use Rattle.operation.specs.Verdict.{kind_named};
 ghost use Rattle.vm.specs.Kinds.{kinds};
+
+use operation::Kind;
 
 const KINDS: [u8; 128] = [
     0, 0, 0, 0, 0, 0, 3, 0, 0, 0, 0, 0, 0, 0, 0, 0, 0, 0, 0, 0, 0, 0, 0, 0, 0, 0, 0, 0, 0, 0, 0, 0,
@@ -18,32 +22,14 @@ pub fn table() -> [u8; 128]
     KINDS
 }
 
-// What an operation has beside its opcode: nothing, a value that is placed in a group, or one that is carried and never placed.
-#[derive(Clone, Copy, Debug, PartialEq, Eq)]
-pub enum Kind {
-    Plain,
-    Placed,
-    Carried,
-    Unassigned,
-}
-
-impl From<u8> for Kind {
-    fn from(number: u8) -> Kind {
-        match number {
-            0 => Kind::Plain,
-            1 => Kind::Placed,
-            2 => Kind::Carried,
-            _ => Kind::Unassigned,
-        }
-    }
-}
-
-impl Kind {
-    // The kind of an opcode; unassigned past the table.
-    pub fn of(code: u8) -> Kind {
-        KINDS
-            .get(usize::from(code))
-            .map_or(Kind::Unassigned, |number| Kind::from(*number))
+// The kind of an opcode; unassigned past the table.
+pub fn kind(code: u8) -> Kind
+    ensures { result ≡ kind_named (kind_of kinds code) }
+{
+    if code < 128 {
+        Kind::from(KINDS[usize::from(code)])
+    } else {
+        Kind::Unassigned
     }
 }
 
