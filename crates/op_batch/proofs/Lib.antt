@@ -4,3 +4,4 @@ pub mod Places
 pub mod Claims
 pub mod Packing
 pub mod Stores
+pub mod Stored

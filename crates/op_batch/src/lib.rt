@@ -12,11 +12,14 @@ ghost use Rattle.rules.specs.Functions.{group_lookup, next_lookup};
 ghost use Rattle.refusal.specs.Told.{told};
 ghost use Rattle.op_batch.specs.OpBatch.{layout, record_in, found_in, lookup_of, first_full, next_in, next_of};
 ghost use Rattle.op_batch.specs.RecordAt.{recorded};
+ghost use Rattle.op_batch.specs.RecordMut.{stored};
 ghost use Rattle.op_batch.specs.Stores.{start_set, starts_set, flag_set, number_set, count_set, record_set, packed};
 
 mod record_at;
+mod record_mut;
 
 pub use record_at::RecordAt;
+pub use record_mut::RecordMut;
 use refusal::Refusal;
 
 // A record's bytes in a run, and where its flags, its numbers and its count stand among them. No other crate knows.
@@ -195,51 +198,52 @@ impl RecordAt<'_> {
     }
 }
 
-// ---- stores to the b-th record of a run; what the run has no room for falls away
+// ---- stores to a record of a run
 
-// One start.
-pub fn set_start(records: &mut [u8], b: usize, g: usize, v: u8)
-    requires { (b < 2 ^ 20) × (g < 9) }
-    ensures { records.new ≡ start_set b g v records.old }
-{
-    word::store(records, RECORD * b + g, v);
+impl RecordMut<'_> {
+    // One start.
+    pub fn set_start(&mut self, g: usize, v: u8)
+        requires { g < 9 }
+        ensures { self.new ≡ stored (start_set self.old.b g v) self.old }
+    {
+        word::store(self.records, RECORD * self.b + g, v);
+    }
+
+    // All starts from the g-th on. The first is 0 in every record that is written, so that it is never stored.
+    pub fn set_starts(&mut self, g: usize, v: u8)
+        requires { (1 ≤ g) × (g ≤ 9) }
+        ensures { self.new ≡ stored (starts_set self.old.b g v) self.old }
+    {
+        word::fill_few(self.records, RECORD * self.b + g, 9 - g, v);
+    }
+
+    pub fn set_flag(&mut self, g: usize, v: u8)
+        requires { g < 8 }
+        ensures { self.new ≡ stored (flag_set self.old.b g v) self.old }
+    {
+        word::store(self.records, RECORD * self.b + FLAGS + g, v);
+    }
+
+    pub fn set_number(&mut self, g: usize, v: u64)
+        requires { g < 8 }
+        ensures { self.new ≡ stored (number_set self.old.b g v) self.old }
+    {
+        word::store_le8(self.records, RECORD * self.b + NUMBERS + 8 * g, v);
+    }
+
+    pub fn set_count(&mut self, v: u8)
+        ensures { self.new ≡ stored (count_set self.old.b v) self.old }
+    {
+        word::store(self.records, RECORD * self.b + COUNT, v);
+    }
 }
 
-// All starts from the g-th on. The first is 0 in every record that is written, so that it is never stored.
-pub fn set_starts(records: &mut [u8], b: usize, g: usize, v: u8)
-    requires { (b < 2 ^ 20) × (1 ≤ g) × (g ≤ 9) }
-    ensures { records.new ≡ starts_set b g v records.old }
-{
-    word::fill_few(records, RECORD * b + g, 9 - g, v);
-}
-
-pub fn set_flag(records: &mut [u8], b: usize, g: usize, v: u8)
-    requires { (b < 2 ^ 20) × (g < 8) }
-    ensures { records.new ≡ flag_set b g v records.old }
-{
-    word::store(records, RECORD * b + FLAGS + g, v);
-}
-
-pub fn set_number(records: &mut [u8], b: usize, g: usize, v: u64)
-    requires { (b < 2 ^ 20) × (g < 8) }
-    ensures { records.new ≡ number_set b g v records.old }
-{
-    word::store_le8(records, RECORD * b + NUMBERS + 8 * g, v);
-}
-
-// The same where the run has that record.
+// A number of the b-th record, where the run has that record. It asks no more of b than that, so that it is no method of `RecordMut`.
 pub fn put_number(records: &mut [u8], b: usize, g: usize, v: u64)
     requires { (record_size * b + record_size ≤ length records.old) × (g < 8) }
     ensures { records.new ≡ number_set b g v records.old }
 {
     word::put::<8>(records, RECORD * b + NUMBERS + 8 * g, v);
-}
-
-pub fn set_count(records: &mut [u8], b: usize, v: u8)
-    requires { b < 2 ^ 20 }
-    ensures { records.new ≡ count_set b v records.old }
-{
-    word::store(records, RECORD * b + COUNT, v);
 }
 
 // ---- a record by its packed forms: eight sizes in four bits each and eight flags in one bit each, the first lowest
@@ -281,7 +285,7 @@ fn put_groups(groups: &[u64; 8], out: &mut [u8], at: usize)
     }
 }
 
-// The b-th record of a run, by its packed sizes and flags, its numbers and its count.
+// The b-th record of a run, by its packed sizes and flags, its numbers and its count. Nor does this ask more of b.
 pub fn store_packed(
     deltas: u64,
     flags: u8,

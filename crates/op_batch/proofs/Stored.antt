@@ -1,0 +1,10 @@
+-- A record that is lent to be written has one fact of its number, however it is proved. Assumes nothing.
+use mathlib.Core.Path.{◌≡◌}
+use mathlib.Core.List.{List}
+use Prim.Native.Nat.{ℕ, ◌^◌, ◌<◌}
+use native.Mathlib.Bridge.{le_prop}
+use denote.MutBor.{MutBor}
+use Rattle.op_batch.specs.declared.record_mut.RecordMut.{RecordMut}
+
+pub one_low : (r : MutBor (List ℕ)) (b : ℕ) (l m : b < 2 ^ 20) → ◌≡◌ {A = RecordMut} (record { records = r; b = b; low = l }) (record { records = r; b = b; low = m })
+one_low r b l m = λ i. record { records = r; b = b; low = le_prop l m i }

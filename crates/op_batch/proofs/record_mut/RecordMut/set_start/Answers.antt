@@ -1,0 +1,7 @@
+use Rattle.op_batch.specs.Stores.{start_set}
+use Rattle.op_batch.proofs.Stored.{one_low}
+use Rattle.op_batch.proofs.record_mut.RecordMut.set_start.Goals as goal
+
+pub returns : goal.returns
+unfolding start_set
+returns c = rw c.store.ensures (one_low _ _ _ _)
