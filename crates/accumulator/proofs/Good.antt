@@ -9,6 +9,8 @@ use native.Mathlib.Numerals.{add-one}
 use lib.Dec.{leb, ltb, eqb}
 use borrow.Author.Tests.{ltb-true, leb-true, leb-false, eqb-true, le-leb, lt-leb, le-ltb, lt-ltb}
 use Rattle.rules.specs.Batching.{target}
+use Rattle.op_batch.specs.declared.record_mut.RecordMut.{RecordMut}
+use Rattle.op_batch.specs.RecordMut.{stored}
 use Rattle.accumulator.specs.declared.OpBatchAccumulator.{OpBatchAccumulator}
 use Rattle.accumulator.specs.Good.{record_groups, Good}
 use Rattle.accumulator.specs.Model.{new_acc, fits_in, pads, pad_of, closed_run, turned_acc, slotted_acc, slotted_run, joined_acc, crosses, ready_acc, ready_run, added_acc, added_run, filled_acc, filled_run, last_acc, ended_total}
@@ -138,6 +140,11 @@ added_good c true a hc g f =
 added_good c false a hc g f =
     let r = ready false a g f in
     joined_good c false (ready_acc false a) hc r.good r.here
+
+-- ---- what stores come to, by what they make of the run
+
+pub stored_same : (x : RecordMut) {xs ys : List ℕ} → xs ≡ ys → stored (λ _. xs) x ≡ stored (λ _. ys) x
+stored_same x e = ap (λ (l : List ℕ). stored (λ _. l) x) e
 
 -- ---- adding, where the code knows whether there is an immediate
 

@@ -6,8 +6,11 @@
 
 ghost use Rattle.std.specs.Prelude.{◌≡◌, true, ◌+◌, ◌*◌, ◌≤◌, ◌<◌, ◌^◌};
 ghost use Rattle.rules.specs.Batching.{target};
+ghost use Rattle.op_batch.specs.RecordMut.{stored};
 ghost use Rattle.accumulator.specs.Good.{record_groups, Good};
 ghost use Rattle.accumulator.specs.Model.{new_acc, fits_in, pad_of, closed_run, opened_acc, turned_acc, slotted_acc, slotted_run, joined_acc, crosses, ready_acc, ready_run, added_acc, added_run, ended_total, ended_run};
+
+use op_batch::RecordMut;
 
 // operations in a group
 pub const GROUP_SIZE: usize = 9;
@@ -15,6 +18,7 @@ pub const GROUP_SIZE: usize = 9;
 // groups that a record has room for, whatever the width
 pub const RECORD_GROUPS: usize = 8;
 
+// `Good` is no invariant of the type: `can_accept_op`, `full`, `padding` and `slot` ask less of it, and an `impl Model` would ask `Good` there too.
 #[derive(Clone, Copy, Debug, PartialEq, Eq)]
 pub struct OpBatchAccumulator {
     // the current group, and the next free one
@@ -58,63 +62,60 @@ impl OpBatchAccumulator {
         }
     }
 
-    // Adds an operation to the b-th batch, whose record has room for it.
-    pub fn add_op(self, code: u8, imm: bool, v: u64, b: usize, records: &mut [u8]) -> Self
+    // Adds an operation to the batch, whose record has room for it.
+    pub fn add_op(self, code: u8, imm: bool, v: u64, out: &mut RecordMut<'_>) -> Self
         requires good { Good record_groups self }
         requires fits { fits_in record_groups imm self ≡ true }
-        requires code_bound { (code < 128) × (b < 2 ^ 20) }
+        requires code_bound { code < 128 }
         ensures acc { result ≡ added_acc code imm self }
-        ensures run { records.new ≡ added_run imm v b self records.old }
+        ensures run { out.new ≡ stored (added_run imm v out.old.b self) out.old }
     {
-        let a = self.advance(imm, b, records);
+        let a = self.advance(imm, out);
         if imm {
-            a.place_imm(v, b, records).push_op(code, imm)
+            a.place_imm(v, out).push_op(code, imm)
         } else {
             a.push_op(code, imm)
         }
     }
 
     // Ends the batch: its record is whole, and its operations are returned.
-    pub fn into_batch(self, b: usize, records: &mut [u8]) -> u8
+    pub fn into_batch(self, out: &mut RecordMut<'_>) -> u8
         requires good { Good record_groups self }
-        requires b_bound { b < 2 ^ 20 }
         ensures total { result ≡ ended_total self }
-        ensures run { records.new ≡ ended_run b self records.old }
+        ensures run { out.new ≡ stored (ended_run out.old.b self) out.old }
     {
         let count = target_num_groups(self.next);
         let mut a = self;
         for _ in self.next..count {
-            a = a.finalize_op_group(b, records);
+            a = a.finalize_op_group(out);
         }
-        let total = a.close(b, records);
-        op_batch::set_count(records, b, count as u8);
+        let total = a.close(out);
+        out.set_count(count as u8);
         total
     }
 
     // Closes the current group and opens the next free one.
-    fn finalize_op_group(self, b: usize, records: &mut [u8]) -> Self
+    fn finalize_op_group(self, out: &mut RecordMut<'_>) -> Self
         requires good { Good record_groups self }
-        requires b_bound { b < 2 ^ 20 }
         ensures acc { result ≡ turned_acc self }
-        ensures run { records.new ≡ closed_run b self records.old }
+        ensures run { out.new ≡ stored (closed_run out.old.b self) out.old }
     {
-        let total = self.close(b, records);
+        let total = self.close(out);
         self.opened(total)
     }
 
     // Writes what the record says of the current group, and returns the batch's operations with its Noop. All later starts are the total
     // so far: the starts of the group's immediates, of the next group, and those that repeat the total if no group follows.
-    fn close(self, b: usize, records: &mut [u8]) -> u8
+    fn close(self, out: &mut RecordMut<'_>) -> u8
         requires good { Good record_groups self }
-        requires b_bound { b < 2 ^ 20 }
         ensures total { result ≡ self.total + pad_of self }
-        ensures run { records.new ≡ closed_run b self records.old }
+        ensures run { out.new ≡ stored (closed_run out.old.b self) out.old }
     {
         let pad = self.padding();
         let total = self.total + pad;
-        op_batch::set_starts(records, b, self.cur + 1, total);
-        op_batch::set_flag(records, b, self.cur, pad);
-        op_batch::set_number(records, b, self.cur, self.number);
+        out.set_starts(self.cur + 1, total);
+        out.set_flag(self.cur, pad);
+        out.set_number(self.cur, self.number);
         total
     }
 
@@ -182,26 +183,25 @@ impl OpBatchAccumulator {
         GROUP_SIZE - usize::from(imm) <= self.inside
     }
 
-    fn advance(self, imm: bool, b: usize, records: &mut [u8]) -> Self
+    fn advance(self, imm: bool, out: &mut RecordMut<'_>) -> Self
         requires good { Good record_groups self }
-        requires b_bound { b < 2 ^ 20 }
         ensures acc { result ≡ ready_acc imm self }
-        ensures run { records.new ≡ ready_run imm b self records.old }
+        ensures run { out.new ≡ stored (ready_run imm out.old.b self) out.old }
     {
         if self.full(imm) {
-            self.finalize_op_group(b, records)
+            self.finalize_op_group(out)
         } else {
             self
         }
     }
 
     // An immediate takes the next free group.
-    fn place_imm(self, v: u64, b: usize, records: &mut [u8]) -> Self
-        requires { (self.next < record_groups) × (b < 2 ^ 20) }
+    fn place_imm(self, v: u64, out: &mut RecordMut<'_>) -> Self
+        requires { self.next < record_groups }
         ensures acc { result ≡ slotted_acc self }
-        ensures run { records.new ≡ slotted_run v b self records.old }
+        ensures run { out.new ≡ stored (slotted_run v out.old.b self) out.old }
     {
-        op_batch::set_number(records, b, self.next, v);
+        out.set_number(self.next, v);
         self.slot()
     }
 }
