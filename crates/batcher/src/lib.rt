@@ -11,6 +11,7 @@ ghost use Rattle.batcher.specs.Batched.{listed, Batched};
 ghost use Rattle.batcher.specs.Model.{ended_work, ended_work_run, room_work, room_run, stepped_work, stepped_run, last_place, kept_run, last_imm, taken_work, Joins};
 
 use accumulator::OpBatchAccumulator;
+use op_batch::RecordMut;
 use refusal::Refusal;
 
 // A list to batch: at most 16,384 operations, their table, and how many groups a batch may have.
@@ -49,7 +50,11 @@ impl Work {
         ensures work { result ≡ ended_work self }
         ensures run { records.new ≡ ended_work_run self records.old }
     {
-        let total = self.acc.into_batch(self.batches, records);
+        let mut out = RecordMut {
+            records,
+            b: self.batches,
+        };
+        let total = self.acc.into_batch(&mut out);
         Work {
             acc: OpBatchAccumulator::new(),
             base: self.base + total as usize,
@@ -90,7 +95,11 @@ impl Work {
         ensures run { records.new ≡ stepped_run width imm v self records.old }
     {
         let r = self.make_room(width, imm, records);
-        let acc = r.acc.add_op(code, imm, v, r.batches, records);
+        let mut out = RecordMut {
+            records,
+            b: r.batches,
+        };
+        let acc = r.acc.add_op(code, imm, v, &mut out);
         let at = r.base + acc.total as usize - 1;
         word::store(codes, at, code);
         word::store(values, at, v);
@@ -143,9 +152,9 @@ impl Input<'_> {
         if 128 <= code {
             return None;
         }
+        // a number and no `Kind`: how many slots the operation takes, and the factor that gives its greatest value where `value_right` has a branch
         let kind = self.table[code as usize];
         let k = kind as usize;
-        // the greatest value, 0 for kind 0 and below the field's size for kind 1, by a product where `value_right` has a branch
         if 1 < kind || u64::from(kind) * (operation::FIELD - 1) < v {
             return None;
         }
@@ -171,7 +180,8 @@ impl Input<'_> {
         if n == 0 {
             before
         } else {
-            self.table[self.codes[i + n - 1] as usize] == 1
+            let table = self.table;
+            operation::has_immediate(table, self.codes[i + n - 1])
         }
     }
 
@@ -255,13 +265,14 @@ impl Input<'_> {
             base: 0,
             batches: 0,
         };
+        let table = self.table;
         let mut i = 0;
         // no `for`: a turn goes on by as many operations as have joined
         while i < self.codes.len() {
             let code = self.codes[i];
             let v = self.values[i];
-            operation::fault(self.table, code, v, i)?;
-            let imm = self.table[code as usize] == 1;
+            operation::fault(table, code, v, i)?;
+            let imm = operation::has_immediate(table, code);
             let s = work.step(self.width, code, imm, v, codes, values, records);
             let t = self.join_ops(s, i + 1, codes, values, records);
             work = t.work;

@@ -7,9 +7,9 @@
 //   codes, values and records each: how many are lent (of records the bytes), how many are listed, those; the rest are 0
 #![tactic(auto)]
 
-ghost use Rattle.std.specs.Prelude.{◌≤◌, ◌<◌};
+ghost use Rattle.std.specs.Prelude.{◌≤◌};
 
-use op_batch::{Place, RECORD, RecordAt};
+use op_batch::{Place, RECORD, RecordAt, RecordMut};
 use prefix::{PaddedIndex, RawIndex};
 use refusal::Refusal;
 use std::io;
@@ -71,19 +71,17 @@ impl Numbers<'_> {
     }
 
     // Nine starts, eight flags, eight numbers and the count.
-    fn record(&mut self, records: &mut [u8], b: usize)
-        requires { b < 1000 }
-    {
+    fn record(&mut self, out: &mut RecordMut<'_>) {
         for g in 0..9 {
-            op_batch::set_start(records, b, g, self.byte());
+            out.set_start(g, self.byte());
         }
         for g in 0..8 {
-            op_batch::set_flag(records, b, g, self.byte());
+            out.set_flag(g, self.byte());
         }
         for g in 0..8 {
-            op_batch::set_number(records, b, g, self.next());
+            out.set_number(g, self.next());
         }
-        op_batch::set_count(records, b, self.byte());
+        out.set_count(self.byte());
     }
 
     fn records<'b>(&mut self, room: &'b mut [u8]) -> &'b [u8] {
@@ -91,7 +89,7 @@ impl Numbers<'_> {
         let listed = self.at_most(1000);
         room.fill(0);
         for b in 0..listed {
-            self.record(room, b);
+            self.record(&mut RecordMut { records: room, b });
         }
         &room[..lent]
     }

@@ -1,6 +1,7 @@
 use native.Mathlib.Omega.{arith}
+use lib.ListN.{get_or}
 use Rattle.rules.specs.Functions.{arena}
-use Rattle.rules.proofs.Operations.{admitted}
+use Rattle.rules.proofs.Operations.{kind_at, admitted}
 use Rattle.refusal.proofs.Told.{handed}
 use Rattle.operation.proofs.Faults.{faultless}
 use Rattle.batcher.proofs.InHand.{going_start, going_good, going_turn, going_here, going_end, going_fault}
@@ -12,8 +13,8 @@ loop-i-init c = rw c.new.ensures (omega arith, going_start _ c.args.self.wide.0 
 pub returns-in_err-fault : goal.returns-in_err-fault
 returns-in_err-fault c = going_fault c.loop-i.invariant.1 c.loop-i-test.true (omega (arith, c.args.self.even)) _ _ c.in_err-fault.ensures _ (handed _ _ c.from_residual.ensures.1)
 
-pub bounds-self-code : goal.bounds-self-code
-bounds-self-code c = (admitted _ _ (faultless _ _ c.in_ok-fault.ensures)).code
+pub has_immediate-imm-requires : goal.has_immediate-imm-requires
+has_immediate-imm-requires c = omega (arith, (admitted _ _ (faultless _ _ c.in_ok-fault.ensures)).code, c.args.self.whole)
 
 pub step-s-requires : goal.step-s-requires
 step-s-requires c =
@@ -22,7 +23,8 @@ step-s-requires c =
 pub join_ops-t-requires : goal.join_ops-t-requires
 join_ops-t-requires c =
     let p = c.args.self.wide in
-    let e = c.step-s.ensures in record { place = omega arith; going = going_here (going_turn c.loop-i.invariant.1 p.0 p.1 c.loop-i-test.true (omega (arith, c.args.self.even)) c.args.self.whole (faultless _ _ c.in_ok-fault.ensures) e.work (λ j. arena (e.codes j) (e.values j) (e.run j))) }
+    let k = kind_at c.args.self.table.now (get_or c.args.self.codes.now c.loop-i.i 0) (omega (arith, (admitted _ _ (faultless _ _ c.in_ok-fault.ensures)).code, c.args.self.whole)) in
+    let e = rw (c.has_immediate-imm.ensures, k) at c.step-s.ensures in record { place = omega arith; going = going_here (going_turn c.loop-i.invariant.1 p.0 p.1 c.loop-i-test.true (omega (arith, c.args.self.even)) c.args.self.whole (faultless _ _ c.in_ok-fault.ensures) e.work (λ j. arena (e.codes j) (e.values j) (e.run j))) }
 
 pub returns : goal.returns
 returns c =

@@ -1,5 +1,7 @@
 use mathlib.Core.Path.{◌∙◌}
 use native.Mathlib.Omega.{arith}
+use Rattle.std.proofs.Common.{rules}
+use Rattle.op_batch.proofs.Stored.{given_back}
 use Rattle.accumulator.specs.Good.{record_groups}
 use Rattle.batcher.specs.Model.{room_work, stepped_work, stepped_run}
 use Rattle.accumulator.proofs.Good.{good_wider, fits_wider}
@@ -13,7 +15,7 @@ pub add_op-acc-requires : goal.add_op-acc-requires
 add_op-acc-requires c =
     let r = roomy c.args.width c.args.imm c.args.self c.requires.width_in_bounds.0 c.requires.width_in_bounds.1 c.requires.width_in_bounds.2 in
     let q = room_work c.args.width c.args.imm c.args.self in
-    rw c.make_room-r.ensures.work (record { good = good_wider q.acc c.requires.width_in_bounds.1 r.good; fits = fits_wider c.args.width record_groups c.args.imm q.acc c.requires.width_in_bounds.1 r.fits; code_bound = (c.requires.base_bound.2, omega (arith, r.batches, c.requires.base_bound)) })
+    rw c.make_room-r.ensures.work (record { good = good_wider q.acc c.requires.width_in_bounds.1 r.good; fits = fits_wider c.args.width record_groups c.args.imm q.acc c.requires.width_in_bounds.1 r.fits; code_bound = c.requires.base_bound.2 })
 
 pub overflow_add-at : goal.overflow_add-at
 overflow_add-at c =
@@ -30,4 +32,10 @@ pub returns : goal.returns
 unfolding stepped_work stepped_run
 returns c =
     let m = c.make_room-r.ensures in
-    let e = c.add_op-acc.ensures in record { work = rw (e.acc, m.work); codes = c.store.ensures ∙ rw (e.acc, m.work); values = c.store-2.ensures ∙ rw (e.acc, m.work); run = e.run ∙ rw (m.work, m.run) }
+    let e = c.add_op-acc.ensures in record { work = rw (e.acc, m.work); codes = c.store.ensures ∙ rw (e.acc, m.work); values = c.store-2.ensures ∙ rw (e.acc, m.work); run = rw (← m.work, ← m.run) (search (rules, given_back e.run)) }
+
+pub invariant_of-out : goal.invariant_of-out
+invariant_of-out c =
+    let q = c.requires.width_in_bounds in
+    let r = roomy c.args.width c.args.imm c.args.self q.0 q.1 q.2 in
+    rw c.make_room-r.ensures.work (record { low = omega (arith, r.batches, c.requires.base_bound) })
