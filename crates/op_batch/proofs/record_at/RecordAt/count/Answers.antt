@@ -1,5 +1,5 @@
-use Rattle.std.proofs.Common.{◌+◌, ◌*◌, arith}
-use Rattle.rules.specs.Record.{record_at, record_size, count_place}
+use Rattle.std.proofs.Common.{arith}
+use Rattle.rules.specs.Record.{record_at}
 use Rattle.op_batch.proofs.record_at.RecordAt.count.Goals as goal
 
 pub returns : goal.returns

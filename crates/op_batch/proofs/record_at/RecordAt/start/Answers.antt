@@ -1,5 +1,4 @@
-use Rattle.std.proofs.Common.{◌+◌, ◌*◌, ◌∙◌, sym, arith}
-use Rattle.rules.specs.Record.{record_size}
+use Rattle.std.proofs.Common.{◌∙◌, sym, arith}
 use Rattle.op_batch.proofs.Right.{start_at}
 use Rattle.op_batch.proofs.record_at.RecordAt.start.Goals as goal
 
