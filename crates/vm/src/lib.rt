@@ -27,7 +27,7 @@ pub fn kind(code: u8) -> Kind
     ensures { result ≡ kind_named (kind_of kinds code) }
 {
     if code < 128 {
-        Kind::from(KINDS[usize::from(code)])
+        Kind::from(table()[usize::from(code)])
     } else {
         Kind::Unassigned
     }
