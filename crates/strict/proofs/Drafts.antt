@@ -99,11 +99,6 @@ with_room true a r = (omega (arith, r.here), r.slot)
 with_room false a r = (omega (arith, r.here), r.slot)
 
 module _ {w : ℕ} (imm : Bool) (d : Draft) (f : Fine w d) (fits : fits_in w imm d.acc ≡ true) where
-  -- where the group must close, there is a next one
-  pub next_free : crosses imm d.acc ≡ true → d.acc.next < w
-  unfolding ready_acc
-  next_free h = let r = rw h at (ready imm d.acc f.good fits).good.high in omega (arith, r, turned_next d.acc)
-
   ready_fine : Fine w (ready_draft imm d)
   unfolding ready_draft ready_acc
   ready_fine = go (crosses imm d.acc) (ready imm d.acc f.good fits).good.high

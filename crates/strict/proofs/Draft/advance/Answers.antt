@@ -1,10 +1,7 @@
 use mathlib.Core.Path.{◌≡◌, sym, ◌∙◌}
 use Rattle.strict.specs.Draft.{ready_draft}
-use Rattle.strict.proofs.Drafts.{next_free, ready_joins}
+use Rattle.strict.proofs.Drafts.{ready_joins}
 use Rattle.strict.proofs.Draft.advance.Goals as goal
-
-pub close-requires : goal.close-requires
-close-requires c = rw (← c.self.view_is) (next_free c.args.imm _ c.self.invariant (rw (← c.self.view_is) at c.requires) (sym c.full.ensures ∙ c.if-full.true))
 
 pub returns-then-full : goal.returns-then-full
 unfolding ready_draft

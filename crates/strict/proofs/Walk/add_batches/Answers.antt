@@ -1,4 +1,4 @@
-use mathlib.Core.Path.{refl, sym, ap, ◌∙◌}
+use mathlib.Core.Path.{sym, ap, ◌∙◌}
 use mathlib.Core.List.{List}
 use Prim.Native.Nat.{ℕ}
 use native.Mathlib.Nat.{sub-zero}
@@ -13,9 +13,6 @@ use Rattle.strict.proofs.Records.{laid_at}
 use Rattle.strict.proofs.Works.{fed_append, fed_raw}
 use Rattle.strict.proofs.Batches.{part_length, unmarked_few, behind, behind_turn, behind_end, sum_turn, sum_end}
 use Rattle.strict.proofs.Walk.add_batches.Goals as goal
-
-pub loop-b-init : goal.loop-b-init
-loop-b-init c = rw (c.new.ensures, sub-zero) (omega (arith, c.args.self.now.judged.sum), omega arith, refl)
 
 pub add_batch-w-requires : goal.add_batch-w-requires
 add_batch-w-requires c =

@@ -6,9 +6,6 @@ use Rattle.strict.proofs.Drafts.{join_is, join_fits}
 use Rattle.strict.proofs.Works.{room_fits, room_raw, joins_says, joined_step}
 use Rattle.strict.proofs.Walk.step.Goals as goal
 
-pub has_immediate-imm-requires : goal.has_immediate-imm-requires
-has_immediate-imm-requires c = omega (arith, c.args.self.now.judged.apt.table, c.requires.0)
-
 pub add-requires : goal.add-requires
 add-requires c =
     let b = c.args.self.now in
