@@ -49,7 +49,7 @@ impl Ops<'_> {
         let table = self.table;
         let mut left = deltas;
         let mut next = slot;
-        for (i, code) in self.codes.iter().enumerate() {
+        for (code, value) in self.codes.iter().zip(self.values.iter()) {
             if !operation::has_immediate(table, *code) {
                 continue;
             }
@@ -59,7 +59,7 @@ impl Ops<'_> {
             if left % 16 != 0 {
                 return Err(Refusal::SlotTaken { batch: b });
             }
-            groups[next] = self.values[i];
+            groups[next] = *value;
             left /= 16;
             next += 1;
         }
