@@ -4,6 +4,7 @@
 #![tactic(auto)]
 
 use build::Totals;
+use checks::Arena;
 use console::{Page, Text, quote, quote_name};
 use listing::{After, Block, Runs};
 use operation::Kind;
@@ -324,7 +325,12 @@ fn batch(
         &mut room.records,
     )?;
     let runs = built(made, &room).ok_or(Refusal::NoRoom)?;
-    let used = encoder::encode(&table, runs.codes, runs.values, runs.records, bytes, 0)?;
+    let arena = Arena {
+        codes: runs.codes,
+        values: runs.values,
+        records: runs.records,
+    };
+    let used = encoder::encode(&table, arena, bytes, 0)?;
     let bytes = bytes.get(..used).ok_or(Refusal::NoRoom)?;
     answer(rt, file, runs, made.batches, bytes);
     Ok(())

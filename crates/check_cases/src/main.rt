@@ -9,6 +9,7 @@
 
 ghost use Rattle.std.specs.Prelude.{◌≤◌};
 
+use checks::Arena;
 use op_batch::{Place, RECORD, RecordAt, RecordMut};
 use prefix::{PaddedIndex, RawIndex};
 use refusal::Refusal;
@@ -144,30 +145,28 @@ fn show_number(rt: HostRuntime, reply: Result<Option<usize>, Refusal>) -> io::Re
 #[derive(Clone, Copy)]
 struct Lent<'a> {
     table: &'a [u8],
-    codes: &'a [u8],
-    values: &'a [u64],
-    records: &'a [u8],
+    arena: Arena<'a>,
 }
 
 fn run(rt: HostRuntime, what: u64, argument: usize, lent: Lent) -> io::Result<()> {
-    let Lent {
-        table,
-        codes,
+    let Lent { table, arena } = lent;
+    let Arena {
         values,
         records,
-    } = lent;
+        ..
+    } = arena;
     let mut room = [7; 16];
     let out = &mut room[..argument.min(16)];
     match what {
-        0 => show_check(rt, checks::structure(codes, values, records)),
-        1 => show_check(rt, checks::padding(codes, values, records)),
-        2 => show_check(rt, commitment::commitment(table, codes, values, records)),
+        0 => show_check(rt, arena.structure()),
+        1 => show_check(rt, arena.padding()),
+        2 => show_check(rt, commitment::commitment(table, arena)),
         3 => {
-            let reply = prefix::raw_to_padded(codes, values, records, out);
+            let reply = prefix::raw_to_padded(arena, out);
             show_table(rt, reply, out)
         }
         4 => {
-            let reply = prefix::padded_to_raw(codes, values, records, out);
+            let reply = prefix::padded_to_raw(arena, out);
             show_table(rt, reply, out)
         }
         5 | 6 if records.len() < RECORD => Ok(()),
@@ -202,9 +201,11 @@ fn cases(rt: HostRuntime, text: &[u8]) -> io::Result<()> {
         let argument = numbers.next() as usize;
         let lent = Lent {
             table: numbers.table(&mut table),
-            codes: numbers.list(&mut codes, |n| (n % 256) as u8),
-            values: numbers.list(&mut values, |n| n),
-            records: numbers.records(&mut records),
+            arena: Arena {
+                codes: numbers.list(&mut codes, |n| (n % 256) as u8),
+                values: numbers.list(&mut values, |n| n),
+                records: numbers.records(&mut records),
+            },
         };
         run(rt, what, argument, lent)?;
     }

@@ -25,12 +25,12 @@ use Rattle.commitment.specs.declared.Batch.{Batch}
 use Rattle.commitment.specs.View.{arena_of, record_of, ops_of}
 
 -- what a batch's record and operations are known to be
-pub batch_lies : (k : Batch) → Lying (record_of k) k.block.codes.now k.block.values.now k.from
+pub batch_lies : (k : Batch) → Lying (record_of k) k.block.arena.codes.now k.block.arena.values.now k.from
 batch_lies k =
-    let c = checked 8 k.block.codes.now k.block.values.now k.block.records.now k.block.structure in
+    let c = checked 8 k.block.arena.codes.now k.block.arena.values.now k.block.arena.records.now k.block.structure in
     record {
-      laid = laid k.block.records.now k.b (record { width = 8; room = omega arith; right = c.1.right k.b k.within });
-      equal = equal_lengths k.block.codes.now k.block.values.now k.block.records.now c.0;
+      laid = laid k.block.arena.records.now k.b (record { width = 8; room = omega arith; right = c.1.right k.b k.within });
+      equal = equal_lengths k.block.arena.codes.now k.block.arena.values.now k.block.arena.records.now c.0;
       inside = k.inside;
     }
 
@@ -56,11 +56,11 @@ span_length cs vs i to e h =
 
 -- where the g-th group lies, by the two starts
 pub group_bounds : (k : Batch) (g : ℕ) → g < 8 → (start end : ℕ) → start ≡ get_or (record_of k).starts g 0 → end ≡ get_or (record_of k).starts (g + 1) 0
-    → (start ≤ end) × (end ≤ start + 9) × (k.from + end ≤ length k.block.codes.now) × (length k.block.codes.now ≡ length k.block.values.now) × (length k.block.codes.now ≤ 65535)
+    → (start ≤ end) × (end ≤ start + 9) × (k.from + end ≤ length k.block.arena.codes.now) × (length k.block.arena.codes.now ≡ length k.block.arena.values.now) × (length k.block.arena.codes.now ≤ 65535)
 group_bounds k g h start end a z =
     let x = batch_lies k in
-    let c = checked 8 k.block.codes.now k.block.values.now k.block.records.now k.block.structure in
-    omega (arith, x.equal, few_codes k.block.codes.now k.block.values.now k.block.records.now c.0, rise x.laid.width (record_of k) x.laid.sound x.laid.starts g h, within_codes (record_of k) k.block.codes.now k.block.values.now k.from x (g + 1) (omega arith))
+    let c = checked 8 k.block.arena.codes.now k.block.arena.values.now k.block.arena.records.now k.block.structure in
+    omega (arith, x.equal, few_codes k.block.arena.codes.now k.block.arena.values.now k.block.arena.records.now c.0, rise x.laid.width (record_of k) x.laid.sound x.laid.starts g h, within_codes (record_of k) k.block.arena.codes.now k.block.arena.values.now k.from x (g + 1) (omega arith))
 
 -- ---- slots for immediates: the groups under the count from the j-th on
 
@@ -201,12 +201,12 @@ module _ (t : List ℕ) (k : Batch) where
   -- one of its groups'
   pub fault_at : (n : ℕ) → n ≡ all_groups → (n ≡ 0 → ⊥) → fault ≡ n
   unfolding commitment_fault
-  fault_at n e f = rw (sym (groups_begin t (record_of k) k.block.codes.now k.block.values.now k.from (batch_lies k)) ∙ sym e) (first_fault n _ f)
+  fault_at n e f = rw (sym (groups_begin t (record_of k) k.block.arena.codes.now k.block.arena.values.now k.from (batch_lies k)) ∙ sym e) (first_fault n _ f)
 
   -- or that of its empty groups
   pub fault_last : all_groups ≡ 0 → (b : Bool) → b ≡ empty_zero t 0 (under_count (held_at (arena_of k) k.b k.from)) (record_of k).numbers → fault ≡ cond b 0 16
   unfolding commitment_fault
-  fault_last e b d = rw (sym (groups_begin t (record_of k) k.block.codes.now k.block.values.now k.from (batch_lies k)) ∙ e, ← d)
+  fault_last e b d = rw (sym (groups_begin t (record_of k) k.block.arena.codes.now k.block.arena.values.now k.from (batch_lies k)) ∙ e, ← d)
 
 -- the opcodes of a group, which have a kind each
 pub apt_group : (cs vs gs ws t : List ℕ) (i to : ℕ) → length cs ≡ length vs → Apt t cs → operations gs ws ≡ span (operations cs vs) i to → length gs ≡ length ws → (j : ℕ) → j < length gs → get_or gs j 0 < 128

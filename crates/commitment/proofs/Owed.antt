@@ -96,12 +96,12 @@ module _ (t : List ℕ) (r : Record) (cs vs : List ℕ) (from : ℕ) (x : Lying 
             scan = w.scan ∙ o.scan;
           }
 
-pub gone_all : (t : List ℕ) (k : Batch) (held g : ℕ) → g ≡ (record_of k).count → held ≤ g → Gone t (record_of k) k.block.codes.now k.block.values.now k.from held g → BatchRight t (arena_of k) k.b k.from
+pub gone_all : (t : List ℕ) (k : Batch) (held g : ℕ) → g ≡ (record_of k).count → held ≤ g → Gone t (record_of k) k.block.arena.codes.now k.block.arena.values.now k.from held g → BatchRight t (arena_of k) k.b k.from
 gone_all t k held g e h o =
     let x = batch_lies k in
     let r = record_of k in
-    let cs = k.block.codes.now in
-    let vs = k.block.values.now in
+    let cs = k.block.arena.codes.now in
+    let vs = k.block.arena.values.now in
     let done = sym o.groups ∙ free t r cs vs k.from x held g h ∙ groups_done t r cs vs k.from x g (omega arith) in
     let clear = sym o.empty ∙ empty_done t r cs vs k.from x g (held - g) (omega arith) in
     record {

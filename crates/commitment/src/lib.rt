@@ -7,13 +7,16 @@ ghost use Rattle.rules.specs.Answer.{good, refuse_first};
 ghost use Rattle.rules.specs.Operations.{operations, kind_of};
 ghost use Rattle.rules.specs.Record.{record_size, record_at, codes_number, immediates};
 ghost use Rattle.rules.specs.Checks.{ninth, under_count, placing_fault, begins, empty_zero, commitment_fault, commitment_faults};
-ghost use Rattle.rules.specs.Functions.{arena, block_in, structure_checked, commitment_checked};
+ghost use Rattle.rules.specs.Functions.{block_in, structure_checked, commitment_checked};
 ghost use Rattle.refusal.specs.Told.{told};
 ghost use Rattle.operation.specs.Verdict.{one_fault};
+ghost use Rattle.checks.specs.Arena.{lying};
 ghost use Rattle.checks.specs.Batch.{held_at, Apt, under};
 ghost use Rattle.commitment.specs.Walk.{slot_after, slots_after, AllRight, BatchRight};
 
+use checks::Arena;
 use op_batch::{RECORD, RecordAt, WIDTH};
+use operation::{FIELD, Kind};
 use refusal::Refusal;
 
 // ---- the operations of a group
@@ -22,7 +25,9 @@ use refusal::Refusal;
 fn placed(table: &[u8; 128], code: u8) -> bool
     ensures { result ≡ nat_eq (kind_of table.now code) 1 }
 {
-    table.get(code as usize) == Some(&1)
+    table
+        .get(code as usize)
+        .is_some_and(|&kind| Kind::from(kind) == Kind::Placed)
 }
 
 #[derive(Clone, Copy)]
@@ -60,11 +65,9 @@ impl<'a> Group<'a> {
 #[derive(Clone, Copy)]
 struct Block<'a> {
     table: &'a [u8; 128],
-    codes: &'a [u8],
-    values: &'a [u64],
-    records: &'a [u8],
+    arena: Arena<'a>,
     ghost known: { length table.now ≡ 128 },
-    ghost structure: { structure_checked 8 (arena codes.now values.now records.now) ≡ good tt },
+    ghost structure: { structure_checked 8 (lying arena) ≡ good tt },
 }
 
 #[derive(Clone, Copy)]
@@ -72,8 +75,8 @@ struct Batch<'a> {
     block: Block<'a>,
     b: usize,
     from: usize,
-    ghost within: { b < length block.records.now / record_size },
-    ghost inside: { from + ninth (record_at block.records.now b) ≤ length block.codes.now },
+    ghost within: { b < length block.arena.records.now / record_size },
+    ghost inside: { from + ninth (record_at block.arena.records.now b) ≤ length block.arena.codes.now },
 }
 
 // What a walk over a group's operations found: their number, and the group after those that hold their immediates.
@@ -90,7 +93,7 @@ impl<'a> Batch<'a> {
     fn len(self) -> usize
         ensures { result ≡ ninth (record_of self.entry) }
     {
-        let records = self.block.records;
+        let records = self.block.arena.records;
         RecordAt { records, b: self.b }.start(8)
     }
 
@@ -98,7 +101,7 @@ impl<'a> Batch<'a> {
     fn count(self) -> usize
         ensures { (result ≡ (record_of self.entry).count) × (result ≤ 8) }
     {
-        let records = self.block.records;
+        let records = self.block.arena.records;
         RecordAt { records, b: self.b }.count()
     }
 
@@ -106,7 +109,7 @@ impl<'a> Batch<'a> {
         requires { g < 8 }
         ensures { result ≡ slice_index (record_of self.entry).numbers g }
     {
-        let records = self.block.records;
+        let records = self.block.arena.records;
         RecordAt { records, b: self.b }.number(g)
     }
 
@@ -116,13 +119,13 @@ impl<'a> Batch<'a> {
         requires { g < 8 }
         ensures { ops_in result ≡ group_of self.entry g }
     {
-        let records = self.block.records;
+        let records = self.block.arena.records;
         let stored = RecordAt { records, b: self.b };
         let start = self.from + stored.start(g);
         let end = self.from + stored.start(g + 1);
         Group {
-            codes: &self.block.codes[start..end],
-            values: &self.block.values[start..end],
+            codes: &self.block.arena.codes[start..end],
+            values: &self.block.arena.values[start..end],
         }
     }
 
@@ -183,7 +186,7 @@ impl<'a> Batch<'a> {
 
     // Group by group: number right, immediates placed, their values right; last, empty groups.
     fn fault(self) -> Result<(), Refusal>
-        requires { Apt self.block.table.now self.block.codes.now }
+        requires { Apt self.block.table.now self.block.arena.codes.now }
         ensures { told result ≡ one_fault (commitment_fault self.entry.block.table.now (held_at (arena_of self.entry) self.entry.b self.entry.from)) self.entry.b }
     {
         for g in 0..self.count() {
@@ -216,10 +219,10 @@ impl<'a> Batch<'a> {
         ensures value { result ≡ slot_after kind v (record_of self.entry).numbers j }
         ensures low { IfSome result (λ k. k ≤ 8) }
     {
-        match kind {
-            0 if v == 0 => Some(j),
-            1 if v < operation::FIELD && j < 8 && self.number(j) == v => Some(j + 1),
-            2 if v < operation::FIELD => Some(j),
+        match Kind::from(kind) {
+            Kind::Plain if v == 0 => Some(j),
+            Kind::Placed if v < FIELD && j < 8 && self.number(j) == v => Some(j + 1),
+            Kind::Carried if v < FIELD => Some(j),
             _ => None,
         }
     }
@@ -279,11 +282,11 @@ impl<'a> Batch<'a> {
 impl<'a> Block<'a> {
     // The first batch with a fault, where the table has a kind for each opcode.
     fn first_fault(self) -> Result<(), Refusal>
-        requires { Apt self.table.now self.codes.now }
-        ensures { told result ≡ refuse_first 0 (commitment_faults self.entry.table.now (block_in (arena self.entry.codes.now self.entry.values.now self.entry.records.now))) (good tt) }
+        requires { Apt self.table.now self.arena.codes.now }
+        ensures { told result ≡ refuse_first 0 (commitment_faults self.entry.table.now (block_in (lying self.entry.arena))) (good tt) }
     {
         let mut from: usize = 0;
-        for b in 0..self.records.len() / RECORD {
+        for b in 0..self.arena.records.len() / RECORD {
             let batch = Batch {
                 block: self,
                 b,
@@ -297,10 +300,10 @@ impl<'a> Block<'a> {
 
     // Whether every operation is admissible and no batch has a fault.
     fn is_right(self) -> bool
-        ensures { result ≡ true → AllRight self.entry.table.now (arena self.entry.codes.now self.entry.values.now self.entry.records.now) }
+        ensures { result ≡ true → AllRight self.entry.table.now (lying self.entry.arena) }
     {
         let mut from: usize = 0;
-        for b in 0..self.records.len() / RECORD {
+        for b in 0..self.arena.records.len() / RECORD {
             let batch = Batch {
                 block: self,
                 b,
@@ -318,24 +321,18 @@ impl<'a> Block<'a> {
 // ---- the check
 
 // Commitment: refusals 3, 14, 15, 4 or 17 (M-101), then batch by batch 16, 8 or 9. Where not all is right, slower walks say what goes first.
-// The runs come one by one, as the C interface lends them.
-pub fn commitment(table: &[u8], codes: &[u8], values: &[u64], records: &[u8]) -> Result<(), Refusal>
-    ensures { told result ≡ commitment_checked 8 table.now (arena codes.now values.now records.now) }
+pub fn commitment(table: &[u8], arena: Arena<'_>) -> Result<(), Refusal>
+    ensures { told result ≡ commitment_checked 8 table.now (lying arena.entry) }
 {
-    if !checks::within(codes, values, records) {
+    if !arena.within() {
         return Err(Refusal::OverLimit);
     }
     let table = operation::checked(table)?;
-    checks::structure_fault(WIDTH, codes, values, records)?;
-    let block = Block {
-        table,
-        codes,
-        values,
-        records,
-    };
+    arena.structure_fault(WIDTH)?;
+    let block = Block { table, arena };
     if block.is_right() {
         return Ok(());
     }
-    operation::first_fault(table, codes, values)?;
+    operation::first_fault(table, arena.codes, arena.values)?;
     block.first_fault()
 }

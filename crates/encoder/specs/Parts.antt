@@ -5,7 +5,8 @@ use Rattle.rules.specs.Refusals.{no_room₁₃}
 use Rattle.rules.specs.Operations.{operations, valued}
 use Rattle.rules.specs.Bytes.{ops_bytes}
 use Rattle.rules.specs.Block.{block_bytes}
-use Rattle.rules.specs.Functions.{arena, block_in}
+use Rattle.rules.specs.Functions.{block_in}
+use Rattle.checks.specs.Arena.{lying}
 use Rattle.encoder.specs.declared.input.Input.{Input}
 
 -- how many bytes an operation with this opcode takes: "1 or 9 per operation"
@@ -18,10 +19,10 @@ ops_size t cs = sum_by (op_size t) cs
 
 -- the bytes of its operations, and of the whole block
 abbrev pub ops_of : Input → List ℕ
-ops_of i = ops_bytes i.table.now (operations i.codes.now i.values.now)
+ops_of i = ops_bytes i.table.now (operations i.arena.codes.now i.arena.values.now)
 
 abbrev pub bytes_of : Input → List ℕ
-bytes_of i = block_bytes i.table.now (block_in (arena i.codes.now i.values.now i.records.now))
+bytes_of i = block_bytes i.table.now (block_in (lying i.arena))
 
 -- what is left of the answer for a buffer of some size once nothing that is looked at first was refused
 abbrev pub left_of : Input → ℕ → ℕ → Answer (List ℕ)

@@ -3,15 +3,15 @@ ghost use Rattle.std.specs.Prelude.{◌≡◌, true, ℕ, ◌/◌, ◌≤◌, �
 ghost use Rattle.rules.specs.Record.{record_size, record_at};
 ghost use Rattle.rules.specs.Checks.{record_right};
 
-// Its table and its lent runs, within the limits, with opcodes that the table knows and records that pass the structure test.
+use checks::Arena;
+
+// Its table and the arena it lies in, within the limits, with opcodes that the table knows and records that pass the structure test.
 #[derive(Clone, Copy)]
 pub struct Input<'a> {
     pub table: &'a [u8; 128],
-    pub codes: &'a [u8],
-    pub values: &'a [u64],
-    pub records: &'a [u8],
-    pub ghost even: { length codes.now ≡ length values.now },
-    pub ghost few: { (length codes.now ≤ 65535) × (length records.now / record_size ≤ 16384) },
-    pub ghost known: { All (λ c. c < 128) codes.now },
-    pub ghost right: { (b : ℕ) → b < length records.now / record_size → record_right 8 (record_at records.now b) ≡ true },
+    pub arena: Arena<'a>,
+    pub ghost even: { length arena.codes.now ≡ length arena.values.now },
+    pub ghost few: { (length arena.codes.now ≤ 65535) × (length arena.records.now / record_size ≤ 16384) },
+    pub ghost known: { All (λ c. c < 128) arena.codes.now },
+    pub ghost right: { (b : ℕ) → b < length arena.records.now / record_size → record_right 8 (record_at arena.records.now b) ≡ true },
 }

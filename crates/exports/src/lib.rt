@@ -1,6 +1,6 @@
 // What a Rust or C program calls, the latter through exports_c: the public functions over numbers and slices, with replies as plain structs. In each
 // reply number 0 means that nothing was refused; a refusal has every length and total 0. The C interface has numbers for what was refused and found, and
-// a block's opcodes, values and records as runs of their own.
+// a block's opcodes, values and records as runs of their own: a call makes an `Arena` of them.
 #![tactic(auto)]
 
 ghost use Rattle.std.specs.Prelude.{◌≡◌, true, false, ◌/◌, ◌≤◌, min, max, length};
@@ -20,6 +20,7 @@ ghost use Rattle.exports.specs.Through.{ReadThrough, TableThrough};
 ghost use Rattle.exports.specs.Flat.{flat_built, flat_encoded, flat_decoded, flat_headed, flat_compared, flat_tabled, flat_padded, flat_raw, flat_group, flat_next};
 
 use build::Totals;
+use checks::Arena;
 use comparison::Refused;
 use decoder::Decoded;
 use head::Headed;
@@ -336,7 +337,12 @@ pub fn oli_encode(
 ) -> EncodeReply
     ensures { Writes (encoded 8 table.now (arena codes.now values.now records.now) (length out.old) at) at result out.old out.new }
 {
-    encoder::encode(table, codes, values, records, out, at).into()
+    let arena = Arena {
+        codes,
+        values,
+        records,
+    };
+    encoder::encode(table, arena, out, at).into()
 }
 
 pub fn oli_decode(
@@ -416,19 +422,34 @@ pub fn oli_compare(
 pub fn oli_structure(codes: &[u8], values: &[u64], records: &[u8]) -> CheckReply
     ensures { result ≡ check_reply (structure_checked 8 (arena codes.now values.now records.now)) }
 {
-    checks::structure(codes, values, records).into()
+    let arena = Arena {
+        codes,
+        values,
+        records,
+    };
+    arena.structure().into()
 }
 
 pub fn oli_padding(codes: &[u8], values: &[u64], records: &[u8]) -> CheckReply
     ensures { result ≡ check_reply (padding_checked 8 (arena codes.now values.now records.now)) }
 {
-    checks::padding(codes, values, records).into()
+    let arena = Arena {
+        codes,
+        values,
+        records,
+    };
+    arena.padding().into()
 }
 
 pub fn oli_commitment(table: &[u8], codes: &[u8], values: &[u64], records: &[u8]) -> CheckReply
     ensures { result ≡ check_reply (commitment_checked 8 table.now (arena codes.now values.now records.now)) }
 {
-    commitment::commitment(table, codes, values, records).into()
+    let arena = Arena {
+        codes,
+        values,
+        records,
+    };
+    commitment::commitment(table, arena).into()
 }
 
 // ---- index tables
@@ -436,13 +457,23 @@ pub fn oli_commitment(table: &[u8], codes: &[u8], values: &[u64], records: &[u8]
 pub fn oli_raw_table(codes: &[u8], values: &[u64], records: &[u8], out: &mut [u64]) -> TableReply
     ensures { Tables (raw_tabled 8 (arena codes.now values.now records.now) (length out.old)) result out.old out.new }
 {
-    prefix::raw_to_padded(codes, values, records, out).into()
+    let arena = Arena {
+        codes,
+        values,
+        records,
+    };
+    prefix::raw_to_padded(arena, out).into()
 }
 
 pub fn oli_padded_table(codes: &[u8], values: &[u64], records: &[u8], out: &mut [u64]) -> TableReply
     ensures { Tables (padded_tabled 8 (arena codes.now values.now records.now) (length out.old)) result out.old out.new }
 {
-    prefix::padded_to_raw(codes, values, records, out).into()
+    let arena = Arena {
+        codes,
+        values,
+        records,
+    };
+    prefix::padded_to_raw(arena, out).into()
 }
 
 pub fn oli_padded_index(table: &[u64], raw: usize) -> IndexReply

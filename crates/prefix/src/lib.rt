@@ -4,11 +4,13 @@
 ghost use Rattle.std.specs.Prelude.{◌≡◌, ◌+◌, ◌*◌, ◌/◌, ◌≤◌, ◌<◌, ◌^◌, length};
 ghost use Rattle.rules.specs.Record.{record_size, record_at, records_in};
 ghost use Rattle.rules.specs.Lookups.{marks, raw_at, padded_at, padded_index, raw_index};
-ghost use Rattle.rules.specs.Functions.{arena, raw_tabled, padded_tabled, table_of};
+ghost use Rattle.rules.specs.Functions.{raw_tabled, padded_tabled, table_of};
 ghost use Rattle.op_batch.specs.RecordAt.{recorded};
+ghost use Rattle.checks.specs.Arena.{lying};
 ghost use Rattle.checks.specs.Batch.{Fits, AllFit};
 ghost use Rattle.prefix.specs.Tables.{padded_found, raw_found, padded_by, raw_by, table_by, table_from, pads_in, kept_in, marks_at, Goes, Filling, Answered};
 
+use checks::Arena;
 use op_batch::{RECORD, RecordAt};
 use refusal::Refusal;
 
@@ -136,21 +138,14 @@ fn fill(records: &[u8], which: Prefix, out: &mut [u64]) -> usize
 }
 
 // Either table, for callers that tell them apart by a value: how many entries it has.
-// The runs come one by one, as the C interface lends them.
-pub fn table(
-    codes: &[u8],
-    values: &[u64],
-    records: &[u8],
-    which: Prefix,
-    out: &mut [u64],
-) -> Result<usize, Refusal>
-    ensures { Answered (table_of (table_by which) 8 (arena codes.now values.now records.now) (length out.old)) result out.old out.new }
+pub fn table(arena: Arena<'_>, which: Prefix, out: &mut [u64]) -> Result<usize, Refusal>
+    ensures { Answered (table_of (table_by which) 8 (lying arena.entry) (length out.old)) result out.old out.new }
 {
-    if let Err(refusal) = checks::padding(codes, values, records) {
+    if let Err(refusal) = arena.padding() {
         word::zero_after(out, 0);
         return Err(refusal);
     }
-    let entries = fill(records, which, out);
+    let entries = fill(arena.records, which, out);
     if out.len() < entries {
         word::zero_after(out, 0);
         return Err(Refusal::NoRoom);
@@ -160,25 +155,15 @@ pub fn table(
 }
 
 // RawToPaddedPrefix: for each raw operation the flagged paddings before it, then all. Refusals 3, 15, 10, 13.
-pub fn raw_to_padded(
-    codes: &[u8],
-    values: &[u64],
-    records: &[u8],
-    out: &mut [u64],
-) -> Result<usize, Refusal>
-    ensures { Answered (raw_tabled 8 (arena codes.now values.now records.now) (length out.old)) result out.old out.new }
+pub fn raw_to_padded(arena: Arena<'_>, out: &mut [u64]) -> Result<usize, Refusal>
+    ensures { Answered (raw_tabled 8 (lying arena.entry) (length out.old)) result out.old out.new }
 {
-    table(codes, values, records, Prefix::RawToPadded, out)
+    table(arena, Prefix::RawToPadded, out)
 }
 
 // PaddedToRawPrefix: the same for each padded operation.
-pub fn padded_to_raw(
-    codes: &[u8],
-    values: &[u64],
-    records: &[u8],
-    out: &mut [u64],
-) -> Result<usize, Refusal>
-    ensures { Answered (padded_tabled 8 (arena codes.now values.now records.now) (length out.old)) result out.old out.new }
+pub fn padded_to_raw(arena: Arena<'_>, out: &mut [u64]) -> Result<usize, Refusal>
+    ensures { Answered (padded_tabled 8 (lying arena.entry) (length out.old)) result out.old out.new }
 {
-    table(codes, values, records, Prefix::PaddedToRaw, out)
+    table(arena, Prefix::PaddedToRaw, out)
 }

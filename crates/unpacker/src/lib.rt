@@ -13,6 +13,7 @@ ghost use Rattle.wire.specs.Stages.{Staged};
 ghost use Rattle.unpacker.specs.Groups.{RightSizes, Placing};
 ghost use Rattle.unpacker.specs.Ops.{ops_in};
 
+use checks::Arena;
 use refusal::Refusal;
 use wire::Item;
 
@@ -129,7 +130,12 @@ impl Ops<'_> {
         let mut groups = [0; 8];
         let count = self.decode_groups(b, at, deltas, &mut groups)?;
         op_batch::store_packed(deltas, flags, &groups, count.item as u8, records, b);
-        checks::batch_padding(self.codes, self.values, records, b, at)?;
+        let arena = Arena {
+            codes: self.codes,
+            values: self.values,
+            records,
+        };
+        arena.batch_padding(b, at)?;
         Ok(count)
     }
 }

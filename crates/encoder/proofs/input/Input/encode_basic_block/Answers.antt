@@ -12,4 +12,4 @@ returns c =
       c.batches.ensures,
       c.write_ops-batches.ensures.bytes,
       c.write_count-ops.ensures.1,
-    ) (block_stored s.table.now s.codes.now s.values.now s.records.now s.even c.args.out.now c.args.at _ _ c.write_count-ops.ensures.0 c.write_ops-batches.ensures.place)
+    ) (block_stored s.table.now s.arena.codes.now s.arena.values.now s.arena.records.now s.even c.args.out.now c.args.at _ _ c.write_count-ops.ensures.0 c.write_ops-batches.ensures.place)

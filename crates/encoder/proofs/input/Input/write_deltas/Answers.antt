@@ -16,10 +16,10 @@ pub loop-b-preserved : goal.loop-b-preserved
 loop-b-preserved c =
     let l = c.loop-b in
     let a = c.args in
-    rw (c.put.ensures, c.pack_indptr_deltas.ensures) (deltas_turn a.self.records.now _ l.b l.out a.at (omega arith)) ∙ l.invariant
+    rw (c.put.ensures, c.pack_indptr_deltas.ensures) (deltas_turn a.self.arena.records.now _ l.b l.out a.at (omega arith)) ∙ l.invariant
 
 pub returns-clause-bytes : goal.returns-clause-bytes
 returns-clause-bytes c =
     let l = c.loop-b in
     let a = c.args in
-    sym (deltas_end a.self.records.now _ l.b l.out (a.at + 4 * l.b) (omega arith)) ∙ l.invariant
+    sym (deltas_end a.self.arena.records.now _ l.b l.out (a.at + 4 * l.b) (omega arith)) ∙ l.invariant

@@ -9,6 +9,6 @@ use Rattle.encoder.proofs.input.Input.write_ops.Given as goal
 
 abbrev pub invariant-loop-i : goal.invariant-loop-i
 invariant-loop-i l = record {
-  place : l.from + length (left l.self.table.now l.self.codes.now l.self.values.now l.i) ≡ l.at + length (ops_bytes l.self.table.now (operations l.self.codes.now l.self.values.now));
-  bytes : sets l.out l.from (left l.self.table.now l.self.codes.now l.self.values.now l.i) ≡ sets l.initial.out l.at (ops_bytes l.self.table.now (operations l.self.codes.now l.self.values.now));
+  place : l.from + length (left l.self.table.now l.self.arena.codes.now l.self.arena.values.now l.i) ≡ l.at + length (ops_bytes l.self.table.now (operations l.self.arena.codes.now l.self.arena.values.now));
+  bytes : sets l.out l.from (left l.self.table.now l.self.arena.codes.now l.self.arena.values.now l.i) ≡ sets l.initial.out l.at (ops_bytes l.self.table.now (operations l.self.arena.codes.now l.self.arena.values.now));
 }

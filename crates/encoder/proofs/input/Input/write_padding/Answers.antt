@@ -16,10 +16,10 @@ pub loop-b-preserved : goal.loop-b-preserved
 loop-b-preserved c =
     let l = c.loop-b in
     let a = c.args in
-    rw c.pack_padding.ensures (flags_turn a.self.records.now _ l.b l.out a.at (omega arith)) ∙ l.invariant
+    rw c.pack_padding.ensures (flags_turn a.self.arena.records.now _ l.b l.out a.at (omega arith)) ∙ l.invariant
 
 pub returns : goal.returns
 returns c =
     let l = c.loop-b in
     let a = c.args in
-    sym (flags_end a.self.records.now _ l.b l.out (a.at + l.b) (omega arith)) ∙ l.invariant
+    sym (flags_end a.self.arena.records.now _ l.b l.out (a.at + l.b) (omega arith)) ∙ l.invariant

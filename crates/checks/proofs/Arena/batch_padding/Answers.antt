@@ -4,7 +4,7 @@ use Rattle.op_batch.proofs.Right.{flags_turn}
 use Prim.Native.Nat.{◌<◌}
 use Rattle.checks.proofs.Groups.{lying, bounds}
 use Rattle.checks.proofs.Flags.{plain, over, empty, other, noop, no_flags, faulty, faultless}
-use Rattle.checks.proofs.batch_padding.Goals as goal
+use Rattle.checks.proofs.Arena.batch_padding.Goals as goal
 
 pub loop-g-init : goal.loop-g-init
 loop-g-init c =
@@ -44,19 +44,19 @@ overflow_sub-from c =
     let x = l.invariant.0 in
     omega (arith, bounds _ _ _ _ x l.g (omega arith) _ _ c.start.ensures.0 c.start-end.ensures.0)
 
-pub bounds-codes-from : goal.bounds-codes-from
-bounds-codes-from c =
+pub bounds-self-from : goal.bounds-self-from
+bounds-self-from c =
     let l = c.loop-g in
     let x = l.invariant.0 in
     omega (arith, bounds _ _ _ _ x l.g (omega arith) _ _ c.start.ensures.0 c.start-end.ensures.0)
 
-pub returns-then-codes-from-ne0 : goal.returns-then-codes-from-ne0
-returns-then-codes-from-ne0 c =
+pub returns-then-self-from-ne0 : goal.returns-then-self-from-ne0
+returns-then-self-from-ne0 c =
     let l = c.loop-g in
     let v = l.invariant in
     let x = v.0 in
     let h : l.g < 8 = omega arith in
-    faulty _ _ _ _ x l.g v.2 _ (other _ _ _ _ x l.g h (λ z. c.if-flag-eq0.false (c.flag.ensures ∙ z)) (omega arith) _ _ c.start.ensures.0 c.start-end.ensures.0 c.if-start-end.false c.if-codes-from-ne0.true)
+    faulty _ _ _ _ x l.g v.2 _ (other _ _ _ _ x l.g h (λ z. c.if-flag-eq0.false (c.flag.ensures ∙ z)) (omega arith) _ _ c.start.ensures.0 c.start-end.ensures.0 c.if-start-end.false c.if-self-from-ne0.true)
 
 pub loop-g-preserved : goal.loop-g-preserved
 loop-g-preserved c =
@@ -64,7 +64,7 @@ loop-g-preserved c =
     let v = l.invariant in
     let x = v.0 in
     let h : l.g < 8 = omega arith in
-    (x, v.1, noop _ _ _ _ x l.g h (λ z. c.if-flag-eq0.false (c.flag.ensures ∙ z)) (omega arith) _ _ c.start.ensures.0 c.start-end.ensures.0 c.if-start-end.false c.if-codes-from-ne0.false ∙ v.2, flags_turn _ _ x.laid.sound x.laid.flags l.g l.left v.3 h, v.4)
+    (x, v.1, noop _ _ _ _ x l.g h (λ z. c.if-flag-eq0.false (c.flag.ensures ∙ z)) (omega arith) _ _ c.start.ensures.0 c.start-end.ensures.0 c.if-start-end.false c.if-self-from-ne0.false ∙ v.2, flags_turn _ _ x.laid.sound x.laid.flags l.g l.left v.3 h, v.4)
 
 pub returns-then-left-eq0 : goal.returns-then-left-eq0
 returns-then-left-eq0 c =

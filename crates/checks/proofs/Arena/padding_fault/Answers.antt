@@ -4,7 +4,7 @@ use Rattle.rules.specs.Checks.{padding_faults}
 use Rattle.checks.proofs.Batches.{came_first, came_last, came_lies, came_stop, came_room, came_next}
 use Rattle.operation.proofs.Faults.{faultless}
 use Rattle.refusal.proofs.Told.{handed}
-use Rattle.checks.proofs.padding_fault.Goals as goal
+use Rattle.checks.proofs.Arena.padding_fault.Goals as goal
 
 pub loop-b-init : goal.loop-b-init
 loop-b-init c = came_first _ _ _ _ c.requires

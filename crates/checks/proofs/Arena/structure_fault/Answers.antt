@@ -1,7 +1,7 @@
 use mathlib.Core.Path.{sym, ◌∙◌}
 use native.Mathlib.Omega.{arith}
 use Rattle.checks.proofs.Walk.{summed_first, summed_stop, summed_short, summed_done, summed_next}
-use Rattle.checks.proofs.structure_fault.Goals as goal
+use Rattle.checks.proofs.Arena.structure_fault.Goals as goal
 
 pub loop-b-init : goal.loop-b-init
 loop-b-init c = let p = c.requires in (summed_first _ _ _ _ p.1, p.0)
@@ -16,8 +16,8 @@ loop-b-preserved c =
     let l = c.loop-b in
     (summed_next _ _ _ _ _ _ _ l.invariant.0 (omega arith) (sym c.right.ensures ∙ c.if-not-right.false) _ c.start-sum.ensures.0, l.invariant.1)
 
-pub returns-then-sum-codes : goal.returns-then-sum-codes
-returns-then-sum-codes c = let l = c.loop-b in (summed_short _ _ _ _ _ _ _ l.invariant.0 (omega arith) c.if-sum-codes.true)
+pub returns-then-sum-self : goal.returns-then-sum-self
+returns-then-sum-self c = let l = c.loop-b in (summed_short _ _ _ _ _ _ _ l.invariant.0 (omega arith) c.if-sum-self.true)
 
 pub returns : goal.returns
-returns c = let l = c.loop-b in (summed_done _ _ _ _ _ _ _ l.invariant.0 (omega arith) c.if-sum-codes.false)
+returns c = let l = c.loop-b in (summed_done _ _ _ _ _ _ _ l.invariant.0 (omega arith) c.if-sum-self.false)
