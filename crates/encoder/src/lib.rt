@@ -17,7 +17,6 @@ use checks::Arena;
 use input::Input;
 use op_batch::{RECORD, RecordAt, WIDTH};
 use refusal::Refusal;
-use wire::MOST_BYTES;
 
 mod input;
 
@@ -36,6 +35,7 @@ fn op_len(table: &[u8; 128], code: u8) -> usize
 
 impl<'a> Input<'a> {
     // 3, 14, 1, 15, and 4 or 17 (M-101), for a buffer of this size.
+    #[tactic(auto, using(crate::proofs::Ways::encoded_3))]
     fn checked(
         table: &'a [u8],
         arena: Arena<'a>,
@@ -45,13 +45,10 @@ impl<'a> Input<'a> {
         ensures ok { IfOk result (λ i. (at ≤ size) × (encoded 8 table.now (lying arena.entry) size at ≡ left_of i size at)) }
         ensures err { IfErr result (λ r. encoded 8 table.now (lying arena.entry) size at ≡ refused (number_of r) (place_of r)) }
     {
-        if !arena.within() || MOST_BYTES < size {
+        if !arena.within() {
             return Err(Refusal::OverLimit);
         }
-        let table = operation::checked(table)?;
-        if size < at {
-            return Err(Refusal::PastEnd);
-        }
+        let table = wire::opened(table, size, at)?;
         arena.structure_fault(WIDTH)?;
         operation::first_fault(table, arena.codes, arena.values)?;
         Ok(Input { table, arena })
