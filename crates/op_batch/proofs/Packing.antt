@@ -1,74 +1,104 @@
--- Digits of a number walked by a loop, from the lowest on to take them apart and from the highest on to put them together. Assumes nothing.
-use Rattle.std.proofs.Common.{◌≡◌, ℕ, zero, suc, ◌+◌, ◌-◌, ◌*◌, ◌^◌, ◌<◌, ◌≤◌, Bool, true, ◌&&◌, leb, List, [], ◌∷◌, ◌++◌, length, get_or, sym, refl, ap, ◌∙◌, append_assoc, add-zero, pow-suc, arith, length-append, leb-true}
-use Rattle.std.specs.List.{push}
-use lib.Seq.{get_or-append_seam}
-use native.Mathlib.Nat.{pow-le-pow_right}
+-- Digits put together and taken apart: how large they are, and what is stored of them. Assumes nothing.
+use Rattle.std.proofs.Common.{◌≡◌, ℕ, zero, suc, ◌+◌, ◌-◌, ◌*◌, ◌/◌, ◌%◌, ◌^◌, ◌<◌, ◌≤◌, Bool, true, ◌&&◌, leb, List, [], ◌∷◌, ◌++◌, length, get_or, take, drop, set, w64, sym, refl, ap, ◌∙◌, add-one, append_assoc, pow-suc, arith, drop-cons, drop_of_length-le, leb-true}
+use Rattle.std.specs.Int.{to_le_bytes}
+use Rattle.std.proofs.lemmas.List.{drop-drop}
+use Rattle.std.proofs.lemmas.List.Edits.{sets-eq}
+use lib.Seq.{sets}
+use borrow.Rule.Slice.PartMut.{put_mid}
+use native.Mathlib.Nat.{zero-add, pow-zero, mul_comm, mul-le-mul_left, pow-le-pow_right, mod-lt, mod-eq_of_lt, div-eq_of_lt, add-mul-mod_self_left, add-mul-div_left, div-div-eq-div-mul}
 use Rattle.rules.specs.Lists.{every}
-use Rattle.rules.specs.Digits.{number, le_at}
-use Rattle.rules.specs.Record.{differences, bytes_at}
+use Rattle.rules.specs.Digits.{digits, number, le_at}
+use Rattle.rules.specs.Record.{differences, starts_from, bytes_at}
 use Rattle.rules.specs.Checks.{starts_right}
 use Rattle.rules.proofs.Operations.{true_left, true_right}
+use Rattle.op_batch.proofs.Right.{every_at, starts_at}
+use Rattle.op_batch.proofs.Places.{differences_length, differences_at}
 
--- ---- a number put together from the highest of n digits on
+-- ---- how large a number and a digit are
 
-pub power_turn : (b n i : ℕ) → 0 < i → i ≤ n → b ^ (n - (i - 1)) ≡ b ^ (n - i) * b
-power_turn b n i h k = let e : n - (i - 1) ≡ suc (n - i) = omega arith in rw (e, pow-suc)
+pub number_below : (b : ℕ) (ds : List ℕ) → ((i : ℕ) → i < length ds → get_or ds i 0 < b) → number b ds < b ^ length ds
+unfolding number
+number_below b [] h = rw pow-zero (omega arith)
+number_below b (d ∷ ds) h =
+    let first : d < b = h 0 (omega arith) in
+    let rest : number b ds + 1 ≤ b ^ length ds = omega (arith, number_below b ds (λ i l. h (suc i) (omega arith))) in
+    let all = mul-le-mul_left b rest in
+    rw pow-suc (omega (arith, first, all, mul_comm (b ^ length ds) b))
 
-pub power_most : (b n m i : ℕ) → 0 < b → n ≤ m → b ^ (n - i) ≤ b ^ m
-power_most b n m i h k = let l : n - i ≤ m = omega arith in pow-le-pow_right h l
+pub codes_number_fits : (codes : List ℕ) → length codes ≤ 9 → ((i : ℕ) → i < length codes → get_or codes i 0 < 128) → number 128 codes < 2 ^ 64
+codes_number_fits codes h k = let p : 128 ^ length codes ≤ 128 ^ 9 = pow-le-pow_right (omega arith) h in omega (arith, number_below 128 codes k, p)
 
--- of a list, whose last code that is left comes before those that are done
-module _ (codes rest rest' done : List ℕ) (x : ℕ) (e : codes ≡ rest ++ done) (f : rest ≡ push rest' x) where
-  pub more_done : codes ≡ rest' ++ (x ∷ done)
-  more_done = e ∙ rw f (append_assoc rest' (x ∷ []) done)
+pub bits_number_fits : (fs : List ℕ) → length fs ≡ 8 → every (λ (f : ℕ). leb f 1) fs ≡ true → number 2 fs < 256
+bits_number_fits fs e h =
+    let n = number_below 2 fs (λ i l. omega (arith, leb-true (get_or fs i 0) 1 (every_at (λ (f : ℕ). leb f 1) fs i h l))) in
+    omega (arith, rw e at n)
 
-  pub code_at : get_or codes (length rest') 0 ≡ x
-  code_at = rw more_done (get_or-append_seam rest' x done 0)
+pub digit_below : (b n v i : ℕ) → 0 < b → get_or (digits b n v) i 0 < b
+unfolding digits
+digit_below b zero v i h = omega arith
+digit_below b (suc n) v zero h = mod-lt v h
+digit_below b (suc n) v (suc i) h = digit_below b n (v / b) i h
 
-  pub more_length : length rest' + suc (length done) ≡ length codes
-  more_length = rw more_done (sym (length-append rest' (x ∷ done)))
+-- ---- digits stored
 
-pub code_power : (done : List ℕ) → length done ≤ 8 → 128 ^ length done ≤ 128 ^ 8
-code_power done h = pow-le-pow_right (omega arith) h
+-- a part of a run with a list written over it
+pub put_part : (out ys : List ℕ) (at n : ℕ) → length ys ≡ n → at + n ≤ length out → put_mid at (at + n - at) out ys ≡ sets out at ys
+put_part out ys at n l k =
+    let m : at + n - at ≡ n = omega arith in
+    let d : drop n (drop at out) ≡ drop (at + length ys) out = rw l (drop-drop n at out) in
+    rw m (ap (λ (r : List ℕ). take at out ++ (ys ++ r)) d ∙ sym (sets-eq ys out at (omega arith) ∙ append_assoc (take at out) ys (drop (at + length ys) out)))
 
--- of n bytes in a run
-pub bytes_back : (b n : ℕ) (s : List ℕ) (at i : ℕ) → 0 < i → i ≤ n
-    → number b (bytes_at (n - (i - 1)) s (at + (i - 1))) ≡ get_or s (at + (i - 1)) 0 + b * number b (bytes_at (n - i) s (at + i))
-unfolding number bytes_at
-bytes_back b n s at i h k =
-    let e : n - (i - 1) ≡ suc (n - i) = omega arith in
-    let f : at + (i - 1) + 1 ≡ at + i = omega arith in
-    rw (e, f)
+-- one start more, and the size that comes next
+pub start_more : (out ds : List ℕ) (at i sum : ℕ) → i < length ds
+    → sets (set out (at + i) sum) (at + (i + 1)) (starts_from (sum + get_or ds i 0) (drop (i + 1) ds)) ≡ sets out (at + i) (starts_from sum (drop i ds))
+unfolding starts_from
+start_more out ds at i sum h =
+    let e : at + (i + 1) ≡ suc (at + i) = omega arith in
+    let d : drop i ds ≡ get_or ds i 0 ∷ drop (i + 1) ds = rw (add-one i) (drop-cons ds i 0 h) in
+    rw (e, d)
 
--- the k differences of s from j on, by index
-unfoldable pub steps : ℕ → List ℕ → ℕ → List ℕ
-steps zero s j = []
-steps (suc k) s j = (get_or s (j + 1) 0 - get_or s j 0) ∷ steps k s (j + 1)
+pub last_start : (out ds : List ℕ) (at i sum : ℕ) → length ds ≤ i → set out (at + i) sum ≡ sets out (at + i) (starts_from sum (drop i ds))
+unfolding starts_from
+last_start out ds at i sum h = rw (drop_of_length-le ds {i = i} h)
 
-pub differences_steps : (k : ℕ) (s : List ℕ) (j : ℕ) → differences (bytes_at (suc k) s j) ≡ steps k s j
-unfolding differences bytes_at steps
-differences_steps zero s j = refl
-differences_steps (suc k) s j = ap (λ (l : List ℕ). (get_or s (j + 1) 0 - get_or s j 0) ∷ l) (differences_steps k s (j + 1))
+-- ---- eight sizes as the bytes of one number
 
-pub steps_back : (b n : ℕ) (s : List ℕ) (at i : ℕ) → 0 < i → i ≤ n
-    → number b (steps (n - (i - 1)) s (at + (i - 1))) ≡ (get_or s (at + (i - 1) + 1) 0 - get_or s (at + (i - 1)) 0) + b * number b (steps (n - i) s (at + i))
-unfolding number steps
-steps_back b n s at i h k =
-    let e : n - (i - 1) ≡ suc (n - i) = omega arith in
-    let f : at + (i - 1) + 1 ≡ at + i = omega arith in
-    rw (e, f)
+pub digits_number : (b : ℕ) (ds : List ℕ) → ((i : ℕ) → i < length ds → get_or ds i 0 < b) → digits b (length ds) (number b ds) ≡ ds
+unfolding number digits
+digits_number b [] h = refl
+digits_number b (d ∷ ds) h =
+    let l : d < b = h 0 (omega arith) in
+    let p : 0 < b = omega (arith, l) in
+    let m : (d + b * number b ds) % b ≡ d = add-mul-mod_self_left d b (number b ds) ∙ mod-eq_of_lt l in
+    let q : (d + b * number b ds) / b ≡ number b ds = add-mul-div_left d (number b ds) p ∙ rw (div-eq_of_lt l) (zero-add (number b ds)) in
+    rw (m, q, digits_number b ds (λ i k. h (suc i) (omega arith)))
 
--- ---- what a test over a run of bytes says at an index
+eight : (v : ℕ) → to_le_bytes w64 v ≡ digits 256 8 v
+unfolding digits
+eight v = simp div-div-eq-div-mul
 
-pub every_at : (test : ℕ → Bool) (n : ℕ) (s : List ℕ) (j : ℕ) → every test (bytes_at n s j) ≡ true → (k : ℕ) → k < n → test (get_or s (j + k) 0) ≡ true
-unfolding every bytes_at
-every_at test zero s j h k l = absurd (omega arith)
-every_at test (suc n) s j h zero l = rw add-zero (true_left (test (get_or s j 0)) (every test (bytes_at n s (j + 1))) h)
-every_at test (suc n) s j h (suc k) l =
-    let e : j + suc k ≡ j + 1 + k = omega arith in
-    rw e (every_at test n s (j + 1) (true_right (test (get_or s j 0)) (every test (bytes_at n s (j + 1))) h) k (omega arith))
+module _ (s : List ℕ) (l : length s ≡ 9) (h : starts_right s ≡ true) where
+  size_small : (k : ℕ) → k < length (differences s) → get_or (differences s) k 0 ≤ 9
+  size_small k m =
+      let r = starts_at s k h (omega (arith, differences_length s)) in
+      rw (differences_at s k (omega (arith, differences_length s))) (omega (arith, r.1))
 
-abbrev pub Step : List ℕ → ℕ → Type 0
+  pub bytes_of_sizes : to_le_bytes w64 (number 256 (differences s)) ≡ differences s
+  bytes_of_sizes =
+      let n : 8 ≡ length (differences s) = omega (arith, differences_length s) in
+      eight (number 256 (differences s))
+      ∙ ap (λ (k : ℕ). digits 256 k (number 256 (differences s))) n
+      ∙ digits_number 256 (differences s) (λ i k. omega (arith, size_small i k))
+
+  pub sizes_number_fits : number 16 (differences s) < 2 ^ 64
+  sizes_number_fits =
+      let n : length (differences s) ≡ 8 = omega (arith, differences_length s) in
+      let b = number_below 16 (differences s) (λ i k. omega (arith, size_small i k)) in
+      omega (arith, rw n at b)
+
+-- ---- all sizes at once: no byte borrows from the next
+
+abbrev Step : List ℕ → ℕ → Type 0
 Step s j = (get_or s j 0 ≤ get_or s (j + 1) 0) × (get_or s (j + 1) 0 ≤ get_or s j 0 + 9)
 
 -- the first step and those after it
@@ -78,16 +108,6 @@ step_at s j rest h =
     let b = get_or s (j + 1) 0 in
     let r = true_right (leb a b) (leb b (a + 9) && rest) h in
     ((leb-true a b (true_left (leb a b) (leb b (a + 9) && rest) h), leb-true b (a + 9) (true_left (leb b (a + 9)) rest r)), true_right (leb b (a + 9)) rest r)
-
-pub starts_at : (n : ℕ) (s : List ℕ) (j : ℕ) → starts_right (bytes_at (suc n) s j) ≡ true → (k : ℕ) → k < n → Step s (j + k)
-unfolding starts_right bytes_at
-starts_at zero s j h k l = absurd (omega arith)
-starts_at (suc n) s j h zero l = rw add-zero (step_at s j (starts_right (bytes_at (suc n) s (j + 1))) h).0
-starts_at (suc n) s j h (suc k) l =
-    let e : j + suc k ≡ j + 1 + k = omega arith in
-    rw e (starts_at n s (j + 1) (step_at s j (starts_right (bytes_at (suc n) s (j + 1))) h).1 k (omega arith))
-
--- ---- all sizes at once: no byte borrows from the next
 
 pub sizes_at_lem : (n : ℕ) (s : List ℕ) (at : ℕ) → starts_right (bytes_at (suc n) s at) ≡ true → le_at n s (at + 1) ≡ number 256 (differences (bytes_at (suc n) s at)) + le_at n s at
 unfolding starts_right bytes_at differences number le_at

@@ -25,15 +25,32 @@ pub group_end : (s : List ℕ) (g i : ℕ) → g + 1 ≡ length s → group_from
 unfolding group_from
 group_end s g i h = rw (drop_next s g (omega arith), drop_of_length-le s {i = g + 1} (omega arith))
 
+module _ (s : List ℕ) (i : ℕ) (h : length s ≡ 9) where
+  -- groups that end at the operation or before it are passed
+  passed : (g : ℕ) → g < 9 → ((j : ℕ) → 0 ≤ j → j < g → get_or s (j + 1) 0 ≤ i) → group_from g (drop g s) i ≡ group_from 0 s i
+  passed zero l q = refl
+  passed (suc g) l q = rw (sym (add-one g)) (group_turn s g i (omega arith) (q g (omega arith) (omega arith)) ∙ passed g (omega arith) (λ j a b. q j a (omega arith)))
+
+  pub none_holds : ((g : ℕ) → 0 ≤ g → g < 8 → get_or s (g + 1) 0 ≤ i) → group_from 0 s i ≡ none
+  none_holds q = sym (passed 8 (omega arith) q) ∙ group_end s 8 i (omega arith)
+
+  -- what a search of the groups finds
+  module _ (g : ℕ) (first : get_or s 0 0 ≡ 0) (x : (0 ≤ g) × (g < 8) × (i < get_or s (g + 1) 0) × ((j : ℕ) → 0 ≤ j → j < g → get_or s (j + 1) 0 ≤ i)) where
+    pub starts_before : get_or s g 0 ≤ i
+    starts_before = split 0 g (λ l. let e : g - 1 + 1 ≡ g = omega arith in rw e at (x.3 (g - 1) (omega arith) (omega arith))) (λ l. let e : g ≡ 0 = omega arith in rw e (omega (arith, first)))
+
+    pub group_holds : group_from 0 s i ≡ some (record { group = g; place = i - get_or s g 0 })
+    group_holds = sym (passed g (omega arith) x.3) ∙ group_stop s g i (omega arith) x.2
+
 -- ---- the sizes of groups, and the first that is not 0
 
-differences_length : (s : List ℕ) → length (differences s) ≡ length s - 1
+pub differences_length : (s : List ℕ) → length (differences s) ≡ length s - 1
 unfolding differences
 differences_length [] = refl
 differences_length (a ∷ []) = refl
 differences_length (a ∷ b ∷ s) = omega (arith, differences_length (b ∷ s))
 
-differences_at : (s : List ℕ) (g : ℕ) → suc g < length s → get_or (differences s) g 0 ≡ get_or s (suc g) 0 - get_or s g 0
+pub differences_at : (s : List ℕ) (g : ℕ) → suc g < length s → get_or (differences s) g 0 ≡ get_or s (suc g) 0 - get_or s g 0
 unfolding differences
 differences_at [] g h = absurd (omega arith)
 differences_at (a ∷ []) g h = absurd (omega arith)

@@ -9,13 +9,13 @@ use Rattle.rules.proofs.Operations.{true_left, true_right}
 use Rattle.rules.proofs.Loads.{byte, word}
 use Rattle.rules.proofs.Records.{loaded}
 
-every_at : (test : ℕ → Bool) (xs : List ℕ) (i : ℕ) → every test xs ≡ true → i < length xs → test (get_or xs i 0) ≡ true
+pub every_at : (test : ℕ → Bool) (xs : List ℕ) (i : ℕ) → every test xs ≡ true → i < length xs → test (get_or xs i 0) ≡ true
 unfolding every
 every_at test [] i e h = absurd (omega arith)
 every_at test (x ∷ xs) zero e h = true_left (test x) (every test xs) e
 every_at test (x ∷ xs) (suc i) e h = every_at test xs i (true_right (test x) (every test xs) e) (omega arith)
 
-starts_at : (s : List ℕ) (g : ℕ) → starts_right s ≡ true → suc g < length s → (get_or s g 0 ≤ get_or s (suc g) 0) × (get_or s (suc g) 0 ≤ get_or s g 0 + 9)
+pub starts_at : (s : List ℕ) (g : ℕ) → starts_right s ≡ true → suc g < length s → (get_or s g 0 ≤ get_or s (suc g) 0) × (get_or s (suc g) 0 ≤ get_or s g 0 + 9)
 unfolding starts_right
 starts_at [] g e h = absurd (omega arith)
 starts_at (a ∷ []) g e h = absurd (omega arith)

@@ -6,7 +6,7 @@ ghost use Rattle.std.proofs.lemmas.List.Edits.{sets};
 ghost use Rattle.rules.specs.Lists.{every};
 ghost use Rattle.rules.specs.Digits.{digits, number};
 ghost use Rattle.rules.specs.Record.{starts_from, differences, record_size, word_bytes, bytes_at, words_at, record_at};
-ghost use Rattle.rules.specs.Checks.{starts_right, record_right};
+ghost use Rattle.rules.specs.Checks.{ninth, starts_right, record_right};
 ghost use Rattle.rules.specs.Lookups.{group_from};
 ghost use Rattle.rules.specs.Functions.{group_lookup, next_lookup};
 ghost use Rattle.refusal.specs.Told.{told};
@@ -22,9 +22,10 @@ pub use record_at::RecordAt;
 pub use record_mut::RecordMut;
 use refusal::Refusal;
 
-// A record's bytes in a run, and where its flags, its numbers and its count stand among them. No other crate knows.
+// How many bytes of a run a record is.
 pub const RECORD: usize = 82;
 
+// Where its flags, its numbers and its count stand among them. No other crate knows.
 const FLAGS: usize = 9;
 
 const NUMBERS: usize = 17;
@@ -96,7 +97,9 @@ fn load_words(s: &[u8], at: usize) -> [u64; 8]
     requires { at + 64 ≤ length s.now }
     ensures { result ≡ words_at 8 s.now at }
 {
-    std::array::from_fn(|i| word::le::<8>(s, at + 8 * i))
+    let mut out = [0; 8];
+    word::read_words(s, at, &mut out);
+    out
 }
 
 // ---- what a record of a run says
@@ -121,6 +124,13 @@ impl RecordAt<'_> {
         ensures { (result ≡ slice_index (recorded self.entry).starts g) × (result < 256) }
     {
         usize::from(self.records[RECORD * self.b + g])
+    }
+
+    // How many operations the batch has: where the last group ends.
+    pub fn len(self) -> usize
+        ensures { (result ≡ ninth (recorded self.entry)) × (result < 256) }
+    {
+        self.start(WIDTH)
     }
 
     pub fn flag(self, g: usize) -> u8
@@ -164,12 +174,7 @@ impl RecordAt<'_> {
         requires { starts_right (recorded self).starts ≡ true }
         ensures { result ≡ number 16 (differences (recorded self.entry).starts) }
     {
-        let at = RECORD * self.b;
-        let mut v = 0;
-        for i in (0..8).rev() {
-            v = v * 16 + u64::from(self.records[at + i + 1] - self.records[at + i]);
-        }
-        v
+        word::from_digits::<16>(&self.sizes().to_le_bytes())
     }
 
     // The flags packed, a bit each, the first lowest.
@@ -178,11 +183,7 @@ impl RecordAt<'_> {
         ensures { result ≡ number 2 (recorded self.entry).flags }
     {
         let at = RECORD * self.b + FLAGS;
-        let mut v = 0;
-        for i in (0..8).rev() {
-            v = v * 2 + self.records[at + i];
-        }
-        v
+        word::from_digits::<2>(&self.records[at..at + WIDTH]) as u8
     }
 
     pub fn load(self) -> OpBatch
@@ -253,12 +254,10 @@ fn unpack_indptr_deltas(v: u64, out: &mut [u8], at: usize)
     requires { at + 9 ≤ length out.old }
     ensures { out.new ≡ sets out.old at (starts_from 0 (digits 16 8 v)) }
 {
-    let mut left = v;
     let mut sum = 0;
-    for i in 0..8 {
+    for (i, size) in word::digits::<16, 8>(v).iter().enumerate() {
         out[at + i] = sum;
-        sum += (left % 16) as u8;
-        left /= 16;
+        sum += *size;
     }
     out[at + 8] = sum;
 }
@@ -268,21 +267,7 @@ fn unpack_padding(v: u8, out: &mut [u8], at: usize)
     requires { at + 8 ≤ length out.old }
     ensures { out.new ≡ sets out.old at (digits 2 8 v) }
 {
-    let mut left = v;
-    for i in 0..8 {
-        out[at + i] = left % 2;
-        left /= 2;
-    }
-}
-
-// Eight numbers as 64 bytes, from `at` on.
-fn put_groups(groups: &[u64; 8], out: &mut [u8], at: usize)
-    requires { at + 64 ≤ length out.old }
-    ensures { out.new ≡ sets out.old at (word_bytes groups.now) }
-{
-    for (i, group) in groups.iter().enumerate() {
-        word::put::<8>(out, at + 8 * i, *group);
-    }
+    out[at..at + 8].copy_from_slice(&word::digits::<2, 8>(u64::from(v)));
 }
 
 // The b-th record of a run, by its packed sizes and flags, its numbers and its count. Nor does this ask more of b.
@@ -300,45 +285,43 @@ pub fn store_packed(
     let at = RECORD * b;
     unpack_indptr_deltas(deltas, records, at);
     unpack_padding(flags, records, at + FLAGS);
-    put_groups(groups, records, at + NUMBERS);
+    word::put_words(records, at + NUMBERS, groups);
     records[at + COUNT] = count;
 }
 
-// The number of a group: the sum of opcode times 128^position.
+// ---- a group's number
+
+// The sum of opcode times 128^position.
 pub fn group_number(codes: &[u8]) -> u64
     requires { (length codes.now ≤ 9) × ((i : ℕ) → i < length codes.now → slice_index codes.now i < 128) }
     ensures { result ≡ number 128 codes.now }
 {
-    let mut v = 0;
-    for code in codes.iter().rev() {
-        v = v * 128 + u64::from(*code);
-    }
-    v
+    word::from_digits::<128>(codes)
 }
 
-// The first group whose end is greater than an operation number; a walk, since a batch has only eight.
-fn group_of(starts: &[u8], index: usize) -> Option<Place>
-    requires { (length starts.now ≡ 9) × (slice_index starts.now 0 ≡ 0) }
+// ---- lookups by the starts of one batch
+
+// The first group whose end is greater than an operation number.
+fn group_of(starts: &[u8; 9], index: usize) -> Option<Place>
+    requires { slice_index starts.now 0 ≡ 0 }
     ensures { result ≡ found_in (group_from 0 starts.now index) }
 {
-    for group in 0..8 {
-        if index < usize::from(starts[group + 1]) {
-            return Some(Place {
-                group,
-                place: index - usize::from(starts[group]),
-            });
-        }
-    }
-    None
+    let group = (0..8).find(|group| index < usize::from(starts[*group + 1]))?;
+    Some(Place {
+        group,
+        place: index - usize::from(starts[group]),
+    })
 }
 
 // The first non-empty group from k on and under the count.
-fn next_from(starts: &[u8], count: usize, k: usize) -> Option<usize>
-    requires { (length starts.now ≡ 9) × (count ≤ 8) × (k ≤ 8) }
+fn next_from(starts: &[u8; 9], count: usize, k: usize) -> Option<usize>
+    requires { (count ≤ 8) × (k ≤ 8) }
     ensures { result ≡ next_in (first_full k (drop k (take count (differences starts.now)))) }
 {
     (k..count).find(|group| starts[*group] < starts[*group + 1])
 }
+
+// ---- a record by value
 
 impl OpBatch {
     fn right(&self, width: usize) -> bool

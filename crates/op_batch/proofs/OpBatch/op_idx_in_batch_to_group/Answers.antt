@@ -1,4 +1,4 @@
-use Rattle.std.proofs.Common.{◌≡◌, length, sym, ap, ◌∙◌, rules}
+use Rattle.std.proofs.Common.{sym, ap, ◌∙◌}
 use Rattle.rules.specs.Answer.{good}
 use Rattle.rules.specs.Lookups.{group_of}
 use Rattle.rules.specs.Functions.{group_lookup}
@@ -13,8 +13,7 @@ returns-then-not-right c = rw (sym c.right.ensures ∙ c.if-not-right.true)
 pub group_of-requires : goal.group_of-requires
 group_of-requires c =
     let b = c.args.self in
-    let s : length b.starts ≡ 9 = search rules in
-    (s, (sound 8 (record_in b) (sym c.right.ensures ∙ c.if-not-right.false)).first)
+    (sound 8 (record_in b) (sym c.right.ensures ∙ c.if-not-right.false)).first
 
 pub returns : goal.returns
 unfolding group_lookup group_of
