@@ -1,8 +1,7 @@
 // Runs of 64-bit numbers that cross the language boundary as little-endian bytes.
 #![tactic(auto)]
 
-ghost use Rattle.std.specs.Prelude.{◌≡◌, ◌*◌, ◌/◌, ◌≤◌, min, max, length, take};
-ghost use Rattle.std.proofs.lemmas.List.Edits.{sets};
+ghost use Rattle.std.specs.Prelude.{◌≡◌, ◌*◌, ◌/◌, ◌≤◌, min, length, take};
 ghost use Rattle.rules.specs.Lists.{fitted};
 ghost use Rattle.rules.specs.Record.{word_bytes};
 ghost use Rattle.crossing.specs.Words.{words_in, few_words, has_word};

@@ -1,6 +1,10 @@
 -- Laws of bytes and words read from a run, and of the tests over a record's flags and starts. Assumes nothing.
-use Rattle.std.proofs.Common.{◌≡◌, ℕ, suc, ◌+◌, ◌-◌, ◌*◌, ◌%◌, ◌<◌, ◌≤◌, Bool, true, false, ◌&&◌, leb, List, [], ◌∷◌, length, get_or, take, drop, fold, sym, refl, ap, ◌∙◌, arith, ext_get_or, length-drop, length-take-le, get_or-take, get_or-drop, drop-cons, drop_of_length-le, le-leb, leb-true}
+use Rattle.std.proofs.Common.{◌≡◌, ℕ, suc, ◌+◌, ◌-◌, ◌*◌, ◌%◌, ◌<◌, ◌≤◌, Bool, true, false, ◌&&◌, leb, List, [], ◌∷◌, length, get_or, take, drop, fold, sym, refl, ap, ◌∙◌, arith, ext_get_or, length-drop, length-take-le, get_or-take, get_or-drop, le-leb, leb-true}
 use borrow.Author.Tests.{lt-leb}
+use Rattle.std.specs.declared.slice.Windows.{Windows}
+use Rattle.std.specs.Slice.Iter.{windows_rest, windows_size, windows_steps}
+use Rattle.std.proofs.lemmas.Iterator.{YieldsList}
+use Rattle.std.proofs.lemmas.Iterator.Splits.{YieldsList-from_shown_while}
 use Rattle.rules.specs.Lists.{every}
 use Rattle.rules.specs.Record.{bytes_at}
 use Rattle.rules.specs.Checks.{starts_right}
@@ -42,41 +46,52 @@ near a b h k =
     (λ m. rw (le-leb a b l, lt-leb b (a + 9) m, lt-leb ((b + (256 - a)) % 256) 9 (omega arith)))
     (λ m. rw (le-leb a b l, le-leb b (a + 9) m, le-leb ((b + (256 - a)) % 256) 9 (omega arith))))
 
-module _ (s : List ℕ) (l : length s ≡ 9) (i : ℕ) (h : i < 8) where
-  abbrev a : ℕ
-  a = get_or s i 0
+abbrev rises : ℕ → ℕ → Bool
+rises a b = leb ((b + (256 - a)) % 256) 9
 
-  abbrev b : ℕ
-  b = get_or s (i + 1) 0
+-- whether the second of a pair is the first or rises by 9 at most, where what came before was right
+abbrev pub pair_right : Bool → List ℕ → Bool
+pair_right ok pair = ok && rises (get_or pair 0 0) (get_or pair 1 0)
 
-  one : drop (i + 1) s ≡ b ∷ drop (i + 2) s
-  one = let e : i + 2 ≡ suc (i + 1) = omega arith in rw e (drop-cons s (i + 1) 0 (omega arith))
+pub pairs : List ℕ → List (List ℕ)
+pairs [] = []
+pairs (a ∷ []) = []
+pairs (a ∷ b ∷ s) = (a ∷ b ∷ []) ∷ pairs (b ∷ s)
 
-  two : drop i s ≡ a ∷ b ∷ drop (i + 2) s
-  two = drop-cons s i 0 (omega arith) ∙ ap (λ (r : List ℕ). a ∷ r) (let e : suc i ≡ i + 1 = omega arith in rw e one)
+-- either something was not right before, or the starts have risen by 9 at most, n times
+pub fold_pairs : (s : List ℕ) (n : ℕ) (ok : Bool) → n + length s ≤ 9 → ((k : ℕ) → get_or s k 0 < 256) → (ok ≡ true → get_or s 0 0 ≤ 9 * n) → fold pair_right ok (pairs s) ≡ (ok && starts_right s)
+unfolding starts_right pairs
+fold_pairs [] n ok l h low = none_left ok
+fold_pairs (a ∷ []) n ok l h low = none_left ok
+fold_pairs (a ∷ b ∷ s) n true l h low =
+    let e = near a b (omega (arith, low refl)) (h 1) in
+    let up : rises a b ≡ true → b ≤ 9 * (n + 1) = λ t. omega (arith, low refl, h 1, leb-true ((b + (256 - a)) % 256) 9 t) in
+    fold_pairs (b ∷ s) (n + 1) (rises a b) (omega arith) (λ k. h (suc k)) up
+    ∙ ap (λ (x : Bool). x && starts_right (b ∷ s)) e
+    ∙ join (leb a b) (leb b (a + 9)) (starts_right (b ∷ s))
+fold_pairs (a ∷ b ∷ s) n false l h low = fold_pairs (b ∷ s) (n + 1) false (omega arith) (λ k. h (suc k)) (λ t. cc)
 
-  step : starts_right (drop i s) ≡ (leb a b && (leb b (a + 9) && starts_right (drop (i + 1) s)))
-  unfolding starts_right
-  step = rw (two, one)
+-- ---- what `windows(2)` gives
 
-  abbrev rise : Bool
-  rise = leb ((b + (256 - a)) % 256) 9
+no_pair : (xs : List ℕ) → length xs < 2 → length (pairs xs) ≡ 0
+unfolding pairs
+no_pair [] h = refl
+no_pair (a ∷ []) h = refl
+no_pair (a ∷ b ∷ s) h = absurd (omega arith)
 
-  -- either something was not right before, or the starts have risen by 9 at most
-  pub start_turn : (ok : Bool) → (ok ≡ true → a ≤ 9 * i) → b < 256
-      → (((ok && rise) && starts_right (drop (i + 1) s)) ≡ (ok && starts_right (drop i s))) × ((ok && rise) ≡ true → b ≤ 9 * (i + 1))
-  start_turn true u k =
-      let low : a ≤ 9 * i = u refl in
-      let more = starts_right (drop (i + 1) s) in
-      let n = near a b (omega arith) k in (
-        ap (λ (x : Bool). x && more) n ∙ join (leb a b) (leb b (a + 9)) more ∙ sym step,
-        λ t. omega (arith, leb-true ((b + (256 - a)) % 256) 9 t),
-      )
-  start_turn false u k = (refl, λ t. cc)
+one_pair : (xs : List ℕ) → 2 ≤ length xs → pairs xs ≡ take 2 xs ∷ pairs (drop 1 xs)
+unfolding pairs
+one_pair [] h = absurd (omega arith)
+one_pair (a ∷ []) h = absurd (omega arith)
+one_pair (a ∷ b ∷ s) h = refl
 
-pub starts_end : (s : List ℕ) (ok : Bool) → length s ≡ 9 → ok ≡ (ok && starts_right (drop 8 s))
-unfolding starts_right
-starts_end s ok h = rw (drop-cons s 8 0 (omega arith), drop_of_length-le s {i = 9} (omega arith)) (none_left ok)
+pub YieldsList-from_pairs : {s : Windows ℕ} (xs : List ℕ) → windows_rest s ≡ xs → windows_size s ≡ 2 → YieldsList windows_steps (λ x. x.now) s (pairs xs)
+YieldsList-from_pairs {s} xs e n =
+    rw (sym e)
+    (YieldsList-from_shown_while windows_steps (λ x. x.now) (λ t. pairs (windows_rest t)) (λ t. windows_size t ≡ 2)
+    (λ s t p h. no_pair (windows_rest s) (omega (arith, h.1.0, p)))
+    (λ s x t p h. (h.0 ∙ p, one_pair (windows_rest s) (omega (arith, h.1.0, p)) ∙ rw (rw p at h.1.1, h.1.2)))
+    s n)
 
 -- ---- five tests, each of which looks at the next where those before hold
 

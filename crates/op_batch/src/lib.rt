@@ -1,11 +1,11 @@
 // OpBatch: a batch's record by value, as it lies in the lent run of records, its structure test and the lookups in one batch.
 #![tactic(auto)]
 
-ghost use Rattle.std.specs.Prelude.{◌≡◌, ℕ, ◌+◌, ◌-◌, ◌*◌, ◌%◌, ◌^◌, ◌<◌, ◌≤◌, true, ◌&&◌, leb, length, take, drop, nat_le, slice_index};
+ghost use Rattle.std.specs.Prelude.{◌≡◌, ℕ, ◌+◌, ◌-◌, ◌*◌, ◌^◌, ◌<◌, ◌≤◌, true, ◌&&◌, leb, length, take, drop, slice_index};
 ghost use Rattle.std.proofs.lemmas.List.Edits.{sets};
 ghost use Rattle.rules.specs.Lists.{every};
 ghost use Rattle.rules.specs.Digits.{digits, number};
-ghost use Rattle.rules.specs.Record.{starts_from, differences, record_size, word_bytes, bytes_at, words_at, record_at};
+ghost use Rattle.rules.specs.Record.{starts_from, differences, record_size, bytes_at, words_at, record_at};
 ghost use Rattle.rules.specs.Checks.{ninth, starts_right, record_right};
 ghost use Rattle.rules.specs.Lookups.{group_from};
 ghost use Rattle.rules.specs.Functions.{group_lookup, next_lookup};
@@ -60,15 +60,14 @@ fn flags_right(flags: &[u8]) -> bool
 }
 
 // The difference wraps where starts fall. Where the first is 0 and the ones before this rise by 9 at most, it is then over 9.
+// The nine starts as a slice, here and below: those of a run would have to be copied to be an array.
 fn starts_right(starts: &[u8]) -> bool
     requires { (length starts.now ≡ 9) × (slice_index starts.now 0 ≡ 0) }
     ensures { result ≡ starts_right starts.now }
 {
-    let mut ok = true;
-    for i in 0..8 {
-        ok &= starts[i + 1].wrapping_sub(starts[i]) <= 9;
-    }
-    ok
+    starts
+        .windows(2)
+        .fold(true, |ok, pair| ok & (pair[1].wrapping_sub(pair[0]) <= 9))
 }
 
 fn layout_right(width: usize, starts: &[u8], flags: &[u8], count: u8) -> bool
