@@ -1,6 +1,6 @@
 -- The ways out of `encode`. Assumes nothing.
 use mathlib.Core.Path.{◌≡◌, sym, ap, ◌∙◌}
-use mathlib.Core.Bool.{Bool, true, false, not}
+use mathlib.Core.Bool.{true, false, not}
 use mathlib.Core.List.{List, map}
 use Prim.Native.Nat.{ℕ, ◌+◌, ◌-◌, ◌/◌, ◌≤◌, ◌<◌}
 use native.Mathlib.Omega.{arith}
@@ -16,7 +16,7 @@ use Rattle.rules.specs.Operations.{good_table, op_fault}
 use Rattle.rules.specs.Record.{record_size, record_at}
 use Rattle.rules.specs.Block.{block_bytes}
 use Rattle.rules.specs.Checks.{record_right, structure_faults}
-use Rattle.rules.specs.Functions.{Arena, arena, block_in, within, encoded, written}
+use Rattle.rules.specs.Functions.{Arena, block_in, within, encoded, written}
 use Rattle.refusal.specs.declared.Refusal.{Refusal}
 use Rattle.refusal.specs.Told.{number_of, place_of, told}
 use Rattle.checks.proofs.Walk.{equal_lengths, few_codes, few_records}

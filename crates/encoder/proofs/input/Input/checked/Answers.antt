@@ -1,4 +1,3 @@
-use mathlib.Core.Path.{sym}
 use native.Mathlib.Omega.{arith}
 use Rattle.encoder.proofs.Ways.{not_opened, encoded_15, encoded_4, encoded_left, even, few, known, right, lost}
 use Rattle.encoder.proofs.input.Input.checked.Goals as goal
