@@ -23,6 +23,7 @@ pub struct Arena<'a> {
 
 impl<'a> Arena<'a> {
     // "3": lists of equal length, at most 65,535 operations, whole records and at most 16,384 of them.
+    #[tactic(auto, unfolding(rules::specs::Functions::within))]
     pub fn within(self) -> bool
         ensures { result ≡ within (lying self.entry) }
     {
@@ -56,6 +57,7 @@ impl<'a> Arena<'a> {
     }
 
     // Structure: refusals 3, 15.
+    #[tactic(auto, unfolding(rules::specs::Functions::structure_checked))]
     pub fn structure(self) -> Result<(), Refusal>
         ensures { told result ≡ structure_checked 8 (lying self.entry) }
     {

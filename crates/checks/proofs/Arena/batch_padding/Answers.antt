@@ -2,7 +2,7 @@ use mathlib.Core.Path.{refl, sym, ◌∙◌}
 use native.Mathlib.Omega.{arith}
 use Rattle.op_batch.proofs.Right.{flags_turn}
 use Prim.Native.Nat.{◌<◌}
-use Rattle.checks.proofs.Groups.{lying, bounds}
+use Rattle.checks.proofs.Groups.{lying}
 use Rattle.checks.proofs.Flags.{plain, over, empty, other, noop, no_flags, faulty, faultless}
 use Rattle.checks.proofs.Arena.batch_padding.Goals as goal
 
@@ -31,24 +31,6 @@ returns-then-start-end c =
     let x = v.0 in
     let h : l.g < 8 = omega arith in
     faulty _ _ _ _ x l.g v.2 _ (empty _ _ _ _ x l.g h (λ z. c.if-flag-eq0.false (c.flag.ensures ∙ z)) (omega arith) _ _ c.start.ensures.0 c.start-end.ensures.0 c.if-start-end.true)
-
-pub overflow_add-from : goal.overflow_add-from
-overflow_add-from c =
-    let l = c.loop-g in
-    let x = l.invariant.0 in
-    omega (arith, bounds _ _ _ _ x l.g (omega arith) _ _ c.start.ensures.0 c.start-end.ensures.0)
-
-pub overflow_sub-from : goal.overflow_sub-from
-overflow_sub-from c =
-    let l = c.loop-g in
-    let x = l.invariant.0 in
-    omega (arith, bounds _ _ _ _ x l.g (omega arith) _ _ c.start.ensures.0 c.start-end.ensures.0)
-
-pub bounds-self-from : goal.bounds-self-from
-bounds-self-from c =
-    let l = c.loop-g in
-    let x = l.invariant.0 in
-    omega (arith, bounds _ _ _ _ x l.g (omega arith) _ _ c.start.ensures.0 c.start-end.ensures.0)
 
 pub returns-then-self-from-ne0 : goal.returns-then-self-from-ne0
 returns-then-self-from-ne0 c =
