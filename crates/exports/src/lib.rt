@@ -4,7 +4,7 @@
 #![tactic(auto)]
 
 ghost use Rattle.std.specs.Prelude.{◌≡◌, true, false, ◌/◌, ◌≤◌, min, max, length};
-ghost use Rattle.std.specs.Fn.{FnOnceReturnsAt};
+ghost use Rattle.std.specs.Fn.{CalledAt, FnOnceReturnsAt};
 ghost use Rattle.rules.specs.Answer.{refused};
 ghost use Rattle.rules.specs.Refusals.{over_limit₃};
 ghost use Rattle.rules.specs.Record.{record_at, no_block};
@@ -572,26 +572,39 @@ pub fn oli_build_le(
     }
 }
 
+// What reads numbers, the numbers as bytes.
 #[inline(never)]
-fn encode_through<const N: usize>(
-    table: &[u8],
-    codes: &[u8],
-    values: &[u8],
-    records: &[u8],
-    out: &mut [u8],
-    at: usize,
-) -> EncodeReply
-    requires few { few_words values.now ≡ true }
+fn numbers_through<const N: usize, R, F>(values: &[u8], read: &mut F) -> R
+where
+    F: FnMut(&[u64]) -> R,
+    requires call { F.IsAlwaysCallable read.old }
     requires room { (length values.now / 8 ≤ N) × (N ≤ 65536) }
-    ensures { Writes (whole_words values.now (encoded 8 table.now (arena codes.now (words_in values.now) records.now) (length out.old) at)) at result out.old out.new }
+    ensures { CalledAt F.FnMut read.old (words_in values.now) result read.new }
 {
     let mut numbers = [0; N];
     let numbers = &mut numbers[..values.len() / 8];
     crossing::read_words(values, numbers);
-    oli_encode(table, codes, numbers, records, out, at)
+    read(numbers)
 }
 
 #[tactic(auto, using(crate::proofs::Whole::few))]
+fn numbers_le<R, F>(values: &[u8], read: &mut F) -> R
+where
+    F: FnMut(&[u64]) -> R,
+    requires call { F.IsAlwaysCallable read.old }
+    requires few { few_words values.now ≡ true }
+    ensures { CalledAt F.FnMut read.old (words_in values.now) result read.new }
+{
+    let n = values.len() / 8;
+    if n <= crossing::SMALL {
+        numbers_through::<{ crossing::SMALL }, R, F>(values, read)
+    } else if n <= crossing::MIDDLE {
+        numbers_through::<{ crossing::MIDDLE }, R, F>(values, read)
+    } else {
+        numbers_through::<{ crossing::LARGE }, R, F>(values, read)
+    }
+}
+
 pub fn oli_encode_le(
     table: &[u8],
     codes: &[u8],
@@ -605,14 +618,10 @@ pub fn oli_encode_le(
     if !crossing::few_words(values) {
         return EncodeReply::from(Err(Refusal::OverLimit));
     }
-    let n = values.len() / 8;
-    if n <= crossing::SMALL {
-        encode_through::<{ crossing::SMALL }>(table, codes, values, records, out, at)
-    } else if n <= crossing::MIDDLE {
-        encode_through::<{ crossing::MIDDLE }>(table, codes, values, records, out, at)
-    } else {
-        encode_through::<{ crossing::LARGE }>(table, codes, values, records, out, at)
-    }
+    numbers_le(
+        values,
+        &mut |numbers| { oli_encode(table, codes, numbers, records, out, at) },
+    )
 }
 
 // What a reader lent numbers leaves, the numbers as bytes.
@@ -722,38 +731,16 @@ pub fn oli_padding_le(codes: &[u8], values: &[u8], records: &[u8]) -> CheckReply
     count_le(values, |numbers| oli_padding(codes, numbers, records))
 }
 
-#[inline(never)]
-fn commitment_through<const N: usize>(
-    table: &[u8],
-    codes: &[u8],
-    values: &[u8],
-    records: &[u8],
-) -> CheckReply
-    requires few { few_words values.now ≡ true }
-    requires room { (length values.now / 8 ≤ N) × (N ≤ 65536) }
-    ensures { result ≡ check_reply (whole_words values.now (commitment_checked 8 table.now (arena codes.now (words_in values.now) records.now))) }
-{
-    let mut numbers = [0; N];
-    let numbers = &mut numbers[..values.len() / 8];
-    crossing::read_words(values, numbers);
-    oli_commitment(table, codes, numbers, records)
-}
-
-#[tactic(auto, using(crate::proofs::Whole::few))]
 pub fn oli_commitment_le(table: &[u8], codes: &[u8], values: &[u8], records: &[u8]) -> CheckReply
     ensures { result ≡ check_reply (whole_words values.now (commitment_checked 8 table.now (arena codes.now (words_in values.now) records.now))) }
 {
     if !crossing::few_words(values) {
         return CheckReply::from(Err(Refusal::OverLimit));
     }
-    let n = values.len() / 8;
-    if n <= crossing::SMALL {
-        commitment_through::<{ crossing::SMALL }>(table, codes, values, records)
-    } else if n <= crossing::MIDDLE {
-        commitment_through::<{ crossing::MIDDLE }>(table, codes, values, records)
-    } else {
-        commitment_through::<{ crossing::LARGE }>(table, codes, values, records)
-    }
+    numbers_le(
+        values,
+        &mut |numbers| { oli_commitment(table, codes, numbers, records) },
+    )
 }
 
 // A table of the numbers, its entries as bytes.
