@@ -1,12 +1,11 @@
 -- What a call leaves whose numbers go through work space: it was lent so many numbers, and their bytes go out. Private contracts cite it.
 use Rattle.std.specs.Prelude.{◌≡◌, List, ℕ, ◌/◌, min, length}
-use Rattle.std.specs.Fn.{Once}
+use Rattle.std.specs.Fn.{Once, Mut, Called}
 use denote.Ref.{Bor, MutBor}
 use Rattle.rules.specs.Lists.{fitted}
 use Rattle.rules.specs.Record.{word_bytes}
 use Rattle.rules.specs.Functions.{Arena, arena}
 use Rattle.exports.specs.declared.DecodeReply.{DecodeReply}
-use Rattle.exports.specs.declared.TableReply.{TableReply}
 
 -- codes, numbers and records, lent to be written
 abbrev pub Lent : Type 0
@@ -27,10 +26,10 @@ pub record ReadThrough {F : Type 0} (g : Once F Lent (DecodeReply × Lent)) (rea
 abbrev pub Entries : Type 0
 Entries = Bor (List ℕ) × (MutBor (List ℕ) × Unit {0})
 
-pub record TableThrough {F : Type 0} (g : Once F Entries (TableReply × (MutBor (List ℕ) × Unit {0}))) (table : F) (numbers : List ℕ) (r : TableReply) (before after : List ℕ) : Type 0 where
+pub record FillThrough {F R : Type 0} (g : Mut F Entries (R × (MutBor (List ℕ) × Unit {0}))) (fill : F) (numbers : List ℕ) (r : R) (fill' : F) (before after : List ℕ) : Type 0 where
   pub lent : Entries
   pub left : MutBor (List ℕ)
-  pub met : g.post table lent (r, (left, tt))
+  pub met : Called g fill lent (r, (left, tt)) fill'
   pub numbers_are : lent.0.now ≡ numbers
   pub room : length lent.1.0.now ≡ min (length before / 8) 65536
   pub after_is : after ≡ fitted (length before) (word_bytes left.now)

@@ -16,7 +16,7 @@ ghost use Rattle.comparison.specs.Replies as marked;
 ghost use Rattle.comparison.specs.Replies.{side, room_for};
 ghost use Rattle.crossing.specs.Words.{words_in, few_words};
 ghost use Rattle.exports.specs.Replies.{Builds, Writes, Reads, head_reply, Compares, check_reply, Tables, padded_reply, raw_reply, one_record, whole_words, in_whole, filled_bytes, BuildsBytes, ReadsBytes, TablesBytes, group_reply, next_reply};
-ghost use Rattle.exports.specs.Through.{ReadThrough, TableThrough};
+ghost use Rattle.exports.specs.Through.{ReadThrough, FillThrough};
 ghost use Rattle.exports.specs.Flat.{flat_built, flat_encoded, flat_decoded, flat_headed, flat_compared, flat_tabled, flat_padded, flat_raw, flat_group, flat_next};
 
 use build::Totals;
@@ -524,30 +524,43 @@ fn clear(out_codes: &mut [u8], out_values: &mut [u8], records: &mut [u8])
     word::zero_after(records, 0);
 }
 
+// What fills a run from numbers, both as bytes.
 #[inline(never)]
-fn build_through<const N: usize>(
-    table: &[u8],
-    codes: &[u8],
-    values: &[u8],
-    out_codes: &mut [u8],
-    out_values: &mut [u8],
-    records: &mut [u8],
-) -> BuildReply
-    requires few { few_words values.now ≡ true }
-    requires room { (max (length values.now / 8) (min (length out_values.old / 8) 65536) ≤ N) × (N ≤ 65536) }
-    ensures { BuildsBytes (λ (room : Room). whole_words values.now (built 8 table.now codes.now (words_in values.now) room)) result (arena out_codes.old out_values.old records.old) (arena out_codes.new out_values.new records.new) }
+fn fill_through<const N: usize, R, F>(values: &[u8], fill: &mut F, out: &mut [u8]) -> R
+where
+    F: FnMut(&[u64], &mut [u64]) -> R,
+    requires call { F.IsAlwaysCallable fill.old }
+    requires room { (max (length values.now / 8) (min (length out.old / 8) 65536) ≤ N) × (N ≤ 65536) }
+    ensures { FillThrough F.FnMut fill.old (words_in values.now) result fill.new out.old out.new }
 {
     let mut numbers = [0; N];
     let mut work = [0; N];
     let numbers = &mut numbers[..values.len() / 8];
-    let work = &mut work[..crossing::lent(out_values.len())];
+    let work = &mut work[..crossing::lent(out.len())];
     crossing::read_words(values, numbers);
-    let r = oli_build(table, codes, numbers, out_codes, work, records);
-    crossing::bytes_out(work, out_values);
+    let r = fill(numbers, work);
+    crossing::bytes_out(work, out);
     r
 }
 
 #[tactic(auto, using(crate::proofs::Whole::few))]
+fn fill_le<R, F>(values: &[u8], fill: &mut F, out: &mut [u8]) -> R
+where
+    F: FnMut(&[u64], &mut [u64]) -> R,
+    requires call { F.IsAlwaysCallable fill.old }
+    requires few { few_words values.now ≡ true }
+    ensures { FillThrough F.FnMut fill.old (words_in values.now) result fill.new out.old out.new }
+{
+    let n = (values.len() / 8).max(crossing::lent(out.len()));
+    if n <= crossing::SMALL {
+        fill_through::<{ crossing::SMALL }, R, F>(values, fill, out)
+    } else if n <= crossing::MIDDLE {
+        fill_through::<{ crossing::MIDDLE }, R, F>(values, fill, out)
+    } else {
+        fill_through::<{ crossing::LARGE }, R, F>(values, fill, out)
+    }
+}
+
 pub fn oli_build_le(
     table: &[u8],
     codes: &[u8],
@@ -562,14 +575,11 @@ pub fn oli_build_le(
         clear(out_codes, out_values, records);
         return BuildReply::from(Err(Refusal::OverLimit));
     }
-    let n = (values.len() / 8).max(crossing::lent(out_values.len()));
-    if n <= crossing::SMALL {
-        build_through::<{ crossing::SMALL }>(table, codes, values, out_codes, out_values, records)
-    } else if n <= crossing::MIDDLE {
-        build_through::<{ crossing::MIDDLE }>(table, codes, values, out_codes, out_values, records)
-    } else {
-        build_through::<{ crossing::LARGE }>(table, codes, values, out_codes, out_values, records)
-    }
+    fill_le(
+        values,
+        &mut |numbers, work| oli_build(table, codes, numbers, out_codes, work, records),
+        out_values,
+    )
 }
 
 // What reads numbers, the numbers as bytes.
@@ -744,44 +754,18 @@ pub fn oli_commitment_le(table: &[u8], codes: &[u8], values: &[u8], records: &[u
 }
 
 // A table of the numbers, its entries as bytes.
-#[inline(never)]
-fn table_through<const N: usize, F>(values: &[u8], table: F, out: &mut [u8]) -> TableReply
+fn table_le<F>(values: &[u8], table: &mut F, out: &mut [u8]) -> TableReply
 where
-    F: FnOnce(&[u64], &mut [u64]) -> TableReply,
-    requires call { F.IsAlwaysCallable table }
-    requires room { (max (length values.now / 8) (min (length out.old / 8) 65536) ≤ N) × (N ≤ 65536) }
-    ensures { TableThrough F.FnOnce table (words_in values.now) result out.old out.new }
-{
-    let mut numbers = [0; N];
-    let mut work = [0; N];
-    let numbers = &mut numbers[..values.len() / 8];
-    let work = &mut work[..crossing::lent(out.len())];
-    crossing::read_words(values, numbers);
-    let r = table(numbers, work);
-    crossing::bytes_out(work, out);
-    r
-}
-
-#[tactic(auto, using(crate::proofs::Whole::few))]
-fn table_le<F>(values: &[u8], table: F, out: &mut [u8]) -> TableReply
-where
-    F: FnOnce(&[u64], &mut [u64]) -> TableReply,
-    requires { F.IsAlwaysCallable table }
-    ensures few { few_words values.now ≡ true → TableThrough F.FnOnce table (words_in values.now) result out.old out.new }
+    F: FnMut(&[u64], &mut [u64]) -> TableReply,
+    requires { F.IsAlwaysCallable table.old }
+    ensures few { few_words values.now ≡ true → FillThrough F.FnMut table.old (words_in values.now) result table.new out.old out.new }
     ensures many { few_words values.now ≡ false → TablesBytes (refused over_limit₃ 0) result out.old out.new }
 {
     if !crossing::few_words(values) {
         word::zero_after(out, 0);
         return TableReply::from(Err(Refusal::OverLimit));
     }
-    let n = (values.len() / 8).max(crossing::lent(out.len()));
-    if n <= crossing::SMALL {
-        table_through::<{ crossing::SMALL }, F>(values, table, out)
-    } else if n <= crossing::MIDDLE {
-        table_through::<{ crossing::MIDDLE }, F>(values, table, out)
-    } else {
-        table_through::<{ crossing::LARGE }, F>(values, table, out)
-    }
+    fill_le(values, table, out)
 }
 
 pub fn oli_raw_table_le(codes: &[u8], values: &[u8], records: &[u8], out: &mut [u8]) -> TableReply
@@ -789,7 +773,7 @@ pub fn oli_raw_table_le(codes: &[u8], values: &[u8], records: &[u8], out: &mut [
 {
     table_le(
         values,
-        |numbers, entries| oli_raw_table(codes, numbers, records, entries),
+        &mut |numbers, entries| oli_raw_table(codes, numbers, records, entries),
         out,
     )
 }
@@ -804,7 +788,7 @@ pub fn oli_padded_table_le(
 {
     table_le(
         values,
-        |numbers, entries| oli_padded_table(codes, numbers, records, entries),
+        &mut |numbers, entries| oli_padded_table(codes, numbers, records, entries),
         out,
     )
 }
