@@ -1,19 +1,22 @@
 -- A reply made from what the library's own reply tells is the reply made from the definitions' answer. Assumes nothing.
-use mathlib.Core.Path.{◌≡◌, refl, ap, ◌∙◌}
+use mathlib.Core.Path.{◌≡◌, refl, sym, ap, ◌∙◌}
+use mathlib.Core.Bool.{Bool, true, false, not}
 use mathlib.Core.List.{List}
 use mathlib.Core.Option.{Option, none, some}
 use Prim.Native.Nat.{ℕ}
 use lib.ListN.{length}
 use lib.IntN.{ℤ}
-use Rattle.rules.specs.Answer.{Answer, good, refused, Read}
-use Rattle.rules.specs.Record.{Block, no_block}
+use Rattle.rules.specs.Answer.{Answer, good, refused, refuse, Read}
+use Rattle.rules.specs.Refusals.{over_limit₃}
+use Rattle.rules.specs.Record.{Record, record_at, record_size, Block, no_block}
 use Rattle.rules.specs.Block.{Room, Head}
 use Rattle.rules.specs.Lookups.{Place, Raw, raw_at, Padded, padded_at}
 use Rattle.rules.specs.Functions as rule
 use Rattle.rules.specs.Functions.{Arena, room_in, encoded, reported, refused_by}
-use Rattle.std.specs.Prelude.{Result}
+use lib.Dec.{eqb}
+use Rattle.std.specs.Prelude.{Result, Ok, Err, MatchResult}
 use Rattle.refusal.specs.declared.Refusal.{Refusal}
-use Rattle.refusal.specs.Told.{told}
+use Rattle.refusal.specs.Told.{told, told_by}
 use Rattle.batcher.specs.declared.Totals.{Totals}
 use Rattle.batcher.specs.Batched.{built_of}
 use Rattle.build.specs.Outcome.{Outcome}
@@ -21,18 +24,17 @@ use Rattle.encoder.specs.Replies.{encoded_of, Encodes}
 use Rattle.decoder.specs.declared.Decoded.{Decoded}
 use Rattle.decoder.specs.Replies.{decoded_of}
 use Rattle.decoder.specs.Replies as decoder
-use Rattle.head.specs.Replies.{head_of}
-use Rattle.prefix.specs.Tables.{tabled_of, padded_found, raw_found}
 use Rattle.comparison.specs.declared.Refused.{Refused}
 use Rattle.comparison.specs.Replies.{compared_of}
 use Rattle.comparison.specs.Replies as comparison
-use Rattle.op_batch.specs.OpBatch.{lookup_of, next_of}
+use Rattle.op_batch.specs.OpBatch.{record_in, lookup_of, next_of}
+use Rattle.op_batch.specs.declared.OpBatch.{OpBatch}
 use Rattle.exports.specs.declared.BuildReply.{BuildReply}
 use Rattle.exports.specs.declared.CompareReply.{CompareReply}
 use Rattle.exports.specs.declared.EncodeReply.{EncodeReply}
 use Rattle.exports.specs.declared.DecodeReply.{DecodeReply}
-use Rattle.exports.specs.Replies.{build_reply, Builds, encode_reply, Writes, decode_reply, Reads, head_reply, compare_reply, Compares, table_reply, padded_reply, raw_reply, group_reply, next_reply}
-use Rattle.exports.specs.Flat.{flat_built, flat_encoded, flat_decoded, flat_headed, flat_compared, flat_tabled, flat_padded, flat_raw, flat_group, flat_next}
+use Rattle.exports.specs.Replies.{build_reply, Builds, encode_reply, Writes, decode_reply, Reads, head_reply, compare_reply, Compares, table_reply, padded_reply, raw_reply, one_record, group_reply, next_reply}
+use Rattle.exports.specs.Flat.{flat_built, flat_encoded, flat_decoded, flat_compared, flat_group, flat_next}
 
 cross_built : (d : Answer Block) → flat_built (built_of d) ≡ build_reply d
 unfolding no_block
@@ -57,10 +59,6 @@ cross_decoded at (refused n p) = refl
 pub cross_reads : {answer : Room → Read Block} {at : ℕ} {r : Result Decoded Refusal} {reply : DecodeReply} {before after : Arena} → reply ≡ flat_decoded (told r) → decoder.Reads answer at before after r → Reads answer at reply before after
 cross_reads {answer} {at} {before = before} e h = record { reply = e ∙ (ap flat_decoded h.reply ∙ cross_decoded at (answer (room_in before))); runs = h.runs }
 
-pub cross_headed : (d : Read Head) → flat_headed (head_of d) ≡ head_reply d
-cross_headed (good i) = refl
-cross_headed (refused n p) = refl
-
 cross_compared : (d : rule.Compared) → flat_compared (compared_of d) ≡ compare_reply d
 cross_compared (reported es) = refl
 cross_compared (refused_by m n p) = refl
@@ -75,17 +73,24 @@ cross_compares {answer} e h =
       report = h.reports.report;
     }
 
-pub cross_tabled : (d : Answer (List ℕ)) → flat_tabled (tabled_of d) ≡ table_reply d
-cross_tabled (good es) = refl
-cross_tabled (refused n p) = refl
+-- what is asked of the one record of a run
+module _ {A B : Type 0} (of : Answer A → Answer B) (keeps : (n p : ℕ) → of (refused n p) ≡ refused n p) where
+  pub asked : (s : List ℕ) (look : Record → Answer A) (r : Result OpBatch Refusal) (q : Result B Refusal) → told_by record_in r ≡ one_record s (good (record_at s 0))
+      → MatchResult r (λ b. told q ≡ of (look (record_in b))) (λ e. q ≡ Err e) → told q ≡ of (one_record s (look (record_at s 0)))
+  unfolding one_record
+  asked s look r q h m = after r m ∙ ap of (follows (eqb (length s) record_size) h)
+    where
+      follow : Answer Record → Answer A
+      follow (good x) = look x
+      follow (refused n p) = refused n p
 
-pub cross_padded : (d : Option Padded) → flat_padded (padded_found d) ≡ padded_reply d
-cross_padded none = refl
-cross_padded (some (padded_at i)) = refl
+      after : (r : Result OpBatch Refusal) → MatchResult r (λ b. told q ≡ of (look (record_in b))) (λ e. q ≡ Err e) → told q ≡ of (follow (told_by record_in r))
+      after (Ok b) m = m
+      after (Err e) m = ap told m ∙ sym (keeps _ _)
 
-pub cross_raw : (d : Option Raw) → flat_raw (raw_found d) ≡ raw_reply d
-cross_raw none = refl
-cross_raw (some (raw_at i)) = refl
+      follows : {d : Answer Record} (b : Bool) → d ≡ refuse (not b) over_limit₃ 0 (good (record_at s 0)) → follow d ≡ refuse (not b) over_limit₃ 0 (look (record_at s 0))
+      follows true h = ap follow h
+      follows false h = ap follow h
 
 pub cross_group : (d : Answer (Option Place)) → flat_group (lookup_of d) ≡ group_reply d
 cross_group (good none) = refl

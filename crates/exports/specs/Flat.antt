@@ -6,8 +6,6 @@ use Rattle.decoder.specs.declared.Decoded.{Decoded}
 use Rattle.head.specs.declared.Headed.{Headed}
 use Rattle.comparison.specs.Replies.{Marked}
 use Rattle.op_batch.specs.declared.Place.{Place}
-use Rattle.prefix.specs.declared.PaddedIndex.{PaddedIndex}
-use Rattle.prefix.specs.declared.RawIndex.{RawIndex}
 use Rattle.exports.specs.declared.BuildReply.{BuildReply}
 use Rattle.exports.specs.declared.EncodeReply.{EncodeReply}
 use Rattle.exports.specs.declared.DecodeReply.{DecodeReply}
@@ -42,13 +40,9 @@ abbrev pub flat_tabled : Answer ℕ → TableReply
 flat_tabled (good e) = record { number = 0; place = 0; entries = e }
 flat_tabled (refused n p) = record { number = n; place = p; entries = 0 }
 
-abbrev pub flat_padded : Option PaddedIndex → IndexReply
-flat_padded None = record { found = 0; index = 0 }
-flat_padded (Some i) = record { found = 1; index = i.0 }
-
-abbrev pub flat_raw : Option RawIndex → IndexReply
-flat_raw None = record { found = 0; index = 0 }
-flat_raw (Some i) = record { found = 1; index = i.0 }
+abbrev pub flat_index : Option ℕ → IndexReply
+flat_index None = record { found = 0; index = 0 }
+flat_index (Some i) = record { found = 1; index = i }
 
 abbrev pub flat_group : Answer (Option Place) → GroupReply
 flat_group (good None) = record { number = 0; place = 0; found = 0; group = 0; position = 0 }

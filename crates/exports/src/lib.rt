@@ -5,26 +5,27 @@
 
 ghost use Rattle.std.specs.Prelude.{◌≡◌, true, false, ◌/◌, ◌≤◌, min, max, length};
 ghost use Rattle.std.specs.Fn.{CalledAt, FnOnceReturnsAt};
-ghost use Rattle.rules.specs.Answer.{refused};
+ghost use Rattle.rules.specs.Answer.{good, refused};
 ghost use Rattle.rules.specs.Refusals.{over_limit₃};
 ghost use Rattle.rules.specs.Record.{record_at, no_block};
 ghost use Rattle.rules.specs.Block.{Room};
 ghost use Rattle.rules.specs.Lookups.{raw_at, padded_at, padded_index, raw_index};
 ghost use Rattle.rules.specs.Functions.{arena, built, encoded, decoded, strictly_decoded, compared, headed, structure_checked, padding_checked, commitment_checked, raw_tabled, padded_tabled, group_lookup, next_lookup};
-ghost use Rattle.refusal.specs.Told.{told};
+ghost use Rattle.refusal.specs.Told.{told, told_by};
+ghost use Rattle.op_batch.specs.OpBatch.{record_in};
 ghost use Rattle.comparison.specs.Replies as marked;
 ghost use Rattle.comparison.specs.Replies.{side, room_for};
 ghost use Rattle.crossing.specs.Words.{words_in, few_words};
 ghost use Rattle.exports.specs.Replies.{Builds, Writes, Reads, head_reply, Compares, check_reply, Tables, padded_reply, raw_reply, one_record, whole_words, in_whole, filled_bytes, BuildsBytes, ReadsBytes, TablesBytes, group_reply, next_reply};
 ghost use Rattle.exports.specs.Through.{ReadThrough, FillThrough};
-ghost use Rattle.exports.specs.Flat.{flat_built, flat_encoded, flat_decoded, flat_headed, flat_compared, flat_tabled, flat_padded, flat_raw, flat_group, flat_next};
+ghost use Rattle.exports.specs.Flat.{flat_built, flat_encoded, flat_decoded, flat_headed, flat_compared, flat_tabled, flat_index, flat_group, flat_next};
 
 use build::Totals;
 use checks::Arena;
 use comparison::Refused;
 use decoder::Decoded;
 use head::Headed;
-use op_batch::{Place, RecordAt};
+use op_batch::{OpBatch, Place, RecordAt};
 use prefix::{PaddedIndex, RawIndex};
 use refusal::Refusal;
 
@@ -222,29 +223,12 @@ pub struct IndexReply {
     pub index: usize,
 }
 
-impl From<Option<PaddedIndex>> for IndexReply {
-    ghost from_gives = { λ i reply. reply ≡ flat_padded i };
+impl From<Option<usize>> for IndexReply {
+    ghost from_gives = { λ i reply. reply ≡ flat_index i };
 
-    fn from(i: Option<PaddedIndex>) -> IndexReply {
+    fn from(i: Option<usize>) -> IndexReply {
         match i {
-            Some(i) => IndexReply {
-                found: 1,
-                index: i.0,
-            },
-            None => IndexReply::default(),
-        }
-    }
-}
-
-impl From<Option<RawIndex>> for IndexReply {
-    ghost from_gives = { λ i reply. reply ≡ flat_raw i };
-
-    fn from(i: Option<RawIndex>) -> IndexReply {
-        match i {
-            Some(i) => IndexReply {
-                found: 1,
-                index: i.0,
-            },
+            Some(index) => IndexReply { found: 1, index },
             None => IndexReply::default(),
         }
     }
@@ -479,35 +463,44 @@ pub fn oli_padded_table(codes: &[u8], values: &[u64], records: &[u8], out: &mut 
 pub fn oli_padded_index(table: &[u64], raw: usize) -> IndexReply
     ensures { result ≡ padded_reply (padded_index table.now (raw_at raw)) }
 {
-    prefix::raw_to_padded_index(table, RawIndex(raw)).into()
+    prefix::raw_to_padded_index(table, RawIndex(raw))
+        .map(|i| i.0)
+        .into()
 }
 
 pub fn oli_raw_index(table: &[u64], padded: usize) -> IndexReply
     ensures { result ≡ raw_reply (raw_index table.now (padded_at padded)) }
 {
-    prefix::padded_to_raw_index(table, PaddedIndex(padded)).into()
+    prefix::padded_to_raw_index(table, PaddedIndex(padded))
+        .map(|i| i.0)
+        .into()
 }
 
 // ---- lookups in one batch
 
+fn one_record(run: &[u8]) -> Result<OpBatch, Refusal>
+    ensures { told_by record_in result ≡ one_record run.now (good (record_at run.now 0)) }
+{
+    if run.len() != op_batch::RECORD {
+        return Err(Refusal::OverLimit);
+    }
+    Ok(RecordAt { records: run, b: 0 }.load())
+}
+
 pub fn oli_group(run: &[u8], index: usize) -> GroupReply
     ensures { result ≡ group_reply (one_record run.now (group_lookup 8 (record_at run.now 0) index)) }
 {
-    if run.len() != op_batch::RECORD {
-        return GroupReply::from(Err(Refusal::OverLimit));
-    }
-    let batch = RecordAt { records: run, b: 0 }.load();
-    batch.op_idx_in_batch_to_group(index).into()
+    one_record(run)
+        .and_then(|batch| batch.op_idx_in_batch_to_group(index))
+        .into()
 }
 
 pub fn oli_next_group(run: &[u8], group: usize) -> NextReply
     ensures { result ≡ next_reply (one_record run.now (next_lookup 8 (record_at run.now 0) group)) }
 {
-    if run.len() != op_batch::RECORD {
-        return NextReply::from(Err(Refusal::OverLimit));
-    }
-    let batch = RecordAt { records: run, b: 0 }.load();
-    batch.next_op_group_index(group).into()
+    one_record(run)
+        .and_then(|batch| batch.next_op_group_index(group))
+        .into()
 }
 
 // ---- the same functions with runs of 64-bit numbers as little-endian bytes, eight to a number
@@ -800,7 +793,7 @@ pub fn oli_padded_index_le(table: &[u8], raw: usize) -> IndexReply
         return IndexReply::default();
     }
     let entry = word::le::<8>(table, 8 * raw);
-    prefix::padded_by(entry, RawIndex(raw)).into()
+    prefix::padded_by(entry, RawIndex(raw)).map(|i| i.0).into()
 }
 
 pub fn oli_raw_index_le(table: &[u8], padded: usize) -> IndexReply
@@ -810,5 +803,7 @@ pub fn oli_raw_index_le(table: &[u8], padded: usize) -> IndexReply
         return IndexReply::default();
     }
     let entry = word::le::<8>(table, 8 * padded);
-    prefix::raw_by(entry, PaddedIndex(padded)).into()
+    prefix::raw_by(entry, PaddedIndex(padded))
+        .map(|i| i.0)
+        .into()
 }

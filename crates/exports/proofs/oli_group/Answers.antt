@@ -1,20 +1,19 @@
-use mathlib.Core.Path.{ap, ◌∙◌}
-use borrow.Author.Tests.{eq-eqb, ne_eqb}
-use Rattle.rules.specs.Record.{Record, record_at}
+use mathlib.Core.Path.{◌≡◌, refl, ap, ◌∙◌}
+use borrow.Author.Rules.{rules}
+use Rattle.std.specs.Prelude.{MatchResult, Err}
+use Rattle.refusal.specs.Told.{told}
+use Rattle.rules.specs.Record.{record_at}
 use Rattle.rules.specs.Functions.{group_lookup}
-use Rattle.op_batch.specs.OpBatch.{lookup_of}
+use Rattle.op_batch.specs.OpBatch.{record_in, lookup_of}
 use Rattle.exports.specs.Replies.{one_record}
 use Rattle.exports.specs.Flat.{flat_group}
-use Rattle.exports.proofs.Cross.{cross_group}
+use Rattle.exports.proofs.Cross.{asked, cross_group}
 use Rattle.exports.proofs.oli_group.Goals as goal
 
-pub returns-then-run-ne-RECORD : goal.returns-then-run-ne-RECORD
-unfolding one_record
-returns-then-run-ne-RECORD c = simp (ne_eqb _ _ c.if-run-ne-RECORD.true) c.from.ensures
-
 pub returns : goal.returns
-unfolding one_record
 returns c =
     let a = c.args in
-    let e = c.op_idx_in_batch_to_group.ensures ∙ ap (λ (r : Record). lookup_of (group_lookup 8 r a.index)) c.load-batch.ensures in
-    simp (eq-eqb _ _ c.if-run-ne-RECORD.false) (c.into.ensures ∙ (ap flat_group e ∙ cross_group (group_lookup 8 (record_at a.run.now 0) a.index)))
+    let m : MatchResult c.one_record.result (λ b. told c.and_then.result ≡ lookup_of (group_lookup 8 (record_in b) a.index)) (λ e. c.and_then.result ≡ Err e) = search rules in
+    c.into.ensures
+    ∙ ap flat_group (asked lookup_of (λ n p. refl) a.run.now (λ r. group_lookup 8 r a.index) c.one_record.result c.and_then.result c.one_record.ensures m)
+    ∙ cross_group (one_record a.run.now (group_lookup 8 (record_at a.run.now 0) a.index))

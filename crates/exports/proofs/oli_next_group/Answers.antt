@@ -1,20 +1,19 @@
-use mathlib.Core.Path.{ap, ◌∙◌}
-use borrow.Author.Tests.{eq-eqb, ne_eqb}
-use Rattle.rules.specs.Record.{Record, record_at}
+use mathlib.Core.Path.{◌≡◌, refl, ap, ◌∙◌}
+use borrow.Author.Rules.{rules}
+use Rattle.std.specs.Prelude.{MatchResult, Err}
+use Rattle.refusal.specs.Told.{told}
+use Rattle.rules.specs.Record.{record_at}
 use Rattle.rules.specs.Functions.{next_lookup}
-use Rattle.op_batch.specs.OpBatch.{next_of}
+use Rattle.op_batch.specs.OpBatch.{record_in, next_of}
 use Rattle.exports.specs.Replies.{one_record}
 use Rattle.exports.specs.Flat.{flat_next}
-use Rattle.exports.proofs.Cross.{cross_next}
+use Rattle.exports.proofs.Cross.{asked, cross_next}
 use Rattle.exports.proofs.oli_next_group.Goals as goal
 
-pub returns-then-run-ne-RECORD : goal.returns-then-run-ne-RECORD
-unfolding one_record
-returns-then-run-ne-RECORD c = simp (ne_eqb _ _ c.if-run-ne-RECORD.true) c.from.ensures
-
 pub returns : goal.returns
-unfolding one_record
 returns c =
     let a = c.args in
-    let e = c.next_op_group_index.ensures ∙ ap (λ (r : Record). next_of (next_lookup 8 r a.group)) c.load-batch.ensures in
-    simp (eq-eqb _ _ c.if-run-ne-RECORD.false) (c.into.ensures ∙ (ap flat_next e ∙ cross_next (next_lookup 8 (record_at a.run.now 0) a.group)))
+    let m : MatchResult c.one_record.result (λ b. told c.and_then.result ≡ next_of (next_lookup 8 (record_in b) a.group)) (λ e. c.and_then.result ≡ Err e) = search rules in
+    c.into.ensures
+    ∙ ap flat_next (asked next_of (λ n p. refl) a.run.now (λ r. next_lookup 8 r a.group) c.one_record.result c.and_then.result c.one_record.ensures m)
+    ∙ cross_next (one_record a.run.now (next_lookup 8 (record_at a.run.now 0) a.group))

@@ -1,8 +1,6 @@
 use Rattle.rules.specs.Lookups.{raw_at, padded_index}
 use Rattle.crossing.specs.Words.{words_in}
 use Rattle.exports.proofs.Indexes.{inside, padded_none, padded_found_lem}
-use Rattle.exports.proofs.Cross.{cross_padded}
-use Rattle.exports.specs.Flat.{flat_padded}
 use Rattle.exports.specs.Replies.{in_whole, padded_reply}
 use Rattle.prefix.specs.Tables.{padded_found, padded_by}
 use Prim.Native.Nat.{ℕ}
@@ -29,7 +27,4 @@ le-entry-requires c =
 pub returns : goal.returns
 returns c =
     let a = c.args in
-    let h = sym c.has_word.ensures ∙ c.if-not-has_word.false in
-    c.into.ensures
-    ∙ ap flat_padded (c.padded_by.ensures ∙ ap (λ (e : ℕ). padded_found (padded_by e (raw_at a.raw))) c.le-entry.ensures.0 ∙ ap padded_found (sym (padded_found_lem a.table.now a.raw h)))
-    ∙ cross_padded (in_whole a.table.now (padded_index (words_in a.table.now) (raw_at a.raw)))
+    rw (padded_found_lem a.table.now a.raw (sym c.has_word.ensures ∙ c.if-not-has_word.false)) (search rules)

@@ -1,8 +1,6 @@
 use Rattle.rules.specs.Lookups.{padded_at, raw_index}
 use Rattle.crossing.specs.Words.{words_in}
 use Rattle.exports.proofs.Indexes.{inside, raw_none, raw_found_lem}
-use Rattle.exports.proofs.Cross.{cross_raw}
-use Rattle.exports.specs.Flat.{flat_raw}
 use Rattle.exports.specs.Replies.{in_whole, raw_reply}
 use Rattle.prefix.specs.Tables.{raw_found, raw_by}
 use Prim.Native.Nat.{ℕ}
@@ -29,7 +27,4 @@ le-entry-requires c =
 pub returns : goal.returns
 returns c =
     let a = c.args in
-    let h = sym c.has_word.ensures ∙ c.if-not-has_word.false in
-    c.into.ensures
-    ∙ ap flat_raw (c.raw_by.ensures ∙ ap (λ (e : ℕ). raw_found (raw_by e (padded_at a.padded))) c.le-entry.ensures.0 ∙ ap raw_found (sym (raw_found_lem a.table.now a.padded h)))
-    ∙ cross_raw (in_whole a.table.now (raw_index (words_in a.table.now) (padded_at a.padded)))
+    rw (raw_found_lem a.table.now a.padded (sym c.has_word.ensures ∙ c.if-not-has_word.false)) (search rules)
