@@ -29,6 +29,19 @@ use op_batch::{OpBatch, Place, RecordAt};
 use prefix::{PaddedIndex, RawIndex};
 use refusal::Refusal;
 
+// C reads each reply by its own name, also those with the same fields.
+//
+// A refusal in a reply; every length and total is 0. A macro, since no trait names a field.
+macro_rules! refused {
+    ($reply:ident, $r:expr) => {
+        $reply {
+            number: $r.number(),
+            place: $r.place(),
+            ..$reply::default()
+        }
+    };
+}
+
 #[repr(C)]
 #[derive(Clone, Copy, Default)]
 pub struct BuildReply {
@@ -48,11 +61,7 @@ impl From<Result<Totals, Refusal>> for BuildReply {
                 operations: t.operations,
                 ..BuildReply::default()
             },
-            Err(r) => BuildReply {
-                number: r.number(),
-                place: r.place(),
-                ..BuildReply::default()
-            },
+            Err(r) => refused!(BuildReply, r),
         }
     }
 }
@@ -74,11 +83,7 @@ impl From<Result<usize, Refusal>> for EncodeReply {
                 length,
                 ..EncodeReply::default()
             },
-            Err(r) => EncodeReply {
-                number: r.number(),
-                place: r.place(),
-                ..EncodeReply::default()
-            },
+            Err(r) => refused!(EncodeReply, r),
         }
     }
 }
@@ -104,11 +109,7 @@ impl From<Result<Decoded, Refusal>> for DecodeReply {
                 used: d.used,
                 ..DecodeReply::default()
             },
-            Err(r) => DecodeReply {
-                number: r.number(),
-                place: r.place(),
-                ..DecodeReply::default()
-            },
+            Err(r) => refused!(DecodeReply, r),
         }
     }
 }
@@ -132,11 +133,7 @@ impl From<Result<Headed, Refusal>> for HeadReply {
                 operations: h.operations,
                 ..HeadReply::default()
             },
-            Err(r) => HeadReply {
-                number: r.number(),
-                place: r.place(),
-                ..HeadReply::default()
-            },
+            Err(r) => refused!(HeadReply, r),
         }
     }
 }
@@ -182,10 +179,7 @@ impl From<Result<(), Refusal>> for CheckReply {
     fn from(r: Result<(), Refusal>) -> CheckReply {
         match r {
             Ok(()) => CheckReply::default(),
-            Err(r) => CheckReply {
-                number: r.number(),
-                place: r.place(),
-            },
+            Err(r) => refused!(CheckReply, r),
         }
     }
 }
@@ -207,11 +201,7 @@ impl From<Result<usize, Refusal>> for TableReply {
                 entries,
                 ..TableReply::default()
             },
-            Err(r) => TableReply {
-                number: r.number(),
-                place: r.place(),
-                ..TableReply::default()
-            },
+            Err(r) => refused!(TableReply, r),
         }
     }
 }
@@ -256,11 +246,7 @@ impl From<Result<Option<Place>, Refusal>> for GroupReply {
                 ..GroupReply::default()
             },
             Ok(None) => GroupReply::default(),
-            Err(r) => GroupReply {
-                number: r.number(),
-                place: r.place(),
-                ..GroupReply::default()
-            },
+            Err(r) => refused!(GroupReply, r),
         }
     }
 }
@@ -285,11 +271,7 @@ impl From<Result<Option<usize>, Refusal>> for NextReply {
                 ..NextReply::default()
             },
             Ok(None) => NextReply::default(),
-            Err(r) => NextReply {
-                number: r.number(),
-                place: r.place(),
-                ..NextReply::default()
-            },
+            Err(r) => refused!(NextReply, r),
         }
     }
 }
