@@ -1,5 +1,5 @@
 -- Outputs that cross as bytes: what the work space holds, written out, is what the definitions say of the bytes. Assumes nothing.
-use mathlib.Core.Path.{◌≡◌, refl, sym, ap, ◌∙◌, subst}
+use mathlib.Core.Path.{◌≡◌, refl, sym, ap, ◌∙◌}
 use mathlib.Core.Bool.{Bool, true, false, not, ◌&&◌}
 use mathlib.Core.List.{List, [], ◌∷◌, ◌++◌, append_assoc, map}
 use Prim.Native.Nat.{ℕ, zero, suc, ◌+◌, ◌-◌, ◌*◌, ◌/◌, ◌≤◌, min, zero-le}
@@ -25,8 +25,6 @@ use Rattle.claims.proofs.ReadThenChecked.{count_limit, ops_allowed}
 use Rattle.wire.specs.Stages.{IfFound}
 use Rattle.wire.proofs.Stages.{if_then, if_refuse, held}
 use Rattle.rules.proofs.Sizes.{length_values}
-use Rattle.std.specs.Fn.{Once}
-use Rattle.exports.specs.Through.{Lent, arena_of, ReadThrough}
 use Rattle.exports.specs.Replies.{decode_reply, Reads, room_bytes, filled_bytes, ReadsBytes}
 use Rattle.exports.specs.declared.DecodeReply.{DecodeReply}
 
@@ -144,15 +142,13 @@ module _ {answer : Room → Read Block} (k : Bounded answer) (at : ℕ) (os wk r
   unfolding room_in
   fits_work = left_fits (length wk) (answer (room_in (arena os wk rs))) (k.fits (room_in (arena os wk rs)))
 
-  written : (r : DecodeReply) (os' wk' rs' : List ℕ) → Reads answer at r (arena os wk rs) (arena os' wk' rs') → ReadsBytes answer at r (arena os ov rs) (arena os' (fitted (length ov) (word_bytes wk')) rs')
-  written r os' wk' rs' d =
+  written : (r : DecodeReply) (os' wk' rs' ov' : List ℕ) → Reads answer at r (arena os wk rs) (arena os' wk' rs') → ov' ≡ fitted (length ov) (word_bytes wk') → ReadsBytes answer at r (arena os ov rs) (arena os' ov' rs')
+  written r os' wk' rs' ov' d o =
       record {
         reply = d.reply ∙ ap (decode_reply at) same_room;
-        runs = arena_out os wk rs ov _ os' wk' rs' _ fits_work d.runs refl ∙ ap (λ (x : Read Block). filled_bytes (arena os ov rs) (leaves no_block (item_of x))) same_room;
+        runs = arena_out os wk rs ov _ os' wk' rs' ov' fits_work d.runs o ∙ ap (λ (x : Read Block). filled_bytes (arena os ov rs) (leaves no_block (item_of x))) same_room;
       }
 
-pub reads_out : {answer : Room → Read Block} → Bounded answer → {at : ℕ} {F : Type 0} {g : Once F Lent (DecodeReply × Lent)} {read : F} {r : DecodeReply} {before after : Arena} (h : ReadThrough g read r before after)
-    → Reads answer at r (arena_of h.lent) (arena_of h.left) → ReadsBytes answer at r before after
-reads_out {answer} k {at} {r = r} {before} h d =
-    let l = arena_of h.left in
-    rw h.after_is (written k at before.codes h.lent.1.0.now before.records before.values h.room r l.codes l.values l.records (subst (λ (b : Arena). Reads answer at r b l) h.before_is d))
+pub reads_out : {answer : Room → Read Block} → Bounded answer → {at : ℕ} {os wk rs ov os' wk' rs' ov' : List ℕ} {r : DecodeReply} → Reads answer at r (arena os wk rs) (arena os' wk' rs')
+    → length wk ≡ min (length ov / 8) 65536 → ov' ≡ fitted (length ov) (word_bytes wk') → ReadsBytes answer at r (arena os ov rs) (arena os' ov' rs')
+reads_out k {at} {os} {wk} {rs} {ov} {os'} {wk'} {rs'} {ov'} {r} d e o = written k at os wk rs ov e r os' wk' rs' ov' d o

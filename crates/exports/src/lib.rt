@@ -609,45 +609,35 @@ pub fn oli_encode_le(
     )
 }
 
-// What a reader lent numbers leaves, the numbers as bytes.
+// What fills a run with numbers, the run as bytes.
 #[inline(never)]
-fn read_through<const N: usize, F>(
-    read: F,
-    out_codes: &mut [u8],
-    out_values: &mut [u8],
-    records: &mut [u8],
-) -> DecodeReply
+fn read_through<const N: usize, R, F>(read: &mut F, out: &mut [u8]) -> R
 where
-    F: FnOnce(&mut [u8], &mut [u64], &mut [u8]) -> DecodeReply,
-    requires call { F.IsAlwaysCallable read }
-    requires room { (min (length out_values.old / 8) 65536 ≤ N) × (N ≤ 65536) }
-    ensures { ReadThrough F.FnOnce read result (arena out_codes.old out_values.old records.old) (arena out_codes.new out_values.new records.new) }
+    F: FnMut(&mut [u64]) -> R,
+    requires call { F.IsAlwaysCallable read.old }
+    requires room { (min (length out.old / 8) 65536 ≤ N) × (N ≤ 65536) }
+    ensures { ReadThrough F.FnMut read.old result read.new out.old out.new }
 {
     let mut work = [0; N];
-    let work = &mut work[..crossing::lent(out_values.len())];
-    let r = read(out_codes, work, records);
-    crossing::bytes_out(work, out_values);
+    let work = &mut work[..crossing::lent(out.len())];
+    let r = read(work);
+    crossing::bytes_out(work, out);
     r
 }
 
-fn read_le<F>(
-    read: F,
-    out_codes: &mut [u8],
-    out_values: &mut [u8],
-    records: &mut [u8],
-) -> DecodeReply
+fn read_le<R, F>(read: &mut F, out: &mut [u8]) -> R
 where
-    F: FnOnce(&mut [u8], &mut [u64], &mut [u8]) -> DecodeReply,
-    requires { F.IsAlwaysCallable read }
-    ensures { ReadThrough F.FnOnce read result (arena out_codes.old out_values.old records.old) (arena out_codes.new out_values.new records.new) }
+    F: FnMut(&mut [u64]) -> R,
+    requires { F.IsAlwaysCallable read.old }
+    ensures { ReadThrough F.FnMut read.old result read.new out.old out.new }
 {
-    let n = crossing::lent(out_values.len());
+    let n = crossing::lent(out.len());
     if n <= crossing::SMALL {
-        read_through::<{ crossing::SMALL }, F>(read, out_codes, out_values, records)
+        read_through::<{ crossing::SMALL }, R, F>(read, out)
     } else if n <= crossing::MIDDLE {
-        read_through::<{ crossing::MIDDLE }, F>(read, out_codes, out_values, records)
+        read_through::<{ crossing::MIDDLE }, R, F>(read, out)
     } else {
-        read_through::<{ crossing::LARGE }, F>(read, out_codes, out_values, records)
+        read_through::<{ crossing::LARGE }, R, F>(read, out)
     }
 }
 
@@ -662,10 +652,8 @@ pub fn oli_decode_le(
     ensures { ReadsBytes (decoded 8 table.now bytes.now at) at result (arena out_codes.old out_values.old records.old) (arena out_codes.new out_values.new records.new) }
 {
     read_le(
-        |codes, values, records| oli_decode(table, bytes, at, codes, values, records),
-        out_codes,
+        &mut |work| oli_decode(table, bytes, at, out_codes, work, records),
         out_values,
-        records,
     )
 }
 
@@ -680,10 +668,8 @@ pub fn oli_decode_strict_le(
     ensures { ReadsBytes (strictly_decoded 8 table.now bytes.now at) at result (arena out_codes.old out_values.old records.old) (arena out_codes.new out_values.new records.new) }
 {
     read_le(
-        |codes, values, records| oli_decode_strict(table, bytes, at, codes, values, records),
-        out_codes,
+        &mut |work| oli_decode_strict(table, bytes, at, out_codes, work, records),
         out_values,
-        records,
     )
 }
 
