@@ -18,8 +18,6 @@ use Rattle.prefix.specs.declared.Prefix.{Prefix}
 use Rattle.prefix.specs.declared.Prefix.TheVariants.{RawToPadded, PaddedToRaw}
 use Rattle.prefix.specs.Tables.{table_by, table_from}
 use Rattle.prefix.proofs.Claims.{all_marked}
-use Rattle.std.specs.Fn.{Mut}
-use Rattle.exports.specs.Through.{Lent, Entries, FillThrough}
 use Rattle.exports.specs.Replies.{table_reply, Tables, TablesBytes}
 use Rattle.exports.specs.declared.TableReply.{TableReply}
 use Rattle.exports.proofs.Guards.{same_refuse, same_first, short_refuse, short_first}
@@ -91,9 +89,6 @@ module _ (which : Prefix) (a : Arena) (wk ov : List ℕ) (e : length wk ≡ min 
         left = z ∙ ap (λ (l : List ℕ). fitted (length ov) (word_bytes l)) y ∙ written_out (length ov) (length wk) (leaves [] d) (table_short (length wk) which a) ∙ ap (λ (q : Answer (List ℕ)). fitted (length ov) (word_bytes (leaves [] q))) same;
       }
 
-pub table_out : (which : Prefix) (cs rs : List ℕ) {numbers : List ℕ} {F : Type 0} {g : Mut F Entries (TableReply × Lent)} {table table' : F} {r : TableReply} {before after : List ℕ} (h : FillThrough g table numbers r table' before after)
-    → Tables (table_of (table_by which) 8 (arena cs h.lent.0.now rs) (length h.lent.1.0.now)) r h.lent.1.0.now h.left.now
-    → TablesBytes (table_of (table_by which) 8 (arena cs numbers rs) (length before / 8)) r before after
-table_out which cs rs {numbers} {r = r} {before} {after} h d =
-    let k = rw h.numbers_are at d in
-    tables_out which (arena cs numbers rs) h.lent.1.0.now before h.room r h.left.now after k.reply k.left h.after_is
+pub table_out : (which : Prefix) (a : Arena) {wk wk' ov ov' : List ℕ} {r : TableReply} → Tables (table_of (table_by which) 8 a (length wk)) r wk wk' → length wk ≡ min (length ov / 8) 65536
+    → ov' ≡ fitted (length ov) (word_bytes wk') → TablesBytes (table_of (table_by which) 8 a (length ov / 8)) r ov ov'
+table_out which a {wk} {wk'} {ov} {ov'} {r} d e o = tables_out which a wk ov e r wk' ov' d.reply d.left o

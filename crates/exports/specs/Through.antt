@@ -5,9 +5,12 @@ use denote.Ref.{Bor, MutBor}
 use Rattle.rules.specs.Lists.{fitted}
 use Rattle.rules.specs.Record.{word_bytes}
 
--- a run to be written
+-- a run to be written, and numbers beside it
 abbrev pub Lent : Type 0
 Lent = MutBor (List ℕ) × Unit {0}
+
+abbrev pub Entries : Type 0
+Entries = Bor (List ℕ) × Lent
 
 pub record ReadThrough {F R : Type 0} (g : Mut F Lent (R × Lent)) (read : F) (r : R) (read' : F) (before after : List ℕ) : Type 0 where
   pub lent : MutBor (List ℕ)
@@ -15,10 +18,6 @@ pub record ReadThrough {F R : Type 0} (g : Mut F Lent (R × Lent)) (read : F) (r
   pub met : Called g read (lent, tt) (r, (left, tt)) read'
   pub room : length lent.now ≡ min (length before / 8) 65536
   pub after_is : after ≡ fitted (length before) (word_bytes left.now)
-
--- numbers, and a run to be written
-abbrev pub Entries : Type 0
-Entries = Bor (List ℕ) × Lent
 
 pub record FillThrough {F R : Type 0} (g : Mut F Entries (R × Lent)) (fill : F) (numbers : List ℕ) (r : R) (fill' : F) (before after : List ℕ) : Type 0 where
   pub lent : Entries

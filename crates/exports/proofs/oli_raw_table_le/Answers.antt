@@ -1,3 +1,5 @@
+use mathlib.Core.Path.{sym}
+use Rattle.crossing.specs.Words.{words_in}
 use lib.ListN.{length}
 use mathlib.Core.List.{List}
 use Prim.Native.Nat.{ℕ}
@@ -18,7 +20,6 @@ returns c =
     either a.values.now (λ (d : Answer (List ℕ)). TablesBytes d c.table_le.result a.out.now c.table_le.new.out) _
     (λ h.
     let k = e.few h in
-    let d : Tables (raw_tabled 8 (arena a.codes.now k.lent.0.now a.records.now) (length k.lent.1.0.now)) c.table_le.result k.lent.1.0.now k.left.now = search rules in
-    table_out RawToPadded a.codes.now a.records.now k d)
+    table_out RawToPadded (arena a.codes.now (words_in a.values.now) a.records.now) (rw (sym k.numbers_are) (search rules)) k.room k.after_is)
     (λ h. checked_broken a.values.now a.codes.now a.records.now h _)
     e.many
