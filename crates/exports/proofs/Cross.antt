@@ -36,43 +36,6 @@ use Rattle.exports.specs.declared.DecodeReply.{DecodeReply}
 use Rattle.exports.specs.Replies.{build_reply, Builds, encode_reply, Writes, decode_reply, Reads, head_reply, compare_reply, Compares, table_reply, padded_reply, raw_reply, one_record, group_reply, next_reply}
 use Rattle.exports.specs.Flat.{flat_built, flat_encoded, flat_decoded, flat_compared, flat_group, flat_next}
 
-cross_built : (d : Answer Block) → flat_built (built_of d) ≡ build_reply d
-unfolding no_block
-cross_built (good b) = refl
-cross_built (refused n p) = refl
-
-pub cross_builds : {answer : Room → Answer Block} {r : Result Totals Refusal} {reply : BuildReply} {before after : Arena} → reply ≡ flat_built (told r) → Outcome answer r before after → Builds answer reply before after
-cross_builds {answer} {before = before} e h = record { reply = e ∙ (ap flat_built h.reply ∙ cross_built (answer (room_in before))); runs = h.runs }
-
-cross_encoded : (d : Answer (List ℕ)) → flat_encoded (encoded_of d) ≡ encode_reply d
-cross_encoded (good bytes) = refl
-cross_encoded (refused n p) = refl
-
-pub cross_writes : {t : List ℕ} {a : Arena} {at : ℕ} {before after : List ℕ} {r : Result ℕ Refusal} {reply : EncodeReply} → reply ≡ flat_encoded (told r) → Encodes t a at before after r → Writes (encoded 8 t a (length before) at) at reply before after
-cross_writes {t} {a} {at} {before} e h = record { reply = e ∙ (ap flat_encoded h.reply ∙ cross_encoded (encoded 8 t a (length before) at)); bytes = h.bytes }
-
-cross_decoded : (at : ℕ) (d : Read Block) → flat_decoded (decoded_of at d) ≡ decode_reply at d
-unfolding no_block
-cross_decoded at (good i) = refl
-cross_decoded at (refused n p) = refl
-
-pub cross_reads : {answer : Room → Read Block} {at : ℕ} {r : Result Decoded Refusal} {reply : DecodeReply} {before after : Arena} → reply ≡ flat_decoded (told r) → decoder.Reads answer at before after r → Reads answer at reply before after
-cross_reads {answer} {at} {before = before} e h = record { reply = e ∙ (ap flat_decoded h.reply ∙ cross_decoded at (answer (room_in before))); runs = h.runs }
-
-cross_compared : (d : rule.Compared) → flat_compared (compared_of d) ≡ compare_reply d
-cross_compared (reported es) = refl
-cross_compared (refused_by m n p) = refl
-
-pub cross_compares : {answer : rule.Compared} {a a' c c' : Arena} {out out' : List ℤ} {r : Result ℕ Refused} {reply : CompareReply}
-    → reply ≡ flat_compared (comparison.told r) → comparison.Compares answer a a' c c' out out' r → Compares answer reply a a' c c' out out'
-cross_compares {answer} e h =
-    record {
-      reply = e ∙ (ap flat_compared h.reports.reply ∙ cross_compared answer);
-      first = h.first;
-      second = h.second;
-      report = h.reports.report;
-    }
-
 -- what is asked of the one record of a run
 module _ {A B : Type 0} (of : Answer A → Answer B) (keeps : (n p : ℕ) → of (refused n p) ≡ refused n p) where
   pub asked : (s : List ℕ) (look : Record → Answer A) (r : Result OpBatch Refusal) (q : Result B Refusal) → told_by record_in r ≡ one_record s (good (record_at s 0))

@@ -278,6 +278,7 @@ impl From<Result<Option<usize>, Refusal>> for NextReply {
 
 // ---- batching
 
+#[tactic(auto, unfolding(rules::specs::Record::no_block))]
 pub fn oli_build(
     table: &[u8],
     codes: &[u8],
@@ -311,6 +312,7 @@ pub fn oli_encode(
     encoder::encode(table, arena, out, at).into()
 }
 
+#[tactic(auto, unfolding(rules::specs::Record::no_block))]
 pub fn oli_decode(
     table: &[u8],
     bytes: &[u8],
@@ -325,6 +327,7 @@ pub fn oli_decode(
 }
 
 // Finished blocks only (M-107).
+#[tactic(auto, unfolding(rules::specs::Record::no_block))]
 pub fn oli_decode_strict(
     table: &[u8],
     bytes: &[u8],
@@ -460,6 +463,7 @@ pub fn oli_raw_index(table: &[u64], padded: usize) -> IndexReply
 
 // ---- lookups in one batch
 
+#[tactic(auto, unfolding(crate::specs::Replies::one_record))]
 fn one_record(run: &[u8]) -> Result<OpBatch, Refusal>
     ensures { told_by record_in result ≡ one_record run.now (good (record_at run.now 0)) }
 {
@@ -715,6 +719,7 @@ pub fn oli_commitment_le(table: &[u8], codes: &[u8], values: &[u8], records: &[u
 }
 
 // A table of the numbers, its entries as bytes.
+#[tactic(auto, unfolding(rules::specs::Lists::in_row))]
 fn table_le<F>(values: &[u8], table: &mut F, out: &mut [u8]) -> TableReply
 where
     F: FnMut(&[u64], &mut [u64]) -> TableReply,
