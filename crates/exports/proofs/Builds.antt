@@ -38,10 +38,6 @@ built_broken s t cs room h = broken s (not (eqb (length cs) (length (words_in s)
         go true e = lt-ltb 16384 (length cs) (omega (arith, eqb-true (length cs) (length (words_in s)) e))
         go false e = refl
 
-pub cleared : (os ov rs os' ov' rs' : List ℕ) → os' ≡ fitted (length os) [] → ov' ≡ fitted (length ov) [] → rs' ≡ fitted (length rs) [] → arena os' ov' rs' ≡ filled_bytes (arena os ov rs) no_block
-unfolding filled_bytes no_block codes values in_row
-cleared os ov rs os' ov' rs' x y z = rw (x, y, z)
-
 -- ---- a built block fits the work space
 
 or_false : (a b : Bool) → (not a || b) ≡ false → (a ≡ true) × (b ≡ false)

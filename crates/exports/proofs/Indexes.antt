@@ -21,35 +21,26 @@ module _ (s : List ℕ) (i : ℕ) where
   inside h = ltb-true i (length s / 8) (true_right (eqb (length s % 8) 0) (ltb i (length s / 8)) h)
 
   -- the two definitions differ in a test and in what is found
-  module _ {A : Type 0} (test : Bool) (r : Option A) where
-    none_found : has_word s i ≡ false → in_whole s (cond (ltb i (length (words_in s)) && test) r none) ≡ none
-    unfolding has_word in_whole
-    none_found h = rw (length_in s) (go (eqb (length s % 8) 0) (ltb i (length s / 8)) h)
-      where
-        go : (a b : Bool) → (a && b) ≡ false → cond a (cond (b && test) r none) none ≡ none
-        go false b e = refl
-        go true b e = rw e
+  in_word : {A : Type 0} (test : Bool) (r : Option A) → in_whole s (cond (ltb i (length (words_in s)) && test) r none) ≡ cond (has_word s i) (cond test r none) none
+  unfolding has_word in_whole
+  in_word test r = rw (length_in s) (go (eqb (length s % 8) 0) (ltb i (length s / 8)))
+    where
+      go : (a b : Bool) → cond a (cond (b && test) r none) none ≡ cond (a && b) (cond test r none) none
+      go true true = refl
+      go true false = refl
+      go false b = refl
 
-    entry_found : has_word s i ≡ true → in_whole s (cond (ltb i (length (words_in s)) && test) r none) ≡ cond test r none
-    unfolding has_word in_whole
-    entry_found h =
-        let a = eqb (length s % 8) 0 in
-        let b = ltb i (length s / 8) in
-        rw (length_in s, true_left a b h, true_right a b h)
+  by_entry : {A : Type 0} (by : ℕ → Option A) → cond (has_word s i) (by (get_or (words_in s) i 0)) none ≡ cond (has_word s i) (by (le_at 8 s (8 * i))) none
+  by_entry {A} by = go (has_word s i) refl
+    where
+      go : (b : Bool) → has_word s i ≡ b → ◌≡◌ {A = Option A} (cond b (by (get_or (words_in s) i 0)) none) (cond b (by (le_at 8 s (8 * i))) none)
+      go true h = ap by (word_in s i (inside h))
+      go false h = refl
 
-  pub padded_none : has_word s i ≡ false → in_whole s (padded_index (words_in s) (raw_at i)) ≡ none
+  pub padded_lem : in_whole s (padded_index (words_in s) (raw_at i)) ≡ cond (has_word s i) (padded_by (le_at 8 s (8 * i)) (raw_at i)) none
   unfolding padded_index
-  padded_none h = none_found (leb (i + get_or (words_in s) i 0) largest) (some (padded_at (i + get_or (words_in s) i 0))) h
+  padded_lem = in_word (leb (i + get_or (words_in s) i 0) largest) (some (padded_at (i + get_or (words_in s) i 0))) ∙ by_entry (λ e. padded_by e (raw_at i))
 
-  pub raw_none : has_word s i ≡ false → in_whole s (raw_index (words_in s) (padded_at i)) ≡ none
+  pub raw_lem : in_whole s (raw_index (words_in s) (padded_at i)) ≡ cond (has_word s i) (raw_by (le_at 8 s (8 * i)) (padded_at i)) none
   unfolding raw_index
-  raw_none h = none_found (leb (get_or (words_in s) i 0) i) (some (raw_at (i - get_or (words_in s) i 0))) h
-
-  pub padded_found_lem : has_word s i ≡ true → in_whole s (padded_index (words_in s) (raw_at i)) ≡ padded_by (le_at 8 s (8 * i)) (raw_at i)
-  unfolding padded_index
-  padded_found_lem h =
-      entry_found (leb (i + get_or (words_in s) i 0) largest) (some (padded_at (i + get_or (words_in s) i 0))) h ∙ ap (λ (e : ℕ). padded_by e (raw_at i)) (word_in s i (inside h))
-
-  pub raw_found_lem : has_word s i ≡ true → in_whole s (raw_index (words_in s) (padded_at i)) ≡ raw_by (le_at 8 s (8 * i)) (padded_at i)
-  unfolding raw_index
-  raw_found_lem h = entry_found (leb (get_or (words_in s) i 0) i) (some (raw_at (i - get_or (words_in s) i 0))) h ∙ ap (λ (e : ℕ). raw_by e (padded_at i)) (word_in s i (inside h))
+  raw_lem = in_word (leb (get_or (words_in s) i 0) i) (some (raw_at (i - get_or (words_in s) i 0))) ∙ by_entry (λ e. raw_by e (padded_at i))

@@ -1,4 +1,3 @@
-pub mod Cross
 pub mod Whole
 pub mod Rooms
 pub mod Indexes

@@ -3,8 +3,9 @@
 // a block's opcodes, values and records as runs of their own: a call makes an `Arena` of them.
 #![tactic(auto)]
 
-ghost use Rattle.std.specs.Prelude.{◌≡◌, true, false, ◌/◌, ◌≤◌, min, max, length};
+ghost use Rattle.std.specs.Prelude.{◌≡◌, true, false, cond, Some, None, ◌*◌, ◌/◌, ◌≤◌, min, max, length};
 ghost use Rattle.std.specs.Fn.{CalledAt, FnOnceReturnsAt};
+ghost use Rattle.rules.specs.Digits.{le_at};
 ghost use Rattle.rules.specs.Answer.{good, refused};
 ghost use Rattle.rules.specs.Refusals.{over_limit₃};
 ghost use Rattle.rules.specs.Record.{record_at, no_block};
@@ -15,7 +16,7 @@ ghost use Rattle.refusal.specs.Told.{told, told_by};
 ghost use Rattle.op_batch.specs.OpBatch.{record_in};
 ghost use Rattle.comparison.specs.Replies as marked;
 ghost use Rattle.comparison.specs.Replies.{side, room_for};
-ghost use Rattle.crossing.specs.Words.{words_in, few_words};
+ghost use Rattle.crossing.specs.Words.{words_in, few_words, has_word};
 ghost use Rattle.exports.specs.Replies.{Builds, Writes, Reads, head_reply, Compares, check_reply, Tables, padded_reply, raw_reply, one_record, whole_words, in_whole, filled_bytes, BuildsBytes, ReadsBytes, TablesBytes, group_reply, next_reply};
 ghost use Rattle.exports.specs.Through.{ReadThrough, FillThrough};
 ghost use Rattle.exports.specs.Flat.{flat_built, flat_encoded, flat_decoded, flat_headed, flat_compared, flat_tabled, flat_index, flat_group, flat_next};
@@ -473,6 +474,7 @@ fn one_record(run: &[u8]) -> Result<OpBatch, Refusal>
     Ok(RecordAt { records: run, b: 0 }.load())
 }
 
+#[tactic(auto, unfolding(crate::specs::Replies::one_record))]
 pub fn oli_group(run: &[u8], index: usize) -> GroupReply
     ensures { result ≡ group_reply (one_record run.now (group_lookup 8 (record_at run.now 0) index)) }
 {
@@ -481,6 +483,7 @@ pub fn oli_group(run: &[u8], index: usize) -> GroupReply
         .into()
 }
 
+#[tactic(auto, unfolding(crate::specs::Replies::one_record))]
 pub fn oli_next_group(run: &[u8], group: usize) -> NextReply
     ensures { result ≡ next_reply (one_record run.now (next_lookup 8 (record_at run.now 0) group)) }
 {
@@ -495,6 +498,7 @@ pub fn oli_next_group(run: &[u8], group: usize) -> NextReply
 // over are zeroed too. Numbers go through work space on the stack, of three lengths: the first that is long enough. `.._through` is never drawn into its
 // caller, so that a call with few numbers does not reach so far down the stack.
 
+#[tactic(auto, unfolding(crate::specs::Replies::filled_bytes, rules::specs::Record::no_block, rules::specs::Operations::codes, rules::specs::Operations::values, rules::specs::Lists::in_row))]
 fn clear(out_codes: &mut [u8], out_values: &mut [u8], records: &mut [u8])
     ensures { arena out_codes.new out_values.new records.new ≡ filled_bytes (arena out_codes.old out_values.old records.old) no_block }
 {
@@ -678,7 +682,7 @@ pub fn oli_decode_strict_le(
 }
 
 // A check that only counts its values. The compiler leaves out the copy then, and the work space with it: one length serves.
-#[tactic(auto, using(crate::proofs::Whole::few))]
+#[tactic(auto, using(crate::proofs::Whole::few, crossing::proofs::Copies::length_in))]
 fn count_le<F>(values: &[u8], check: F) -> CheckReply
 where
     F: FnOnce(&[u64]) -> CheckReply,
@@ -759,24 +763,30 @@ pub fn oli_padded_table_le(
     )
 }
 
+// An entry of a table of whole numbers.
+fn entry_at(table: &[u8], i: usize) -> Option<u64>
+    ensures { result ≡ cond (has_word table.now i) (Some (le_at 8 table.now (8 * i))) None }
+{
+    if !crossing::has_word(table, i) {
+        return None;
+    }
+    Some(word::le::<8>(table, 8 * i))
+}
+
 pub fn oli_padded_index_le(table: &[u8], raw: usize) -> IndexReply
     ensures { result ≡ padded_reply (in_whole table.now (padded_index (words_in table.now) (raw_at raw))) }
 {
-    if !crossing::has_word(table, raw) {
-        return IndexReply::default();
-    }
-    let entry = word::le::<8>(table, 8 * raw);
-    prefix::padded_by(entry, RawIndex(raw)).map(|i| i.0).into()
+    entry_at(table, raw)
+        .and_then(|entry| prefix::padded_by(entry, RawIndex(raw)))
+        .map(|i| i.0)
+        .into()
 }
 
 pub fn oli_raw_index_le(table: &[u8], padded: usize) -> IndexReply
     ensures { result ≡ raw_reply (in_whole table.now (raw_index (words_in table.now) (padded_at padded))) }
 {
-    if !crossing::has_word(table, padded) {
-        return IndexReply::default();
-    }
-    let entry = word::le::<8>(table, 8 * padded);
-    prefix::raw_by(entry, PaddedIndex(padded))
+    entry_at(table, padded)
+        .and_then(|entry| prefix::raw_by(entry, PaddedIndex(padded)))
         .map(|i| i.0)
         .into()
 }
