@@ -1,16 +1,16 @@
 -- Build with values that cross as bytes: more room than the longest block has makes no difference. Assumes nothing.
 use mathlib.Core.Path.{◌≡◌, refl, ap, ◌∙◌}
 use mathlib.Core.Bool.{Bool, true, false, not, ◌&&◌, ◌||◌}
-use mathlib.Core.List.{List, [], map}
+use mathlib.Core.List.{List, map}
 use Prim.Native.Nat.{ℕ, ◌/◌, ◌≤◌, ◌<◌, min, zero-le}
 use native.Mathlib.Omega.{arith}
 use borrow.Author.Tests.{lt-ltb, ltb-false, leb-true, eqb-true, not-false}
 use lib.ListN.{length}
 use lib.Dec.{leb, ltb, eqb}
-use Rattle.rules.specs.Lists.{fitted, in_row}
+use Rattle.rules.specs.Lists.{fitted}
 use Rattle.rules.specs.Answer.{Answer, refused}
 use Rattle.rules.specs.Refusals.{over_limit₃}
-use Rattle.rules.specs.Operations.{operations, codes, values, good_table, op_fault}
+use Rattle.rules.specs.Operations.{operations, good_table, op_fault}
 use Rattle.rules.specs.Batching.{batches_of}
 use Rattle.rules.specs.Record.{Block, block_of, no_block, word_bytes, record_size}
 use Rattle.rules.specs.Block.{Room}

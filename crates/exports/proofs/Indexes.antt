@@ -9,7 +9,7 @@ use lib.ListN.{length, get_or}
 use lib.Dec.{leb, ltb, eqb}
 use Rattle.rules.specs.Digits.{le_at}
 use Rattle.rules.specs.Lookups.{raw_at, padded_at, largest, padded_index, raw_index}
-use Rattle.rules.proofs.Operations.{true_left, true_right}
+use Rattle.rules.proofs.Operations.{true_right}
 use Rattle.prefix.specs.Tables.{padded_by, raw_by}
 use Rattle.crossing.specs.Words.{words_in, has_word}
 use Rattle.crossing.proofs.Copies.{length_in, word_in}

@@ -12,7 +12,7 @@ use Rattle.rules.specs.Answer.{Answer, good, refuse_first}
 use Rattle.rules.specs.Record.{word_bytes, record_size}
 use Rattle.rules.specs.Checks.{structure_faults, padding_faults}
 use Rattle.rules.specs.Lookups.{marks, raw_entries, padded_entries, raw_table, padded_table}
-use Rattle.rules.specs.Functions.{Arena, arena, block_in, within, structure_checked, table_of, table_left, leaves}
+use Rattle.rules.specs.Functions.{Arena, block_in, within, structure_checked, table_of, table_left, leaves}
 use Rattle.rules.proofs.Operations.{true_left, true_right}
 use Rattle.prefix.specs.declared.Prefix.{Prefix}
 use Rattle.prefix.specs.declared.Prefix.TheVariants.{RawToPadded, PaddedToRaw}

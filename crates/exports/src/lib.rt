@@ -764,6 +764,7 @@ pub fn oli_padded_table_le(
 }
 
 // An entry of a table of whole numbers.
+#[tactic(auto, unfolding(crossing::specs::Words::has_word))]
 fn entry_at(table: &[u8], i: usize) -> Option<u64>
     ensures { result ≡ cond (has_word table.now i) (Some (le_at 8 table.now (8 * i))) None }
 {
@@ -773,6 +774,7 @@ fn entry_at(table: &[u8], i: usize) -> Option<u64>
     Some(word::le::<8>(table, 8 * i))
 }
 
+#[tactic(auto, using(crate::proofs::Indexes::padded_lem))]
 pub fn oli_padded_index_le(table: &[u8], raw: usize) -> IndexReply
     ensures { result ≡ padded_reply (in_whole table.now (padded_index (words_in table.now) (raw_at raw))) }
 {
@@ -782,6 +784,7 @@ pub fn oli_padded_index_le(table: &[u8], raw: usize) -> IndexReply
         .into()
 }
 
+#[tactic(auto, using(crate::proofs::Indexes::raw_lem))]
 pub fn oli_raw_index_le(table: &[u8], padded: usize) -> IndexReply
     ensures { result ≡ raw_reply (in_whole table.now (raw_index (words_in table.now) (padded_at padded))) }
 {

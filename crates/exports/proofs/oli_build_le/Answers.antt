@@ -1,7 +1,5 @@
-use Rattle.exports.specs.Replies.{Builds}
 use Rattle.exports.proofs.Builds.{builds_out}
 use borrow.Author.Rules.{rules}
-use Rattle.rules.specs.Functions.{built}
 use mathlib.Core.Path.{sym, ap, ◌∙◌}
 use Rattle.rules.specs.Answer.{Answer}
 use Rattle.rules.specs.Record.{Block, no_block}

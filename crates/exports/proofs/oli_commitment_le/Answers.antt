@@ -1,9 +1,5 @@
 use borrow.Author.Rules.{rules}
-use Rattle.rules.specs.Functions.{arena}
-use Rattle.crossing.specs.Words.{words_in}
-use Rattle.exports.specs.Replies.{check_reply}
 use Rattle.exports.proofs.Whole.{whole}
-use mathlib.Core.Path.{◌≡◌}
 use mathlib.Core.Path.{sym, ◌∙◌}
 use Rattle.rules.specs.Functions.{commitment_checked}
 use Rattle.exports.proofs.Whole.{checked_broken}

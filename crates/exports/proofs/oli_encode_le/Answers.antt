@@ -1,8 +1,4 @@
 use borrow.Author.Rules.{rules}
-use lib.ListN.{length}
-use Rattle.rules.specs.Functions.{arena, encoded}
-use Rattle.crossing.specs.Words.{words_in}
-use Rattle.exports.specs.Replies.{Writes}
 use Rattle.exports.proofs.Whole.{whole}
 use mathlib.Core.Path.{refl, sym, ◌∙◌}
 use Rattle.rules.specs.Functions.{written}

@@ -1,13 +1,12 @@
 use mathlib.Core.Path.{sym}
 use Rattle.crossing.specs.Words.{words_in}
-use lib.ListN.{length}
 use mathlib.Core.List.{List}
 use Prim.Native.Nat.{ℕ}
 use borrow.Author.Rules.{rules}
 use Rattle.rules.specs.Answer.{Answer}
-use Rattle.rules.specs.Functions.{arena, padded_tabled, table_of}
+use Rattle.rules.specs.Functions.{arena, table_of}
 use Rattle.prefix.specs.declared.Prefix.TheVariants.{PaddedToRaw}
-use Rattle.exports.specs.Replies.{Tables, TablesBytes}
+use Rattle.exports.specs.Replies.{TablesBytes}
 use Rattle.exports.proofs.Tables.{table_out}
 use Rattle.exports.proofs.Whole.{either, checked_broken}
 use Rattle.exports.proofs.oli_padded_table_le.Goals as goal
