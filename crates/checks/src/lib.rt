@@ -70,6 +70,7 @@ impl<'a> Arena<'a> {
     // ---- padding
 
     // One batch: a flagged group under the count holds operations and ends in opcode 0. The decoder asks it of each record that it has made.
+    #[inline(always)]
     pub fn batch_padding(self, b: usize, from: usize) -> Result<(), Refusal>
         requires { Lies (lying self) b from }
         ensures { told result ≡ one_fault (padding_fault (held_at (lying self.entry) b from)) b }

@@ -135,6 +135,7 @@ pub fn write_count(out: &mut [u8], at: usize, v: u64) -> usize
 // ---- 2. one operation
 
 // The operation at `at`, which is the i-th: its opcode is looked at first, then whether its value's bytes are there, then its value.
+#[inline(always)]
 pub fn read_op(table: &[u8; 128], s: &[u8], at: usize, i: usize) -> Result<Item<Op>, Refusal>
     ensures { op_told result ≡ op_at table.now s.now at i }
 {
