@@ -26,6 +26,8 @@ use Rattle.claims.proofs.Shape.{RightGroup, RightBatch}
 use Rattle.claims.proofs.ItemsWrittenThenRead.{digits_number}
 use Rattle.claims.proofs.WrittenThenRead.{differences_starts, fitted_is}
 use Rattle.claims.proofs.Shapes.{same_shape, shapes_differing, same_is, same_self}
+use Rattle.refusal.specs.declared.Refusal.{Refusal}
+use Rattle.refusal.specs.declared.Refusal.TheVariants.{Unfinished}
 use Rattle.strict.specs.Model.{Runs, is_record, held, batches_judged}
 use Rattle.strict.proofs.Records.{record_fits, laid_at}
 use Rattle.strict.proofs.Drafted.{number_append, shape_by}
@@ -120,10 +122,10 @@ module _ (s : List ℕ) (k : ℕ) (runs : Runs s k) (w : ℕ) (wide : w ≤ 8) (
       ap₂ (λ (p q : Bool). ltb b k && (p && q)) a c ∙ rw (lt-ltb b k h)
 
   -- once one is apart, it stays so
-  seen_apart : (m : ℕ) (bs : List (List Group)) → seen s k (Err m) bs ≡ Err m
+  seen_apart : (e : Refusal) (bs : List (List Group)) → seen s k (Err e) bs ≡ Err e
   unfolding seen
-  seen_apart m [] = refl
-  seen_apart m (gs ∷ bs) = seen_apart m bs
+  seen_apart e [] = refl
+  seen_apart e (gs ∷ bs) = seen_apart e bs
 
   -- there is no such record
   past : (b : ℕ) (gs : List Group) → k ≤ b → is_record s k b (shape_by gs) ≡ false
@@ -140,15 +142,15 @@ module _ (s : List ℕ) (k : ℕ) (runs : Runs s k) (w : ℕ) (wide : w ≤ 8) (
   said_is r b (gs ∷ bs) h =
       split b k
       (λ l. ap compared (records_turn k s b l) ∙ go (same_shape (record_at s b) (record_of gs)) (said_is r (b + 1) bs h.1) ∙ onward (same_shape (record_at s b) (record_of gs)) (same_record b gs l h.0))
-      (λ l. ap compared (records_end k s b l) ∙ ap (λ (e : Result ℕ ℕ). batches_judged k e r) (sym (seen_apart b bs)) ∙ onward false (past b gs l))
+      (λ l. ap compared (records_end k s b l) ∙ ap (λ (e : Result ℕ Refusal). batches_judged k e r) (sym (seen_apart (Unfinished b) bs)) ∙ onward false (past b gs l))
     where
-      next : Bool → Result ℕ ℕ
-      next y = cond y (Ok (b + 1)) (Err b)
+      next : Bool → Result ℕ Refusal
+      next y = cond y (Ok (b + 1)) (Err (Unfinished b))
 
       go : (y : Bool) → refuse_first (b + 1) (shapes_differing (records_from (k - (b + 1)) s (b + 1)) (map record_of bs)) r ≡ batches_judged k (seen s k (Ok (b + 1)) bs) r
           → refuse_first b (cond y 0 unfinished₁₈ ∷ shapes_differing (records_from (k - (b + 1)) s (b + 1)) (map record_of bs)) r ≡ batches_judged k (seen s k (next y) bs) r
       go true ih = ih
-      go false ih = rw (seen_apart b bs)
+      go false ih = rw (seen_apart (Unfinished b) bs)
 
       compared : List Record → Answer Unit
       compared rs = refuse_first b (shapes_differing rs (map record_of (gs ∷ bs))) r

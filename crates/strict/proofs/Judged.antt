@@ -16,6 +16,7 @@ use Rattle.rules.specs.Batching.{Group, empty, start, end_batch, ended, fits, ro
 use Rattle.rules.proofs.Operations.{kind_at}
 use Rattle.accumulator.specs.Model.{fits_in}
 use Rattle.accumulator.proofs.View.{acc_fits}
+use Rattle.refusal.specs.declared.Refusal.{Refusal}
 use Rattle.strict.specs.declared.Shape.{Shape}
 use Rattle.strict.specs.declared.Work.{Work}
 use Rattle.strict.specs.Draft.{added_draft}
@@ -28,11 +29,11 @@ imm_is t x h = ap (λ (j : ℕ). eqb j 1) (sym (kind_at t x.code h))
 
 module _ (s : List ℕ) (k : ℕ) where
   -- batches held against the records, one after the other: how many are the same, or the first that is not
-  unfoldable pub seen : Result ℕ ℕ → List (List Group) → Result ℕ ℕ
+  unfoldable pub seen : Result ℕ Refusal → List (List Group) → Result ℕ Refusal
   seen r [] = r
   seen r (gs ∷ bs) = seen (held s k (shape_by gs) r) bs
 
-  seen_snoc : (r : Result ℕ ℕ) (bs : List (List Group)) (gs : List Group) → seen r (bs ++ (gs ∷ [])) ≡ held s k (shape_by gs) (seen r bs)
+  seen_snoc : (r : Result ℕ Refusal) (bs : List (List Group)) (gs : List Group) → seen r (bs ++ (gs ∷ [])) ≡ held s k (shape_by gs) (seen r bs)
   unfolding seen
   seen_snoc r [] gs = refl
   seen_snoc r (hs ∷ bs) gs = seen_snoc (held s k (shape_by hs) r) bs gs

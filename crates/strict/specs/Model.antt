@@ -8,6 +8,9 @@ use Rattle.rules.specs.Record.{record_size, record_at, records_from, differences
 use Rattle.rules.specs.Checks.{ninth, record_right}
 use Rattle.rules.specs.Lookups.{marks}
 use Rattle.rules.specs.Strict.{unmarked}
+use Rattle.refusal.specs.declared.Refusal.{Refusal}
+use Rattle.refusal.specs.declared.Refusal.TheVariants.{Unfinished}
+use Rattle.refusal.specs.Told.{number_of, place_of}
 use Rattle.checks.specs.Batch.{Apt}
 use Rattle.accumulator.specs.Model.{fits_in}
 use Rattle.strict.specs.declared.Work.{Work}
@@ -30,9 +33,9 @@ unfoldable pub is_record : List ℕ → ℕ → ℕ → Shape → Bool
 is_record s k b x = ltb b k && (eqb (shape_at s b).sizes x.sizes && eqb (shape_at s b).flags x.flags)
 
 -- a batch that has ended is held against the record after those that were the same, unless one was not
-abbrev pub held : List ℕ → ℕ → Shape → Result ℕ ℕ → Result ℕ ℕ
-held s k x (Ok b) = cond (is_record s k b x) (Ok (b + 1)) (Err b)
-held s k x (Err b) = Err b
+abbrev pub held : List ℕ → ℕ → Shape → Result ℕ Refusal → Result ℕ Refusal
+held s k x (Ok b) = cond (is_record s k b x) (Ok (b + 1)) (Err (Unfinished b))
+held s k x (Err e) = Err e
 
 unfoldable pub ended_work : List ℕ → ℕ → Work → Work
 ended_work s k e = record { draft = new_draft; same = held s k (shape_of (ended_draft e.draft)) e.same; raw = e.raw }
@@ -58,9 +61,9 @@ abbrev pub codes_part : ℕ → List ℕ → ℕ → List ℕ
 codes_part n cs at = take n (drop at cs)
 
 -- the answer, once all operations are added: of the list's length, and then of the batches
-abbrev pub batches_judged : ℕ → Result ℕ ℕ → Answer Unit → Answer Unit
+abbrev pub batches_judged : ℕ → Result ℕ Refusal → Answer Unit → Answer Unit
 batches_judged k (Ok b) r = refuse (ltb b k) unfinished₁₈ b r
-batches_judged k (Err b) r = refused unfinished₁₈ b
+batches_judged k (Err e) r = refused (number_of e) (place_of e)
 
 unfoldable pub judged : List ℕ → ℕ → Work → Answer Unit → Answer Unit
 judged s k e r = refuse (eqb e.raw 0 || ltb 16384 e.raw) unfinished₁₈ 0 (batches_judged k (ended_work s k e).same r)

@@ -50,11 +50,11 @@ impl Model for Draft {
     ghost inverse = { λ d. record { acc = d.acc; shape = record { sizes = d.sizes; flags = d.flags } } };
 }
 
-// The batch in hand, how many batches before it are the block's, or the first that is not, and how many operations were added.
+// The batch in hand, how many batches before it are the block's, or the refusal of the first that is not, and how many operations were added.
 #[derive(Clone, Copy)]
 struct Work {
     draft: Draft,
-    same: Result<usize, usize>,
+    same: Result<usize, Refusal>,
     raw: usize,
 }
 
@@ -200,14 +200,14 @@ impl Walk<'_> {
     }
 
     // Whether the batch in hand, ended, is the record after those that are the same, unless one before was apart.
-    fn held(&self, same: Result<usize, usize>, draft: Draft) -> Result<usize, usize>
+    fn held(&self, same: Result<usize, Refusal>, draft: Draft) -> Result<usize, Refusal>
         ensures { result ≡ held self.now.records.now self.now.batches (shape_of (ended_draft draft)) same }
     {
         let b = same?;
         if b < self.batches && self.shape(b) == draft.end() {
             Ok(b + 1)
         } else {
-            Err(b)
+            Err(Refusal::Unfinished { batch: b })
         }
     }
 
@@ -321,11 +321,11 @@ impl Walk<'_> {
         if work.raw == 0 || 16384 < work.raw {
             return Err(Refusal::Unfinished { batch: 0 });
         }
-        match self.end_batch(work).same {
-            Ok(b) if b < self.batches => Err(Refusal::Unfinished { batch: b }),
-            Ok(_) => Ok(()),
-            Err(b) => Err(Refusal::Unfinished { batch: b }),
+        let b = self.end_batch(work).same?;
+        if b < self.batches {
+            return Err(Refusal::Unfinished { batch: b });
         }
+        Ok(())
     }
 }
 
