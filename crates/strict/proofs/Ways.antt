@@ -2,8 +2,9 @@
 use mathlib.Core.Path.{◌≡◌, sym, ap, ◌∙◌}
 use mathlib.Core.Bool.{not}
 use mathlib.Core.List.{List, map}
-use Prim.Native.Nat.{ℕ, ◌*◌, ◌≤◌}
-use lib.ListN.{length, take}
+use Prim.Native.Nat.{ℕ, ◌*◌, ◌/◌, ◌≤◌}
+use native.Mathlib.Omega.{arith}
+use lib.ListN.{length, take, length-take}
 use Rattle.std.specs.Prelude.{Result, Ok, Err, IsErrAnd}
 use Rattle.refusal.specs.declared.Refusal.{Refusal}
 use Rattle.refusal.specs.Told.{number_of, place_of, told}
@@ -71,18 +72,24 @@ module _ (t s : List ℕ) (at : ℕ) (before after : Arena) (r : Result Decoded 
     same : (take n after.codes ≡ codes b.ops) × (take (record_size * k) after.records ≡ records_bytes b.records)
     same = let e = begins t s at before after r d k n x in (ap (λ (a : Arena). a.codes) e, ap (λ (a : Arena). a.records) e)
 
-    pub asks : (n ≤ length after.codes) × (record_size * k ≤ length after.records) × Judged t (take n after.codes) (take (record_size * k) after.records) k
+    abbrev records : List ℕ
+    records = take (record_size * k) after.records
+
+    many : length records / record_size ≡ k
+    many = let l = length-take (record_size * k) after.records in omega (arith, l, (room t s at before after r d k n x).2)
+
+    pub asks : (n ≤ length after.codes) × (record_size * k ≤ length after.records) × Judged t (take n after.codes) records (length records / record_size)
     asks = (
       (room t s at before after r d k n x).0,
       (room t s at before after r d k n x).2,
-      judged_as t _ _ _ _ _ _ same.0 same.1 (sym x.batches) (ready 8 width_8 t s at (room_in before) b x.next x.is),
+      judged_as t _ _ _ _ _ _ same.0 same.1 (many ∙ sym x.batches) (ready 8 width_8 t s at (room_in before) b x.next x.is),
     )
 
     abbrev walk : Answer Unit
-    walk = verdict_in 8 t (take n after.codes) (take (record_size * k) after.records) k
+    walk = verdict_in 8 t (take n after.codes) records (length records / record_size)
 
     verdict : walk ≡ refuse_unfinished 8 t b (good tt)
-    verdict = (let e = same in let f = sym x.batches in λ j. verdict_in 8 t (e.0 j) (e.1 j) (f j)) ∙ judged_is 8 width_8 t s at (room_in before) b x.next x.is
+    verdict = (let e = same in let f = many ∙ sym x.batches in λ j. verdict_in 8 t (e.0 j) (e.1 j) (f j)) ∙ judged_is 8 width_8 t s at (room_in before) b x.next x.is
 
     strictly : strictly_decoded 8 t s at (room_in before) ≡ and_then (refuse_unfinished 8 t b (good tt)) (found b x.next)
     unfolding strictly_decoded

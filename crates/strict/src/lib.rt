@@ -4,7 +4,7 @@
 // they follow from these and the operations (`shapes`, crates/claims).
 #![tactic(auto)]
 
-ghost use Rattle.std.specs.Prelude.{◌≡◌, true, cond, ◌&&◌, ◌+◌, ◌*◌, ◌-◌, ◌≤◌, ◌<◌, ◌^◌, length, take, leb, ltb, ◌∷◌, [], Ok};
+ghost use Rattle.std.specs.Prelude.{◌≡◌, true, ◌&&◌, ◌+◌, ◌*◌, ◌/◌, ◌-◌, ◌≤◌, ◌<◌, ◌^◌, length, leb, ltb, ◌∷◌, [], Ok};
 ghost use Rattle.std.specs.Int.{from_bool};
 ghost use Rattle.rules.specs.Record.{record_size, record_at, records_from};
 ghost use Rattle.rules.specs.Checks.{ninth};
@@ -16,7 +16,7 @@ ghost use Rattle.accumulator.specs.Model.{fits_in};
 ghost use Rattle.prefix.specs.Tables.{marks_at};
 ghost use Rattle.decoder.specs.Replies.{StrictlyDecodes};
 ghost use Rattle.strict.specs.Draft.{shape_of, new_draft, closed_draft, ended_draft, ready_draft, joined_draft, added_draft};
-ghost use Rattle.strict.specs.Model.{shape_at, held, ended_work, room_work, stepped_work, codes_part, fed, new_work, Judged, verdict_in};
+ghost use Rattle.strict.specs.Model.{shape_at, held, ended_work, room_work, codes_part, new_work, Judged, verdict_in};
 
 use accumulator::OpBatchAccumulator;
 use decoder::Decoded;
@@ -24,7 +24,7 @@ use op_batch::RecordAt;
 use refusal::Refusal;
 use std::marker::Model;
 
-// The sizes and the flags of a batch's groups, each as the bytes of one number, the first lowest.
+// The sizes and the flags of a batch's groups, each as the bytes of one number, the first lowest: `RecordAt` gives them so, and eight are compared at once.
 #[derive(Clone, Copy, PartialEq, Eq)]
 struct Shape {
     sizes: u64,
@@ -58,14 +58,13 @@ struct Work {
     raw: usize,
 }
 
-// A block: a kind for each opcode, its opcodes, and so many records.
+// A block: a kind for each opcode, its opcodes and its records.
 #[derive(Clone, Copy)]
 struct Walk<'a> {
     table: &'a [u8],
     codes: &'a [u8],
     records: &'a [u8],
-    batches: usize,
-    ghost judged: { Judged table.now codes.now records.now batches },
+    ghost judged: { Judged table.now codes.now records.now (length records.now / record_size) },
 }
 
 // ---- one batch
@@ -181,12 +180,21 @@ impl Draft {
 }
 
 // ---- batch by batch, beside the block's records
+//
+// What a batch in hand goes through is the accumulator's and the batcher's, and stands here again since nothing is written: one machine for both would be
+// over a trait, of where a closed group goes, with laws and two more types that keep them.
 
 impl Walk<'_> {
-    ghost use Rattle.strict.specs.Walk.{fed_in};
+    ghost use Rattle.strict.specs.Walk.{batches_in, fed_in};
+
+    fn batches(&self) -> usize
+        ensures { result ≡ batches_in self.now }
+    {
+        self.records.len() / op_batch::RECORD
+    }
 
     fn shape(&self, b: usize) -> Shape
-        requires { b < self.now.batches }
+        requires { b < batches_in self.now }
         ensures { result ≡ shape_at self.now.records.now b }
     {
         let record = RecordAt {
@@ -201,10 +209,10 @@ impl Walk<'_> {
 
     // Whether the batch in hand, ended, is the record after those that are the same, unless one before was apart.
     fn held(&self, same: Result<usize, Refusal>, draft: Draft) -> Result<usize, Refusal>
-        ensures { result ≡ held self.now.records.now self.now.batches (shape_of (ended_draft draft)) same }
+        ensures { result ≡ held self.now.records.now (batches_in self.now) (shape_of (ended_draft draft)) same }
     {
         let b = same?;
-        if b < self.batches && self.shape(b) == draft.end() {
+        if b < self.batches() && self.shape(b) == draft.end() {
             Ok(b + 1)
         } else {
             Err(Refusal::Unfinished { batch: b })
@@ -213,7 +221,7 @@ impl Walk<'_> {
 
     // Ends the batch in hand and holds it against the block's next record.
     fn end_batch(&self, work: Work) -> Work
-        ensures { result ≡ ended_work self.now.records.now self.now.batches work }
+        ensures { result ≡ ended_work self.now.records.now (batches_in self.now) work }
     {
         Work {
             draft: Draft::new(),
@@ -224,7 +232,7 @@ impl Walk<'_> {
 
     // Ends the batch in hand where the operation does not fit.
     fn make_room(&self, work: Work, imm: bool) -> Work
-        ensures { result ≡ room_work 8 imm self.now.records.now self.now.batches work }
+        ensures { result ≡ room_work 8 imm self.now.records.now (batches_in self.now) work }
     {
         if work.draft.fits(imm) {
             work
@@ -269,7 +277,7 @@ impl Walk<'_> {
 
     // The operations of the b-th batch, which begin at `at`, without flagged padding.
     fn add_batch(&self, work: Work, at: usize, b: usize) -> Work
-        requires { (b < self.now.batches) × (at + ninth (record_at self.now.records.now b) ≤ length self.now.codes.now) × (work.raw ≤ at) }
+        requires { (b < batches_in self.now) × (at + ninth (record_at self.now.records.now b) ≤ length self.now.codes.now) × (work.raw ≤ at) }
         ensures { result ≡ fed_in self.now (unmarked (marks_at (record_at self.now.records.now b) 0) (codes_part (ninth (record_at self.now.records.now b)) self.now.codes.now at)) work }
     {
         let record = RecordAt {
@@ -296,7 +304,7 @@ impl Walk<'_> {
 
     // The operations of all batches, without flagged padding.
     fn add_batches(&self) -> Work
-        ensures { result ≡ fed_in self.now (unmarked (marks (records_from self.now.batches self.now.records.now 0)) self.now.codes.now) new_work }
+        ensures { result ≡ fed_in self.now (unmarked (marks (records_from (batches_in self.now) self.now.records.now 0)) self.now.codes.now) new_work }
     {
         let mut w = Work {
             draft: Draft::new(),
@@ -305,7 +313,7 @@ impl Walk<'_> {
         };
         let records = self.records;
         let mut at = 0;
-        for b in 0..self.batches {
+        for b in 0..self.batches() {
             w = self.add_batch(w, at, b);
             at += RecordAt { records, b }.start(8);
         }
@@ -315,14 +323,14 @@ impl Walk<'_> {
     // ---- the answer
 
     fn finished(&self) -> Result<(), Refusal>
-        ensures { told result ≡ verdict_in 8 self.now.table.now self.now.codes.now self.now.records.now self.now.batches }
+        ensures { told result ≡ verdict_in 8 self.now.table.now self.now.codes.now self.now.records.now (batches_in self.now) }
     {
         let work = self.add_batches();
         if work.raw == 0 || 16384 < work.raw {
             return Err(Refusal::Unfinished { batch: 0 });
         }
         let b = self.end_batch(work).same?;
-        if b < self.batches {
+        if b < self.batches() {
             return Err(Refusal::Unfinished { batch: b });
         }
         Ok(())
@@ -347,7 +355,6 @@ pub fn decode_strict(
         table,
         codes: &out_codes[..made.operations],
         records: &records[..op_batch::RECORD * made.batches],
-        batches: made.batches,
     };
     if let Err(refusal) = walk.finished() {
         decoder::clear_after(out_codes, out_values, records, 0, 0);

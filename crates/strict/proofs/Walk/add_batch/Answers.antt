@@ -8,7 +8,7 @@ use Rattle.rules.specs.Digits.{number}
 use Rattle.rules.specs.Record.{record_at}
 use Rattle.op_batch.proofs.Right.{below_ninth, rise, flags_turn}
 use Rattle.strict.specs.Model.{codes_part}
-use Rattle.strict.specs.Walk.{fed_in}
+use Rattle.strict.specs.Walk.{batches_in, fed_in}
 use Rattle.strict.proofs.Records.{laid_at}
 use Rattle.strict.proofs.Works.{fed_append, fed_raw}
 use Rattle.strict.proofs.Batches.{part_length, goes_on, ends, rest, none_ahead, first}
@@ -41,10 +41,10 @@ loop-g-preserved c =
           let top = below_ninth _ _ x.sound x.starts (g + 1) (omega arith) in
           let o = w.add_ops-w.ensures in
           let l : length (codes_part n b.codes.now from) ≡ n = part_length n b.codes.now from (omega (arith, c.requires.1)) in
-          let m = fed_raw 8 b.table.now b.records.now b.batches (codes_part n b.codes.now from) c.loop-g.w in
+          let m = fed_raw 8 b.table.now b.records.now (batches_in b) (codes_part n b.codes.now from) c.loop-g.w in
           let f = ends r x b.codes.now a.at c.requires.1 from g c.loop-g-test.true v.0 (sym c.flag.ensures ∙ w.if-flag-eq1.true) (omega arith) in
           rw (w.w-is, w.from-is, o, e)
-          (omega arith, omega (arith, m, l, v.0, v.1), t, sym (fed_append 8 b.table.now b.records.now b.batches _ _ c.loop-g.w) ∙ (ap (λ (q : List ℕ). fed_in b q c.loop-g.w) (sym f) ∙ v.3))
+          (omega arith, omega (arith, m, l, v.0, v.1), t, sym (fed_append 8 b.table.now b.records.now (batches_in b) _ _ c.loop-g.w) ∙ (ap (λ (q : List ℕ). fed_in b q c.loop-g.w) (sym f) ∙ v.3))
       | else-flag-eq1 w ↦
           let k : get_or r.flags g 0 ≡ 1 → get_or r.starts (g + 1) 0 ≤ get_or r.starts g 0 = λ h. elim w.else-flag-eq1.either [ inl p ↦ omega (arith, p.1) | inr q ↦ absurd (q (c.flag.ensures ∙ h)) ] in
           rw (w.w-is, w.from-is)

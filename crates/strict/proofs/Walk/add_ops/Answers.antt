@@ -4,6 +4,7 @@ use native.Mathlib.Omega.{arith}
 use lib.ListN.{length-take, length-drop, take, drop}
 use Rattle.std.proofs.lemmas.List.{get_or-take, get_or-drop}
 use Rattle.strict.specs.Model.{fed}
+use Rattle.strict.specs.Walk.{batches_in}
 use Rattle.strict.proofs.Works.{fed_raw, fed_more}
 use Rattle.strict.proofs.Walk.add_ops.Goals as goal
 
@@ -19,7 +20,7 @@ step-w-requires c =
     let xs = take n (drop c.args.from b.codes.now) in
     let l = length-take n (drop c.args.from b.codes.now) in
     let m = length-drop c.args.from b.codes.now in
-    let r = fed_raw 8 b.table.now b.records.now b.batches (take i xs) c.args.work in (
+    let r = fed_raw 8 b.table.now b.records.now (batches_in b) (take i xs) c.args.work in (
       rw (get_or-take n (drop c.args.from b.codes.now) i 0 (omega (arith, l)), get_or-drop c.args.from b.codes.now i 0) (b.judged.apt.codes (c.args.from + i) (omega (arith, l, m))),
       rw c.loop-code.invariant (omega (arith, r, length-take i xs, l, m, c.requires, b.judged.few)),
     )

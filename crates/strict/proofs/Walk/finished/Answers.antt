@@ -21,14 +21,14 @@ returns-in_err-b c =
     let s = ap (λ (w : Work). w.same) (sym c.end_batch.ensures) ∙ c.in_err-b.was in
     handed _ _ c.from_residual.ensures.1 ∙ rw (← c.add_batches-work.ensures, ne_eqb _ _ c.if-work-eq0.false, le-ltb _ _ c.if-work-gt16384.false, s)
 
-pub returns-then-b-self : goal.returns-then-b-self
+pub returns-then-b-batches : goal.returns-then-b-batches
 unfolding verdict_in judged
-returns-then-b-self c =
+returns-then-b-batches c =
     let s = ap (λ (w : Work). w.same) (sym c.end_batch.ensures) ∙ c.in_ok-b.was in
-    rw (← c.add_batches-work.ensures, ne_eqb _ _ c.if-work-eq0.false, le-ltb _ _ c.if-work-gt16384.false, s, lt-ltb _ _ c.if-b-self.true)
+    rw (← c.add_batches-work.ensures, ne_eqb _ _ c.if-work-eq0.false, le-ltb _ _ c.if-work-gt16384.false, s, lt-ltb _ _ (rw c.batches.ensures at c.if-b-batches.true))
 
 pub returns : goal.returns
 unfolding verdict_in judged
 returns c =
     let s = ap (λ (w : Work). w.same) (sym c.end_batch.ensures) ∙ c.in_ok-b.was in
-    rw (← c.add_batches-work.ensures, ne_eqb _ _ c.if-work-eq0.false, le-ltb _ _ c.if-work-gt16384.false, s, le-ltb _ _ c.if-b-self.false)
+    rw (← c.add_batches-work.ensures, ne_eqb _ _ c.if-work-eq0.false, le-ltb _ _ c.if-work-gt16384.false, s, le-ltb _ _ (rw c.batches.ensures at c.if-b-batches.false))
