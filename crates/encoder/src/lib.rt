@@ -87,8 +87,8 @@ impl<'a> Input<'a> {
         ensures bytes { out.new ≡ sets out.old at (ops_of self.entry) }
     {
         let mut from = at;
-        for (i, code) in self.arena.codes.iter().enumerate() {
-            from = wire::write_op(self.table, out, from, *code, self.arena.values[i]);
+        for (code, value) in self.arena.codes.iter().zip(self.arena.values.iter()) {
+            from = wire::write_op(self.table, out, from, *code, *value);
         }
         from
     }

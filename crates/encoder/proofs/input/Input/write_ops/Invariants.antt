@@ -7,8 +7,8 @@ use Rattle.rules.specs.Bytes.{ops_bytes}
 use Rattle.encoder.proofs.Items.{left}
 use Rattle.encoder.proofs.input.Input.write_ops.Given as goal
 
-abbrev pub invariant-loop-i : goal.invariant-loop-i
-invariant-loop-i l = record {
-  place : l.from + length (left l.self.table.now l.self.arena.codes.now l.self.arena.values.now l.i) ≡ l.at + length (ops_bytes l.self.table.now (operations l.self.arena.codes.now l.self.arena.values.now));
-  bytes : sets l.out l.from (left l.self.table.now l.self.arena.codes.now l.self.arena.values.now l.i) ≡ sets l.initial.out l.at (ops_bytes l.self.table.now (operations l.self.arena.codes.now l.self.arena.values.now));
+abbrev pub invariant-loop-code : goal.invariant-loop-code
+invariant-loop-code l = record {
+  place : l.from + length (left l.self.table.now l.self.arena.codes.now l.self.arena.values.now (length l.yielded)) ≡ l.at + length (ops_bytes l.self.table.now (operations l.self.arena.codes.now l.self.arena.values.now));
+  bytes : sets l.out l.from (left l.self.table.now l.self.arena.codes.now l.self.arena.values.now (length l.yielded)) ≡ sets l.initial.out l.at (ops_bytes l.self.table.now (operations l.self.arena.codes.now l.self.arena.values.now));
 }
