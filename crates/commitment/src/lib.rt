@@ -154,11 +154,11 @@ impl<'a> Batch<'a> {
         ensures { result ≡ begins (drop g (record_of self.entry).numbers) (immediates self.entry.block.table.now (ops_in group.entry)) }
     {
         let mut j = g;
-        for (i, code) in group.codes.iter().enumerate() {
+        for (code, value) in group.codes.iter().zip(group.values.iter()) {
             if !placed(self.block.table, *code) {
                 continue;
             }
-            if 8 <= j || self.number(j) != group.values[i] {
+            if 8 <= j || self.number(j) != *value {
                 return false;
             }
             j += 1;
@@ -238,9 +238,9 @@ impl<'a> Batch<'a> {
         let mut unit: u64 = 1;
         let mut next = g;
         let table = self.block.table;
-        for (i, code) in group.codes.iter().enumerate() {
+        for (code, value) in group.codes.iter().zip(group.values.iter()) {
             let kind = table.get(*code as usize)?;
-            next = self.slot_after(*kind, group.values[i], next)?;
+            next = self.slot_after(*kind, *value, next)?;
             number += u64::from(*code) * unit;
             unit *= 128;
         }
