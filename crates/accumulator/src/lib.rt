@@ -4,7 +4,7 @@
 // eight whatever the width.
 #![tactic(auto)]
 
-ghost use Rattle.std.specs.Prelude.{◌≡◌, true, ◌+◌, ◌*◌, ◌≤◌, ◌<◌, ◌^◌};
+ghost use Rattle.std.specs.Prelude.{◌≡◌, true, ◌+◌, ◌*◌, ◌≤◌, ◌<◌};
 ghost use Rattle.rules.specs.Batching.{target};
 ghost use Rattle.op_batch.specs.RecordMut.{stored};
 ghost use Rattle.accumulator.specs.Good.{record_groups, Good};
@@ -62,7 +62,8 @@ impl OpBatchAccumulator {
         }
     }
 
-    // Adds an operation to the batch, whose record has room for it.
+    // Adds an operation to the batch, whose record has room for it. `imm` and `v` are no `Option`: whether there is an immediate is asked without it too,
+    // and the driver has a value for every operation, 0 for a plain one, which it stores with no branch.
     pub fn add_op(self, code: u8, imm: bool, v: u64, out: &mut RecordMut<'_>) -> Self
         requires good { Good record_groups self }
         requires fits { fits_in record_groups imm self ≡ true }

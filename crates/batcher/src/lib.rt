@@ -1,5 +1,6 @@
 // The greedy driver (document 01, "Batching (000)"): it hands one operation after the other to the accumulator, and ends the batch where one does not
-// fit. The lent runs come in all zero.
+// fit. The lent runs come in all zero. They are three parameters: of a struct of three `&mut` each function would have to say besides that the
+// references in it are still the same.
 #![tactic(auto)]
 
 ghost use Rattle.std.specs.Prelude.{◌≡◌, true, ◌+◌, ◌*◌, ◌-◌, ◌≤◌, ◌<◌, ◌^◌, length, get_or, set, IfSome};
@@ -34,7 +35,8 @@ pub struct Totals {
     pub operations: usize,
 }
 
-// The batch in hand, and how many padded operations and batches stand before it.
+// The batch in hand, and how many padded operations and batches stand before it. That these are few is asked where they are added to, and is no
+// ghost field: it follows from how far the driver is in its list, which the work does not know.
 #[derive(Clone, Copy)]
 struct Work {
     acc: OpBatchAccumulator,
