@@ -15,14 +15,15 @@ use Rattle.rules.specs.Lists.{in_row}
 use Rattle.rules.specs.Compare.{Entry, missing₆, entry_at, entry_size, entry_numbers}
 use Rattle.rules.proofs.Digits.{sets_append}
 use Rattle.claims.proofs.Compare.{minus_is, sub_small}
-use Rattle.comparison.specs.contracts.Kind.{the_type}
-use Rattle.comparison.specs.contracts.Side.{the_type as side_type}
-use Rattle.comparison.specs.declared.Side.{Side}
-use Rattle.comparison.specs.declared.Side.TheVariants as side
-use Rattle.comparison.specs.declared.Kind.{Kind}
-use Rattle.comparison.specs.declared.Kind.TheVariants as kind
+use Rattle.comparison.specs.contracts.entry.Kind.{the_type}
+use Rattle.comparison.specs.contracts.entry.Side.{the_type as side_type}
+use Rattle.comparison.specs.declared.entry.Side.{Side}
+use Rattle.comparison.specs.declared.entry.Side.TheVariants as side
+use Rattle.comparison.specs.declared.entry.Kind.{Kind}
+use Rattle.comparison.specs.declared.entry.Kind.TheVariants as kind
 use Rattle.comparison.specs.declared.Report.{Report}
-use Rattle.comparison.specs.Model.{number_of, side_number, missing_from, Adds}
+use Rattle.comparison.specs.Entries.{number_of, side_number}
+use Rattle.comparison.specs.Model.{missing_from, Adds}
 
 abbrev pub numbers : List Entry → List ℤ
 numbers = in_row entry_numbers

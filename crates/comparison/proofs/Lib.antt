@@ -4,3 +4,4 @@ pub mod Batches
 pub mod Blocks
 pub mod Flags
 pub mod Ways
+pub mod Read

@@ -1,3 +1,4 @@
+pub mod Entries
 pub mod Replies
 pub mod Model
 pub mod Block

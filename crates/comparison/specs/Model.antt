@@ -14,10 +14,6 @@ use Rattle.comparison.specs.declared.Apart.{Apart}
 use Rattle.comparison.specs.declared.Totals.{Totals}
 use Rattle.comparison.specs.declared.Report.{Report}
 use Rattle.comparison.specs.declared.Refused.{Refused}
-use Rattle.comparison.specs.declared.Kind.{Kind}
-use Rattle.comparison.specs.declared.Kind.TheVariants as kind
-use Rattle.comparison.specs.declared.Side.{Side}
-use Rattle.comparison.specs.declared.Side.TheVariants as side
 use Rattle.comparison.specs.Replies.{told, compared_of}
 
 -- ---- one batch
@@ -54,22 +50,6 @@ pub record Near (a : Apart) : Type 0 where
   pub operation : IfSome a.operation (λ i. i < 72)
 
 -- ---- entries
-
-abbrev pub number_of : Kind → ℕ
-number_of kind.Number = other_number₁
-number_of kind.Flag = other_flag₂
-number_of kind.Length = other_length₃
-number_of kind.Operation = other_operation₄
-number_of kind.Count = other_count₅
-number_of kind.Missing = missing₆
-number_of kind.Batches = batches₇
-number_of kind.Padded = padded₈
-number_of kind.Raw = raw₉
-number_of kind.Paddings = paddings₁₀
-
-abbrev pub side_number : Side → ℕ
-side_number side.First = 1
-side_number side.Second = 2
 
 -- an entry where there is a place
 abbrev pub noted : ℕ → ℕ → Option ℕ → List Entry

@@ -12,9 +12,13 @@ ghost use Rattle.rules.specs.Functions.{arena, block_in, room_in, filled, decode
 ghost use Rattle.op_batch.specs.RecordAt.{recorded};
 ghost use Rattle.checks.specs.Batch.{Fits, Lies};
 ghost use Rattle.comparison.specs.Replies.{mark_of, refusal_of, side, room_for, Compares};
-ghost use Rattle.comparison.specs.Model.{FirstApart, whole_at, apart_of, Near, number_of, side_number, noted, entries_for, common_from, missing_from, totals_of, totals_for, Few, Adds, against_first, Written, Taken, front, Begins, headless};
+ghost use Rattle.comparison.specs.Entries.{number_of, side_number, entry_of};
+ghost use Rattle.comparison.specs.Model.{FirstApart, whole_at, apart_of, Near, noted, entries_for, common_from, missing_from, totals_of, totals_for, Few, Adds, against_first, Written, Taken, front, Begins, headless};
+
+mod entry;
 
 use decoder::Decoded;
+pub use entry::{Entry, Kind, NoEntry, Side};
 use op_batch::{RECORD, RecordAt};
 use refusal::Refusal;
 
@@ -76,28 +80,6 @@ struct Totals {
     padded: usize,
     raw: usize,
     paddings: usize,
-}
-
-// What an entry of the report is about: its first number. Five are about a batch that both blocks have, one about a batch that one lacks, the others about totals.
-#[derive(Clone, Copy)]
-enum Kind {
-    Number = 1,
-    Flag = 2,
-    Length = 3,
-    Operation = 4,
-    Count = 5,
-    Missing = 6,
-    Batches = 7,
-    Padded = 8,
-    Raw = 9,
-    Paddings = 10,
-}
-
-// A block's side: what a missing batch has as its place.
-#[derive(Clone, Copy)]
-enum Side {
-    First = 1,
-    Second = 2,
 }
 
 // A lent report and how many entries it has, counting those for which it has no room.
@@ -226,15 +208,15 @@ fn paddings(batch: RecordAt<'_>) -> usize
 impl Report<'_> {
     ghost use Rattle.comparison.specs.Block.{lying};
 
-    fn put(&mut self, kind: Kind, batch: usize, place: usize, difference: i32)
-        requires { (self.old.entries < 2 ^ 20) × (batch < 2 ^ 20) × (place < 2 ^ 20) }
-        ensures { Adds (record { kind = number_of kind; batch = batch; place = place; difference = difference } ∷ []) self.old self.new }
+    fn put(&mut self, entry: Entry)
+        requires { (self.old.entries < 2 ^ 20) × (entry.batch < 2 ^ 20) × (entry.place < 2 ^ 20) }
+        ensures { Adds (entry_of entry ∷ []) self.old self.new }
     {
         let at = 4 * self.entries;
-        word::store(self.numbers, at, kind as i32);
-        word::store(self.numbers, at + 1, batch as i32);
-        word::store(self.numbers, at + 2, place as i32);
-        word::store(self.numbers, at + 3, difference);
+        word::store(self.numbers, at, entry.kind as i32);
+        word::store(self.numbers, at + 1, entry.batch as i32);
+        word::store(self.numbers, at + 2, entry.place as i32);
+        word::store(self.numbers, at + 3, entry.difference);
         self.entries += 1;
     }
 
@@ -244,7 +226,12 @@ impl Report<'_> {
         ensures { Adds (noted (number_of kind) batch place) self.old self.new × (self.new.entries ≤ self.old.entries + 1) }
     {
         if let Some(place) = place {
-            self.put(kind, batch, place, 0);
+            self.put(Entry {
+                kind,
+                batch,
+                place,
+                difference: 0,
+            });
         }
     }
 
@@ -257,7 +244,12 @@ impl Report<'_> {
         self.note(Kind::Length, b, apart.length);
         self.note(Kind::Operation, b, apart.operation);
         if apart.count {
-            self.put(Kind::Count, b, 0, 0);
+            self.put(Entry {
+                kind: Kind::Count,
+                batch: b,
+                place: 0,
+                difference: 0,
+            });
         }
     }
 
@@ -289,7 +281,12 @@ impl Report<'_> {
         ensures { Adds (missing_from (to - from) from (side_number side)) self.old self.new × (self.new.entries ≤ self.old.entries + (to - from)) }
     {
         for b in from..to {
-            self.put(Kind::Missing, b, side as usize, 0);
+            self.put(Entry {
+                kind: Kind::Missing,
+                batch: b,
+                place: side as usize,
+                difference: 0,
+            });
         }
     }
 
@@ -299,7 +296,12 @@ impl Report<'_> {
         ensures { Adds (total_apart (number_of kind) first second) self.old self.new × (self.new.entries ≤ self.old.entries + 1) }
     {
         if first != second {
-            self.put(kind, 0, 0, second as i32 - first as i32);
+            self.put(Entry {
+                kind,
+                batch: 0,
+                place: 0,
+                difference: second as i32 - first as i32,
+            });
         }
     }
 

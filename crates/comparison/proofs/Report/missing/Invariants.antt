@@ -1,6 +1,7 @@
 use Prim.Native.Nat.{◌+◌, ◌-◌}
 use mathlib.Core.Path.{◌≡◌}
-use Rattle.comparison.specs.Model.{side_number, missing_from}
+use Rattle.comparison.specs.Entries.{side_number}
+use Rattle.comparison.specs.Model.{missing_from}
 use Rattle.comparison.proofs.Entries.{Ahead}
 use Rattle.comparison.proofs.Report.missing.Given as goal
 
