@@ -2,10 +2,12 @@
 use mathlib.Core.Path.{◌≡◌, refl, sym, ◌∙◌}
 use mathlib.Core.Bool.{true}
 use mathlib.Core.List.{List, [], ◌∷◌, map}
-use Prim.Native.Nat.{ℕ, suc, ◌+◌, ◌-◌, ◌*◌, ◌/◌, ◌≤◌, ◌<◌}
+use Prim.Native.Nat.{ℕ, zero, suc, ◌+◌, ◌-◌, ◌*◌, ◌/◌, ◌≤◌, ◌<◌}
 use native.Mathlib.Nat.{sub-zero}
 use native.Mathlib.Omega.{arith}
-use Rattle.std.specs.Prelude.{Option}
+use Rattle.std.specs.Prelude.{Option, sum_by}
+use Rattle.std.specs.List.{range_with_len}
+use Rattle.std.proofs.lemmas.List.Sums.{sum_by-cons}
 use lib.ListN.{length, get_or, drop, length-take}
 use lib.Dec.{eqb}
 use Rattle.rules.specs.Lists.{total}
@@ -101,21 +103,20 @@ bytes_found xs ys m n r l h k g e i o =
 
 -- ---- paddings, batch by batch
 
--- those of the batches from the b-th of n on
-unfoldable pub paddings_from : ℕ → List ℕ → ℕ → ℕ
-paddings_from n s b = total (map paddings_in (records_from (n - b) s b))
+abbrev pub paddings_at : List ℕ → ℕ → ℕ
+paddings_at s b = paddings_in (record_at s b)
 
-pub paddings_turn : (n : ℕ) (s : List ℕ) (b : ℕ) → b < n → paddings_from n s b ≡ paddings_in (record_at s b) + paddings_from n s (b + 1)
-unfolding paddings_from total
-paddings_turn n s b h = rw (records_turn n s b h)
+paddings_each : (s : List ℕ) (b k : ℕ) → sum_by (paddings_at s) (range_with_len b k) ≡ total (map paddings_in (records_from k s b))
+unfolding total records_from
+paddings_each s b zero = refl
+paddings_each s b (suc k) = sum_by-cons (paddings_at s) b (range_with_len (b + 1) k) ∙ rw (paddings_each s (b + 1) k) refl
 
-pub paddings_none : (n : ℕ) (s : List ℕ) (b : ℕ) → n ≤ b → paddings_from n s b ≡ 0
-unfolding paddings_from total
-paddings_none n s b h = rw (records_end n s b h)
+pub paddings_all : (cs vs rs : List ℕ) → sum_by (paddings_at rs) (range_with_len 0 (length rs / record_size)) ≡ padding_total (block_in (arena cs vs rs))
+unfolding padding_total block_in records_in
+paddings_all cs vs rs = paddings_each rs 0 (length rs / record_size)
 
-pub paddings_all : (cs vs rs : List ℕ) → paddings_from (length rs / record_size) rs 0 ≡ padding_total (block_in (arena cs vs rs))
-unfolding paddings_from padding_total block_in records_in
-paddings_all cs vs rs = rw sub-zero
+pub paddings_few : (cs vs rs : List ℕ) → Taken (arena cs vs rs) → sum_by (paddings_at rs) (range_with_len 0 (length rs / record_size)) ≤ 65535
+paddings_few cs vs rs t = omega (arith, paddings_all cs vs rs, t.paddings, few_ops cs vs rs (structured t))
 
 -- ---- a walk along the first k batches, which is at the b-th: its operations begin at a place
 

@@ -3,12 +3,14 @@ use mathlib.Core.Path.{◌≡◌, refl, sym, ◌∙◌}
 use mathlib.Core.Bool.{Bool, true, false, cond, ◌&&◌}
 use mathlib.Core.List.{List, [], ◌∷◌}
 use Prim.Native.Nat.{ℕ, zero, suc, ◌+◌, ◌≤◌, ◌<◌, min}
-use native.Mathlib.Nat.{add-zero, div-div-eq-div-mul}
+use native.Mathlib.Nat.{zero-add, add-zero, div-div-eq-div-mul}
 use native.Mathlib.Omega.{arith}
 use borrow.Author.Tests.{eq-eqb, ne_eqb, eqb-true}
 use lib.ListN.{length, get_or, take, drop, length-take, length-drop}
 use lib.Dec.{eqb}
-use Rattle.std.specs.Prelude.{Option, None, Some, IfSome}
+use Rattle.std.specs.Prelude.{Option, None, Some, IfSome, MatchOption}
+use Rattle.std.specs.List.{range_with_len, AllWithin, HoldsAt}
+use Rattle.std.proofs.lemmas.List.FromFn.{length-range_with_len, get_or-range_with_len}
 use Rattle.std.specs.Int.{to_le_bytes, w64}
 use Rattle.std.proofs.lemmas.List.{get_or-take, get_or-drop}
 use Rattle.rules.specs.Digits.{digits}
@@ -83,6 +85,15 @@ module _ {A : Type 0} (same : A → A → Bool) where
     found n P xs ys (Some i) e holds fails f =
         let z : 0 + i ≡ i = omega arith in
         sym (one_apart 0 i xs ys (omega (arith, f.0)) (λ j l. holds j (omega (arith, f.0)) (f.1 j l)) (fails i f.0 f.2) ∙ rw z)
+
+-- a search of a range
+pub first_in_range : (n : ℕ) (P : ℕ → Type 0) (r : Option ℕ)
+    → MatchOption r (AllWithin P (range_with_len 0 n) 0 (length (range_with_len 0 n))) (λ i. (i < length (range_with_len 0 n)) × HoldsAt (λ k. P k → ⊥) (range_with_len 0 n) i × AllWithin P (range_with_len 0 n) 0 i)
+    → FirstApart n P r
+first_in_range n P None f = λ k h. rw (get_or-range_with_len 0 n k 0 h, zero-add k) at (f k 0 (omega arith) (omega (arith, length-range_with_len 0 n)))
+first_in_range n P (Some i) f =
+    let h : i < n = omega (arith, f.0, length-range_with_len 0 n) in
+    (h, λ k l. rw (get_or-range_with_len 0 n k 0 (omega arith), zero-add k) at (f.2 k 0 (omega arith) l), λ p. f.1 0 (rw (get_or-range_with_len 0 n i 0 h, zero-add i) p))
 
 -- ---- numbers
 

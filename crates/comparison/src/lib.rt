@@ -2,7 +2,7 @@
 // each kind, goes into a lent report, four signed 32-bit numbers for each entry. The rooms are empty again at the end.
 #![tactic(auto)]
 
-ghost use Rattle.std.specs.Prelude.{◌≡◌, ◌+◌, ◌-◌, ◌*◌, ◌≤◌, ◌<◌, ◌^◌, [], ◌∷◌, length, IfSome, slice_index};
+ghost use Rattle.std.specs.Prelude.{◌≡◌, ◌+◌, ◌-◌, ◌*◌, ◌/◌, ◌≤◌, ◌<◌, ◌^◌, [], ◌∷◌, length, IfSome, slice_index};
 ghost use Rattle.std.specs.Int.{to_le_bytes, w64};
 ghost use Rattle.std.proofs.lemmas.List.Edits.{sets};
 ghost use Rattle.rules.specs.Lists.{in_row};
@@ -134,14 +134,10 @@ impl<'a> Block<'a> {
         requires { (from + n ≤ length self.now.codes.now) × (at + n ≤ length other.now.codes.now) }
         ensures { FirstApart n (λ i. (slice_index self.now.codes.now (from + i) ≡ slice_index other.now.codes.now (at + i)) × (slice_index self.now.values.now (from + i) ≡ slice_index other.now.values.now (at + i))) result }
     {
-        for i in 0..n {
-            if self.codes[from + i] != other.codes[at + i]
+        (0..n).position(|i| {
+            self.codes[from + i] != other.codes[at + i]
                 || self.values[from + i] != other.values[at + i]
-            {
-                return Some(i);
-            }
-        }
-        None
+        })
     }
 
     // The b-th batches, whose operations begin at two places.
@@ -167,16 +163,33 @@ impl<'a> Block<'a> {
         }
     }
 
+    // The flags under the count of the b-th batch: as far as one is set.
+    fn paddings(&self, b: usize) -> usize
+        requires { b < length self.now.records.now / record_size }
+        ensures { (result ≡ paddings_in (record_at self.now.records.now b)) × (result ≤ 8) }
+    {
+        let batch = RecordAt {
+            records: self.records,
+            b,
+        };
+        let mut left = batch.flags(); // those of the groups that are still to come
+        let mut n = 0;
+        for _g in 0..batch.count() {
+            if left == 0 {
+                return n;
+            }
+            n += (left % 256) as usize;
+            left /= 256;
+        }
+        n
+    }
+
     fn totals(&self) -> Totals
         ensures { (result ≡ totals_of (block_in (lying self.now))) × Few result }
     {
-        let records = self.records;
-        let batches = records.len() / RECORD;
+        let batches = self.records.len() / RECORD;
         let padded = self.codes.len();
-        let mut flagged = 0;
-        for b in 0..batches {
-            flagged += paddings(RecordAt { records, b });
-        }
+        let flagged = (0..batches).map(|b| self.paddings(b)).sum();
         Totals {
             batches,
             padded,
@@ -184,23 +197,6 @@ impl<'a> Block<'a> {
             paddings: flagged,
         }
     }
-}
-
-// The flags under the count of the b-th batch: as far as one is set.
-fn paddings(batch: RecordAt<'_>) -> usize
-    requires { Fits (recorded batch) }
-    ensures { (result ≡ paddings_in (recorded batch.entry)) × (result ≤ 8) }
-{
-    let mut left = batch.flags(); // those from the g-th on
-    let mut n = 0;
-    for g in 0..batch.count() {
-        if left == 0 {
-            return n;
-        }
-        n += (left % 256) as usize;
-        left /= 256;
-    }
-    n
 }
 
 // ---- entries

@@ -1,24 +1,36 @@
-use mathlib.Core.Path.{◌∙◌}
-use Prim.Native.Nat.{◌/◌}
-use native.Mathlib.Nat.{zero-add}
-use native.Mathlib.Omega.{arith}
-use lib.ListN.{length}
+use Rattle.std.proofs.Common.{◌≡◌, ℕ, ◌/◌, length, rules, arith, ◌∙◌}
+use borrow.Author.Tests.{tests}
+use Rattle.std.proofs.lemmas.Iterator.{YieldsList-from_map, YieldsList-from_range}
+use Rattle.std.proofs.lemmas.Iterator.Consumers.{sum_by_from_yields_List, fits_by_from_yields_list}
+use Rattle.std.specs.List.{range_with_len}
 use Rattle.rules.specs.Record.{record_size}
-use Rattle.comparison.proofs.Blocks.{structured, fits_at, paddings_turn, paddings_none, paddings_all, totals_are}
+use Rattle.rules.specs.Compare.{padding_total}
+use Rattle.rules.specs.Functions.{block_in}
+use Rattle.comparison.specs.Block.{lying}
+use Rattle.comparison.proofs.Blocks.{paddings_at, paddings_all, paddings_few, totals_are}
+use Rattle.comparison.proofs.Block.totals.Goals.{After-sum-flagged}
 use Rattle.comparison.proofs.Block.totals.Goals as goal
 
-pub loop-b-init : goal.loop-b-init
-loop-b-init c = let b = c.args.self.now in zero-add _ ∙ paddings_all b.codes.now b.values.now b.records.now
+pub sum-flagged-requires-clause-fits : goal.sum-flagged-requires-clause-fits
+sum-flagged-requires-clause-fits c =
+    let b = c.args.self.now in
+    let s = b.records.now in
+    let n = length s / record_size in
+    fits_by_from_yields_list (paddings_at s) (range_with_len 0 n) c.map.result _
+    (YieldsList-from_map _ (paddings_at s) (YieldsList-from_range 0 n n c.map.ensures.source (omega arith)) c.map.ensures.closure (λ x r q k. search (rules, tests)))
+    (omega (arith, paddings_few _ _ _ b.taken))
 
-pub paddings-flagged-requires : goal.paddings-flagged-requires
-paddings-flagged-requires c = fits_at _ _ _ (structured c.args.self.now.taken) c.loop-b.b c.loop-b-test.true
+summed : (c : After-sum-flagged) → c.sum-flagged.result ≡ padding_total (block_in (lying c.args.self.now))
+summed c =
+    let b = c.args.self.now in
+    let s = b.records.now in
+    let n = length s / record_size in
+    sum_by_from_yields_List (paddings_at s) (range_with_len 0 n) c.map.result _ c.sum-flagged.ensures.ran
+    (YieldsList-from_map _ (paddings_at s) (YieldsList-from_range 0 n n c.map.ensures.source (omega arith)) c.map.ensures.closure (λ x r q k. search (rules, tests)))
+    ∙ paddings_all b.codes.now b.values.now s
 
-pub loop-b-preserved : goal.loop-b-preserved
-loop-b-preserved c =
-    let s = c.args.self.now.records.now in
-    omega (arith, c.loop-b.invariant, paddings_turn (length s / record_size) s c.loop-b.b c.loop-b-test.true, c.paddings-flagged.ensures.0)
+pub overflow_sub-result : goal.overflow_sub-result
+overflow_sub-result c = omega (arith, summed c, c.args.self.now.taken.paddings)
 
 pub returns : goal.returns
-returns c =
-    let b = c.args.self.now in
-    totals_are _ _ _ _ b.taken (omega (arith, c.loop-b.invariant, paddings_none (length b.records.now / record_size) b.records.now c.loop-b.b c.loop-b-test.false))
+returns c = totals_are _ _ _ _ c.args.self.now.taken (summed c)
