@@ -3,7 +3,6 @@ use mathlib.Core.Path.{◌≡◌, refl, sym, ◌∙◌}
 use mathlib.Core.Bool.{true}
 use mathlib.Core.List.{List, [], ◌∷◌, map}
 use Prim.Native.Nat.{ℕ, zero, suc, ◌+◌, ◌-◌, ◌*◌, ◌/◌, ◌≤◌, ◌<◌}
-use native.Mathlib.Nat.{sub-zero}
 use native.Mathlib.Omega.{arith}
 use Rattle.std.specs.Prelude.{Option, sum_by}
 use Rattle.std.specs.List.{range_with_len}
@@ -22,7 +21,7 @@ use Rattle.rules.proofs.Operations.{length_operations}
 use Rattle.rules.proofs.Sizes.{length_records}
 use Rattle.op_batch.proofs.Right.{ninth_small}
 use Rattle.checks.specs.Batch.{Fits, Structured, Lies}
-use Rattle.checks.proofs.Walk.{records_turn, records_end, equal_lengths, few_codes, few_records}
+use Rattle.checks.proofs.Walk.{equal_lengths, few_codes, few_records}
 use Rattle.checks.proofs.Passed.{checked, all_fit}
 use Rattle.checks.proofs.Batches.{rest, rest_turn, rest_all, lies}
 use Rattle.checks.proofs.Groups.{Laid, laid, right_starts, Bytes, differences_bytes, differences_length, flags_small}

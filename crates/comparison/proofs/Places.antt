@@ -1,23 +1,21 @@
 -- Where two lists first differ, and the entry that says so. Assumes nothing.
-use mathlib.Core.Path.{◌≡◌, refl, sym, ◌∙◌}
-use mathlib.Core.Bool.{Bool, true, false, cond, ◌&&◌}
+use mathlib.Core.Path.{◌≡◌, refl, sym, ap, ◌∙◌}
+use mathlib.Core.Bool.{Bool, true, false, cond, not, ◌&&◌}
 use mathlib.Core.List.{List, [], ◌∷◌}
-use Prim.Native.Nat.{ℕ, zero, suc, ◌+◌, ◌≤◌, ◌<◌, min}
-use native.Mathlib.Nat.{zero-add, add-zero, div-div-eq-div-mul}
+use Prim.Native.Nat.{ℕ, zero, suc, ◌+◌, ◌-◌, ◌≤◌, ◌<◌, min}
+use native.Mathlib.Nat.{add-zero, div-div-eq-div-mul}
 use native.Mathlib.Omega.{arith}
-use borrow.Author.Tests.{eq-eqb, ne_eqb, eqb-true}
-use lib.ListN.{length, get_or, take, drop, length-take, length-drop}
+use borrow.Author.Tests.{eq-eqb, ne_eqb}
+use lib.ListN.{length, get_or, take, drop}
 use lib.Dec.{eqb}
-use Rattle.std.specs.Prelude.{Option, None, Some, IfSome, MatchOption}
-use Rattle.std.specs.List.{range_with_len, AllWithin, HoldsAt}
-use Rattle.std.proofs.lemmas.List.FromFn.{length-range_with_len, get_or-range_with_len}
+use Rattle.std.specs.Prelude.{Option, None, Some, IfSome}
+use Rattle.std.specs.List.{zip, position_from}
 use Rattle.std.specs.Int.{to_le_bytes, w64}
-use Rattle.std.proofs.lemmas.List.{get_or-take, get_or-drop}
 use Rattle.rules.specs.Digits.{digits}
-use Rattle.rules.specs.Operations.{operations, noop}
+use Rattle.rules.specs.Operations.{Op, operations}
 use Rattle.rules.specs.Record.{part}
 use Rattle.rules.specs.Compare.{first_apart, same_op}
-use Rattle.rules.proofs.Operations.{op, length_operations}
+use Rattle.rules.proofs.Operations.{op}
 use Rattle.comparison.specs.Model.{FirstApart, apart_from, noted}
 
 module _ {A : Type 0} (same : A → A → Bool) where
@@ -86,15 +84,6 @@ module _ {A : Type 0} (same : A → A → Bool) where
         let z : 0 + i ≡ i = omega arith in
         sym (one_apart 0 i xs ys (omega (arith, f.0)) (λ j l. holds j (omega (arith, f.0)) (f.1 j l)) (fails i f.0 f.2) ∙ rw z)
 
--- a search of a range
-pub first_in_range : (n : ℕ) (P : ℕ → Type 0) (r : Option ℕ)
-    → MatchOption r (AllWithin P (range_with_len 0 n) 0 (length (range_with_len 0 n))) (λ i. (i < length (range_with_len 0 n)) × HoldsAt (λ k. P k → ⊥) (range_with_len 0 n) i × AllWithin P (range_with_len 0 n) 0 i)
-    → FirstApart n P r
-first_in_range n P None f = λ k h. rw (get_or-range_with_len 0 n k 0 h, zero-add k) at (f k 0 (omega arith) (omega (arith, length-range_with_len 0 n)))
-first_in_range n P (Some i) f =
-    let h : i < n = omega (arith, f.0, length-range_with_len 0 n) in
-    (h, λ k l. rw (get_or-range_with_len 0 n k 0 (omega arith), zero-add k) at (f.2 k 0 (omega arith) l), λ p. f.1 0 (rw (get_or-range_with_len 0 n i 0 h, zero-add i) p))
-
 -- ---- numbers
 
 pub numbers_found : (n : ℕ) (xs ys : List ℕ) (r : Option ℕ) → length xs ≡ n → length ys ≡ n → FirstApart n (λ k. get_or xs k 0 ≡ get_or ys k 0) r → r ≡ apart_from eqb 0 xs ys
@@ -107,34 +96,53 @@ bytes_are v = simp div-div-eq-div-mul
 
 -- ---- operations
 
-op_at : (cs vs : List ℕ) (i : ℕ) → i < length cs → length cs ≡ length vs → get_or (operations cs vs) i noop ≡ op (get_or cs i 0) (get_or vs i 0)
-unfolding operations
-op_at [] vs i h e = absurd (omega arith)
-op_at (c ∷ cs) [] i h e = absurd (omega arith)
-op_at (c ∷ cs) (v ∷ vs) zero h e = refl
-op_at (c ∷ cs) (v ∷ vs) (suc i) h e = op_at cs vs i (omega arith) (omega arith)
+-- two operations, each as its opcode and its value
+abbrev pub differ : (ℕ × ℕ) × (ℕ × ℕ) → Bool
+differ p = not (eqb p.0.0 p.1.0 && eqb p.0.1 p.1.1)
 
-part_at : (n from k : ℕ) (cs vs : List ℕ) → k < n → from + n ≤ length cs → length cs ≡ length vs → get_or (part n (operations cs vs) from) k noop ≡ op (get_or cs (from + k) 0) (get_or vs (from + k) 0)
-part_at n from k cs vs h l e = get_or-take n _ k noop h ∙ get_or-drop from (operations cs vs) k noop ∙ op_at cs vs (from + k) (omega arith) e
+abbrev pub pairs : (cs vs ds us : List ℕ) → List ((ℕ × ℕ) × (ℕ × ℕ))
+pairs cs vs ds us = zip (zip cs vs) (zip ds us)
 
-part_length : (n from : ℕ) (cs vs : List ℕ) → from + n ≤ length cs → length cs ≡ length vs → length (part n (operations cs vs) from) ≡ n
-part_length n from cs vs l e = length-take n (drop from (operations cs vs)) ∙ omega (arith, length-drop from (operations cs vs), length_operations cs vs e)
-
-pub ops_found : (n from at : ℕ) (cs vs ds us : List ℕ) (r : Option ℕ) → from + n ≤ length cs → length cs ≡ length vs → at + n ≤ length ds → length ds ≡ length us
-    → FirstApart n (λ i. (get_or cs (from + i) 0 ≡ get_or ds (at + i) 0) × (get_or vs (from + i) 0 ≡ get_or us (at + i) 0)) r
-    → r ≡ apart_from same_op 0 (part n (operations cs vs) from) (part n (operations ds us) at)
-unfolding same_op
-ops_found n from at cs vs ds us r h e k g f =
-    found same_op noop n (λ i. (get_or cs (from + i) 0 ≡ get_or ds (at + i) 0) × (get_or vs (from + i) 0 ≡ get_or us (at + i) 0)) (part n (operations cs vs) from) (part n (operations ds us) at) r
-    (omega (arith, part_length n from cs vs h e, part_length n at ds us k g))
-    (λ i l p. rw (part_at n from i cs vs l h e, part_at n at i ds us l k g, eq-eqb _ _ p.0, eq-eqb _ _ p.1))
-    (λ i l q. rw (part_at n from i cs vs l h e, part_at n at i ds us l k g) (differs (get_or cs (from + i) 0) (get_or ds (at + i) 0) (get_or vs (from + i) 0) (get_or us (at + i) 0) q))
-    f
+pairs_apart : (i : ℕ) (cs vs ds us : List ℕ) → position_from differ i (pairs cs vs ds us) ≡ apart_from same_op i (operations cs vs) (operations ds us)
+unfolding apart_from operations same_op
+pairs_apart i [] vs ds us = refl
+pairs_apart i (c ∷ cs) [] ds us = refl
+pairs_apart i (c ∷ cs) (v ∷ vs) [] us = refl
+pairs_apart i (c ∷ cs) (v ∷ vs) (d ∷ ds) [] = refl
+pairs_apart i (c ∷ cs) (v ∷ vs) (d ∷ ds) (u ∷ us) = go (eqb c d && eqb v u) (pairs_apart (i + 1) cs vs ds us)
   where
-    differs : (c d v w : ℕ) → ((c ≡ d) × (v ≡ w) → ⊥) → (eqb c d && eqb v w) ≡ false
-    differs c d v w q = go (eqb c d) (eqb v w) refl refl
-      where
-        go : (a b : Bool) → eqb c d ≡ a → eqb v w ≡ b → (a && b) ≡ false
-        go false b m o = refl
-        go true false m o = refl
-        go true true m o = absurd (q (eqb-true c d m, eqb-true v w o))
+    go : (t : Bool) → position_from differ (i + 1) (pairs cs vs ds us) ≡ apart_from same_op (i + 1) (operations cs vs) (operations ds us)
+        → cond (not t) (Some i) (position_from differ (i + 1) (pairs cs vs ds us)) ≡ cond t (apart_from same_op (i + 1) (operations cs vs) (operations ds us)) (Some i)
+    go true ih = ih
+    go false ih = refl
+
+operations_take : (n : ℕ) (cs vs : List ℕ) → operations (take n cs) (take n vs) ≡ take n (operations cs vs)
+unfolding operations
+operations_take zero cs vs = refl
+operations_take (suc n) [] vs = refl
+operations_take (suc n) (c ∷ cs) [] = refl
+operations_take (suc n) (c ∷ cs) (v ∷ vs) = ap (λ (r : List Op). op c v ∷ r) (operations_take n cs vs)
+
+operations_drop : (n : ℕ) (cs vs : List ℕ) → operations (drop n cs) (drop n vs) ≡ drop n (operations cs vs)
+unfolding operations
+operations_drop zero cs vs = refl
+operations_drop (suc n) [] vs = refl
+operations_drop (suc n) (c ∷ cs) [] = go (drop n cs)
+  where
+    go : (ds : List ℕ) → operations ds [] ≡ []
+    go [] = refl
+    go (d ∷ ds) = refl
+operations_drop (suc n) (c ∷ cs) (v ∷ vs) = operations_drop n cs vs
+
+-- a part of each run
+abbrev pub cut : ℕ → List ℕ → ℕ → List ℕ
+cut n s at = take n (drop at s)
+
+pub cut_part : (n : ℕ) (s : List ℕ) (at : ℕ) (t : List ℕ) → t ≡ take (at + n - at) (drop at s) → t ≡ cut n s at
+cut_part n s at t e = let k : at + n - at ≡ n = omega arith in rw k at e
+
+pub parts_apart : (n from at : ℕ) (cs vs ds us : List ℕ)
+    → position_from differ 0 (pairs (cut n cs from) (cut n vs from) (cut n ds at) (cut n us at)) ≡ apart_from same_op 0 (part n (operations cs vs) from) (part n (operations ds us) at)
+parts_apart n from at cs vs ds us =
+    pairs_apart 0 (cut n cs from) (cut n vs from) (cut n ds at) (cut n us at)
+    ∙ rw (operations_take n (drop from cs) (drop from vs), operations_drop from cs vs, operations_take n (drop at ds) (drop at us), operations_drop at ds us) refl

@@ -1,5 +1,5 @@
 -- An entry that is read from four numbers. Assumes nothing.
-use Rattle.std.proofs.Common.{◌≡◌, ℕ, ◌<◌, List, [], ◌∷◌, length, get_or, ℤ, pos, negsuc, w32, SFits, to_z, of_z, arith, refl, sym, ap, ◌∙◌}
+use Rattle.std.proofs.Common.{◌≡◌, ℕ, List, [], ◌∷◌, length, get_or, ℤ, pos, negsuc, w32, SFits, to_z, of_z, arith, refl, sym, ap}
 use mir.ValLaws.{to_z-of_z}
 use lib.IntN.{nat_abs}
 use Rattle.std.specs.Prelude.{Result, Ok, Err, IsErr}

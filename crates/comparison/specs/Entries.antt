@@ -1,5 +1,5 @@
 -- An entry of the report by its four numbers, and what reading them answers.
-use Rattle.std.specs.Prelude.{◌≡◌, List, ℕ, ℤ, pos, Result, MatchResult}
+use Rattle.std.specs.Prelude.{◌≡◌, List, ℕ, ℤ, Result, MatchResult}
 use Rattle.rules.specs.Compare as rule
 use Rattle.rules.specs.Compare.{other_number₁, other_flag₂, other_length₃, other_operation₄, other_count₅, missing₆, batches₇, padded₈, raw₉, paddings₁₀, entry_numbers}
 use Rattle.comparison.specs.declared.entry.Kind.{Kind}

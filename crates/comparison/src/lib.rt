@@ -6,14 +6,14 @@ ghost use Rattle.std.specs.Prelude.{◌≡◌, ◌+◌, ◌-◌, ◌*◌, ◌/�
 ghost use Rattle.std.specs.Int.{to_le_bytes, w64};
 ghost use Rattle.std.proofs.lemmas.List.Edits.{sets};
 ghost use Rattle.rules.specs.Lists.{in_row};
-ghost use Rattle.rules.specs.Record.{record_size, record_at, no_block};
-ghost use Rattle.rules.specs.Compare.{paddings_in, total_apart, blocks_apart, entry_numbers};
+ghost use Rattle.rules.specs.Record.{part, record_size, record_at, no_block};
+ghost use Rattle.rules.specs.Compare.{same_op, paddings_in, total_apart, blocks_apart, entry_numbers};
 ghost use Rattle.rules.specs.Functions.{arena, block_in, room_in, filled, decoded, compared};
 ghost use Rattle.op_batch.specs.RecordAt.{recorded};
 ghost use Rattle.checks.specs.Batch.{Fits, Lies};
 ghost use Rattle.comparison.specs.Replies.{mark_of, refusal_of, side, room_for, Compares};
 ghost use Rattle.comparison.specs.Entries.{number_of, side_number, entry_of};
-ghost use Rattle.comparison.specs.Model.{FirstApart, whole_at, apart_of, Near, noted, entries_for, common_from, missing_from, totals_of, totals_for, Few, Adds, against_first, Written, Taken, front, Begins, headless};
+ghost use Rattle.comparison.specs.Model.{FirstApart, apart_from, whole_at, apart_of, Near, noted, entries_for, common_from, missing_from, totals_of, totals_for, Few, Adds, against_first, Written, Taken, front, Begins, headless};
 
 mod entry;
 
@@ -82,7 +82,8 @@ struct Totals {
     paddings: usize,
 }
 
-// A lent report and how many entries it has, counting those for which it has no room.
+// A lent report and how many entries it has, counting those for which it has no room. That they are fewer than 2^20 is asked by each method that adds some: as
+// a fact of the report it would be owed after each entry, and be asked all the same.
 #[derive(Drop)]
 struct Report<'a> {
     numbers: &'a mut [i32],
@@ -115,7 +116,7 @@ fn numbers_apart(first: RecordAt<'_>, second: RecordAt<'_>) -> Option<usize>
 }
 
 impl<'a> Block<'a> {
-    ghost use Rattle.comparison.specs.Block.{lying};
+    ghost use Rattle.comparison.specs.Block.{lying, ops_in};
 
     // What a room begins with.
     fn at_front(codes: &'a [u8], values: &'a [u64], records: &'a [u8], made: Decoded) -> Block<'a>
@@ -132,12 +133,15 @@ impl<'a> Block<'a> {
     // n operations of each, from two places on.
     fn ops_apart(&self, from: usize, other: &Block<'_>, at: usize, n: usize) -> Option<usize>
         requires { (from + n ≤ length self.now.codes.now) × (at + n ≤ length other.now.codes.now) }
-        ensures { FirstApart n (λ i. (slice_index self.now.codes.now (from + i) ≡ slice_index other.now.codes.now (at + i)) × (slice_index self.now.values.now (from + i) ≡ slice_index other.now.values.now (at + i))) result }
+        ensures { result ≡ apart_from same_op 0 (part n (ops_in self.now) from) (part n (ops_in other.now) at) }
     {
-        (0..n).position(|i| {
-            self.codes[from + i] != other.codes[at + i]
-                || self.values[from + i] != other.values[at + i]
-        })
+        let mine = self.codes[from..from + n]
+            .iter()
+            .zip(&self.values[from..from + n]);
+        let theirs = other.codes[at..at + n]
+            .iter()
+            .zip(&other.values[at..at + n]);
+        mine.zip(theirs).position(|(x, y)| x != y)
     }
 
     // The b-th batches, whose operations begin at two places.
@@ -208,6 +212,7 @@ impl Report<'_> {
         requires { (self.old.entries < 2 ^ 20) × (entry.batch < 2 ^ 20) × (entry.place < 2 ^ 20) }
         ensures { Adds (entry_of entry ∷ []) self.old self.new }
     {
+        // One by one, since of an entry that meets the run's end a part is stored, and a run of structs has no covered proof.
         let at = 4 * self.entries;
         word::store(self.numbers, at, entry.kind as i32);
         word::store(self.numbers, at + 1, entry.batch as i32);

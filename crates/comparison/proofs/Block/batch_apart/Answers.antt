@@ -1,7 +1,6 @@
 use mathlib.Core.Bool.{not}
 use mathlib.Core.Path.{ap₂, ◌∙◌}
 use Prim.Native.Nat.{ℕ, min}
-use native.Mathlib.Omega.{arith}
 use lib.ListN.{drop}
 use lib.Dec.{eqb}
 use Rattle.rules.specs.Operations.{operations}
@@ -10,7 +9,7 @@ use Rattle.rules.specs.Checks.{ninth}
 use Rattle.rules.specs.Compare.{same_op}
 use Rattle.op_batch.proofs.Right.{numbers_length}
 use Rattle.comparison.specs.Model.{apart_of}
-use Rattle.comparison.proofs.Places.{numbers_found, ops_found, apart_take}
+use Rattle.comparison.proofs.Places.{numbers_found, apart_take}
 use Rattle.comparison.proofs.Blocks.{of_eight, starts_right_lem, sizes_bytes, flags_bytes, bytes_found}
 use Rattle.comparison.proofs.Block.batch_apart.Goals as goal
 
@@ -36,7 +35,7 @@ returns c =
     let flag = bytes_found r.flags s.flags _ _ _ l.flags (flags_bytes _ _ _ _ _ p) m.flags (flags_bytes _ _ _ _ _ q) c.flags.ensures c.flags-2.ensures c.byte_apart.ensures in
     let size = bytes_found (differences r.starts) (differences s.starts) _ _ _ (sizes_bytes _ _ _ _ _ p).0 (sizes_bytes _ _ _ _ _ p).1 (sizes_bytes _ _ _ _ _ q).0 (sizes_bytes _ _ _ _ _ q).1 c.sizes.ensures c.sizes-2.ensures c.byte_apart-2.ensures in
     let n = c.min-both.ensures ∙ ap₂ min c.start.ensures.0 c.start-2.ensures.0 in
-    let operation = ops_found _ a.from a.at x.codes.now x.values.now y.codes.now y.values.now _ (omega (arith, p.inside, n)) x.even (omega (arith, q.inside, n)) y.even c.ops_apart.ensures
+    let operation = c.ops_apart.ensures
     ∙ apart_take same_op 0 _ (ninth r) (ninth s) (drop a.from (operations x.codes.now x.values.now)) (drop a.at (operations y.codes.now y.values.now)) n in
     let count = ap₂ (λ (j k : ℕ). not (eqb j k)) c.count.ensures.0 c.count-2.ensures.0 in
     λ j. record { number = number j; flag = flag j; length = size j; operation = operation j; count = count j }

@@ -1,7 +1,5 @@
-use Rattle.std.proofs.Common.{◌≡◌, pos, sym, ◌∙◌, get_or, w32, SFits, rules, arith}
+use Rattle.std.proofs.Common.{pos, sym, ◌∙◌, get_or, w32, SFits, rules, arith}
 use mir.ValLaws.{to_z-of_z}
-use Rattle.rules.specs.Compare.{entry_numbers}
-use Rattle.comparison.specs.Entries.{four_numbers}
 use Rattle.comparison.proofs.Read.{read_size, are_four, of_four, no_size, refused}
 use Rattle.comparison.proofs.entry.EntryTryFromRefSliceI32.try_from.Goals as goal
 
