@@ -48,7 +48,7 @@ impl<'a> Arena<'a> {
             if !record.right(width) {
                 return Err(Refusal::BadStructure { batch: b });
             }
-            sum += record.start(8);
+            sum += record.len();
         }
         if sum != self.codes.len() {
             return Err(Refusal::BadStructure { batch: n });
@@ -111,7 +111,7 @@ impl<'a> Arena<'a> {
         let mut from: usize = 0;
         for b in 0..n {
             self.batch_padding(b, from)?;
-            from += RecordAt { records, b }.start(8);
+            from += RecordAt { records, b }.len();
         }
         Ok(())
     }

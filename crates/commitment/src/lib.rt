@@ -94,7 +94,7 @@ impl<'a> Batch<'a> {
         ensures { result ≡ ninth (record_of self.entry) }
     {
         let records = self.block.arena.records;
-        RecordAt { records, b: self.b }.start(8)
+        RecordAt { records, b: self.b }.len()
     }
 
     #[tactic(auto, using(crate::proofs::Groups::count_low))]

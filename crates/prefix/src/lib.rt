@@ -115,7 +115,7 @@ fn batch_entries(batch: RecordAt<'_>, which: Prefix, from: Filled, out: &mut [u6
             done.paddings += 1;
         }
     }
-    done.waiting += batch.start(8) - start;
+    done.waiting += batch.len() - start;
     done
 }
 

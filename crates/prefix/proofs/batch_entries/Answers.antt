@@ -49,4 +49,4 @@ returns-clause-goes c =
     let i = l.invariant in
     let x = laid _ _ c.requires.fits.0 in
     let none : l.left ≡ 0 = elim c.loop-g-test.branch [ else-loop-g-test w ↦ none_ahead _ x l.g l.left i.left (omega arith) | then-loop-g-test+then-left-eq0 w ↦ omega arith ] in
-    last_on _ _ x _ _ _ _ _ _ _ _ _ i.on l.left (omega arith) i.left none _ _ i.start c.start.ensures.0
+    last_on _ _ x _ _ _ _ _ _ _ _ _ i.on l.left (omega arith) i.left none _ _ i.start c.len.ensures.0

@@ -19,12 +19,12 @@ returns-in_err-batch_padding c =
     handed _ _ c.from_residual.ensures.1 ∙ came_stop _ _ _ _ _ _ _ l.invariant (omega arith) _ _ c.in_err-batch_padding.ensures
 
 pub overflow_add-from : goal.overflow_add-from
-overflow_add-from c = let l = c.loop-b in omega (arith, came_room _ _ _ _ _ _ _ l.invariant (omega arith) _ c.start-from.ensures.0)
+overflow_add-from c = let l = c.loop-b in omega (arith, came_room _ _ _ _ _ _ _ l.invariant (omega arith) _ c.len-from.ensures.0)
 
 pub loop-b-preserved : goal.loop-b-preserved
 loop-b-preserved c =
     let l = c.loop-b in
-    came_next _ _ _ _ _ _ _ l.invariant (omega arith) _ c.start-from.ensures.0 (faultless _ _ c.in_ok-batch_padding.ensures)
+    came_next _ _ _ _ _ _ _ l.invariant (omega arith) _ c.len-from.ensures.0 (faultless _ _ c.in_ok-batch_padding.ensures)
 
 pub returns : goal.returns
 unfolding padding_faults

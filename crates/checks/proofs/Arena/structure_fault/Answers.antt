@@ -14,7 +14,7 @@ returns-then-not-right c =
 pub loop-b-preserved : goal.loop-b-preserved
 loop-b-preserved c =
     let l = c.loop-b in
-    (summed_next _ _ _ _ _ _ _ l.invariant.0 (omega arith) (sym c.right.ensures ∙ c.if-not-right.false) _ c.start-sum.ensures.0, l.invariant.1)
+    (summed_next _ _ _ _ _ _ _ l.invariant.0 (omega arith) (sym c.right.ensures ∙ c.if-not-right.false) _ c.len-sum.ensures.0, l.invariant.1)
 
 pub returns-then-sum-self : goal.returns-then-sum-self
 returns-then-sum-self c = let l = c.loop-b in (summed_short _ _ _ _ _ _ _ l.invariant.0 (omega arith) c.if-sum-self.true)
