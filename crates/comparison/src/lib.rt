@@ -157,7 +157,7 @@ impl<'a> Block<'a> {
             records: other.records,
             b,
         };
-        let both = x.start(8).min(y.start(8));
+        let both = x.len().min(y.len());
         Apart {
             number: numbers_apart(x, y),
             flag: byte_apart(x.flags(), y.flags()),
@@ -267,12 +267,12 @@ impl Report<'_> {
                 records: first.records,
                 b,
             }
-            .start(8);
+            .len();
             at += RecordAt {
                 records: second.records,
                 b,
             }
-            .start(8);
+            .len();
         }
     }
 

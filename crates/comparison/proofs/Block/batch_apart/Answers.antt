@@ -34,7 +34,7 @@ returns c =
     let number = numbers_found 8 r.numbers s.numbers _ (numbers_length x.records.now a.b) (numbers_length y.records.now a.b) c.numbers_apart.ensures in
     let flag = bytes_found r.flags s.flags _ _ _ l.flags (flags_bytes _ _ _ _ _ p) m.flags (flags_bytes _ _ _ _ _ q) c.flags.ensures c.flags-2.ensures c.byte_apart.ensures in
     let size = bytes_found (differences r.starts) (differences s.starts) _ _ _ (sizes_bytes _ _ _ _ _ p).0 (sizes_bytes _ _ _ _ _ p).1 (sizes_bytes _ _ _ _ _ q).0 (sizes_bytes _ _ _ _ _ q).1 c.sizes.ensures c.sizes-2.ensures c.byte_apart-2.ensures in
-    let n = c.min-both.ensures ∙ ap₂ min c.start.ensures.0 c.start-2.ensures.0 in
+    let n = c.min-both.ensures ∙ ap₂ min c.len.ensures.0 c.len-2.ensures.0 in
     let operation = c.ops_apart.ensures
     ∙ apart_take same_op 0 _ (ninth r) (ninth s) (drop a.from (operations x.codes.now x.values.now)) (drop a.at (operations y.codes.now y.values.now)) n in
     let count = ap₂ (λ (j k : ℕ). not (eqb j k)) c.count.ensures.0 c.count-2.ensures.0 in

@@ -19,20 +19,20 @@ batch-requires c =
     (omega (arith, v.2), omega arith, near _ _ _ _ _ (along_lies _ _ _ _ _ _ v.0 c.loop-b-test.true) _ _ c.batch_apart.ensures)
 
 pub overflow_add-from : goal.overflow_add-from
-overflow_add-from c = omega (arith, along_room _ _ _ _ _ _ c.loop-b.invariant.0 c.loop-b-test.true _ c.start-from.ensures.0)
+overflow_add-from c = omega (arith, along_room _ _ _ _ _ _ c.loop-b.invariant.0 c.loop-b-test.true _ c.len-from.ensures.0)
 
 pub overflow_add-at : goal.overflow_add-at
-overflow_add-at c = omega (arith, along_room _ _ _ _ _ _ c.loop-b.invariant.1 c.loop-b-test.true _ c.start-at.ensures.0)
+overflow_add-at c = omega (arith, along_room _ _ _ _ _ _ c.loop-b.invariant.1 c.loop-b-test.true _ c.len-at.ensures.0)
 
 pub loop-b-preserved : goal.loop-b-preserved
 loop-b-preserved c =
     let l = c.loop-b in
     let v = l.invariant in
     let h = c.loop-b-test.true in (
-      along_next _ _ _ _ _ _ v.0 h _ c.start-from.ensures.0,
-      along_next _ _ _ _ _ _ v.1 h _ c.start-at.ensures.0,
+      along_next _ _ _ _ _ _ v.0 h _ c.len-from.ensures.0,
+      along_next _ _ _ _ _ _ v.1 h _ c.len-at.ensures.0,
       omega (arith, v.2, c.batch.ensures.1),
-      rw (c.start-from.ensures.0, c.start-at.ensures.0) (common_turn _ _ _ _ _ l.b l.from l.at _ _ h v.3 (rw c.batch_apart.ensures at c.batch.ensures.0)),
+      rw (c.len-from.ensures.0, c.len-at.ensures.0) (common_turn _ _ _ _ _ l.b l.from l.at _ _ h v.3 (rw c.batch_apart.ensures at c.batch.ensures.0)),
     )
 
 pub returns : goal.returns
