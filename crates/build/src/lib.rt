@@ -51,9 +51,7 @@ fn room_for(totals: Totals, codes: usize, values: usize, records: usize) -> bool
 fn clear(codes: &mut [u8], values: &mut [u64], records: &mut [u8])
     ensures { arena codes.new values.new records.new ≡ filled (arena codes.old values.old records.old) no_block }
 {
-    word::zero_after(codes, 0);
-    word::zero_after(values, 0);
-    word::zero_after(records, 0);
+    word::clear_after(codes, values, records, 0, 0);
 }
 
 // The batches of a list, written to runs that are all zero. What a refusal leaves there is not said.

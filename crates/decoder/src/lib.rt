@@ -196,9 +196,7 @@ pub fn clear_after(
 )
     ensures { arena out_codes.new out_values.new records.new ≡ tailless n m (arena out_codes.old out_values.old records.old) }
 {
-    word::zero_after(out_codes, n);
-    word::zero_after(out_values, n);
-    word::zero_after(records, m);
+    word::clear_after(out_codes, out_values, records, n, m);
 }
 
 // The block in `s` from `at` on, into lent runs for opcodes, values and records: content, then zeros; zeros alone where it is refused.

@@ -502,9 +502,7 @@ pub fn oli_next_group(run: &[u8], group: usize) -> NextReply
 fn clear(out_codes: &mut [u8], out_values: &mut [u8], records: &mut [u8])
     ensures { arena out_codes.new out_values.new records.new ≡ filled_bytes (arena out_codes.old out_values.old records.old) no_block }
 {
-    word::zero_after(out_codes, 0);
-    word::zero_after(out_values, 0);
-    word::zero_after(records, 0);
+    word::clear_after(out_codes, out_values, records, 0, 0);
 }
 
 // What fills a run from numbers, both as bytes.

@@ -6,4 +6,4 @@ use Rattle.build.proofs.clear.Goals as goal
 
 pub returns : goal.returns
 unfolding filled no_block codes values in_row
-returns c = λ j. arena (c.zero_after.ensures j) (c.zero_after-2.ensures j) (c.zero_after-3.ensures j)
+returns c = λ j. arena (c.clear_after.ensures.codes j) (c.clear_after.ensures.values j) (c.clear_after.ensures.records j)
