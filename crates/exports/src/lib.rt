@@ -497,6 +497,7 @@ pub fn oli_next_group(run: &[u8], group: usize) -> NextReply
 // An input that is not whole numbers is refused with 3, and a lookup in one finds nothing. Of an output only whole numbers are room; the bytes left
 // over are zeroed too. Numbers go through work space on the stack, of three lengths: the first that is long enough. `.._through` is never drawn into its
 // caller, so that a call with few numbers does not reach so far down the stack.
+// A closure that writes to what it captured goes by `&mut`: so what it left there is known after the call.
 
 #[tactic(auto, unfolding(crate::specs::Replies::filled_bytes, rules::specs::Record::no_block, rules::specs::Operations::codes, rules::specs::Operations::values, rules::specs::Lists::in_row))]
 fn clear(out_codes: &mut [u8], out_values: &mut [u8], records: &mut [u8])
