@@ -4,7 +4,7 @@
 #![tactic(auto)]
 
 ghost use Rattle.std.specs.Prelude.{◌≡◌, true, false, cond, Some, None, ◌*◌, ◌/◌, ◌≤◌, min, max, length};
-ghost use Rattle.std.specs.Fn.{CalledAt, FnOnceReturnsAt};
+ghost use Rattle.std.specs.Fn.{CalledAt};
 ghost use Rattle.rules.specs.Digits.{le_at};
 ghost use Rattle.rules.specs.Answer.{good, refused};
 ghost use Rattle.rules.specs.Refusals.{over_limit₃};
@@ -680,42 +680,38 @@ pub fn oli_decode_strict_le(
     )
 }
 
-// A check that only counts its values. The compiler leaves out the copy then, and the work space with it: one length serves.
-#[tactic(auto, using(crate::proofs::Whole::few, crossing::proofs::Copies::length_in))]
-fn count_le<F>(values: &[u8], check: F) -> CheckReply
+fn check_le<F>(values: &[u8], check: &mut F) -> CheckReply
 where
-    F: FnOnce(&[u64]) -> CheckReply,
-    requires { F.IsAlwaysCallable check }
-    ensures few { few_words values.now ≡ true → FnOnceReturnsAt F.FnOnce check (words_in values.now) result }
+    F: FnMut(&[u64]) -> CheckReply,
+    requires { F.IsAlwaysCallable check.old }
+    ensures few { few_words values.now ≡ true → CalledAt F.FnMut check.old (words_in values.now) result check.new }
     ensures many { few_words values.now ≡ false → result ≡ check_reply (refused over_limit₃ 0) }
 {
     if !crossing::few_words(values) {
         return CheckReply::from(Err(Refusal::OverLimit));
     }
-    let mut numbers = [0; crossing::LARGE];
-    crossing::read_words(values, &mut numbers);
-    check(&numbers[..values.len() / 8])
+    numbers_le(values, check)
 }
 
 pub fn oli_structure_le(codes: &[u8], values: &[u8], records: &[u8]) -> CheckReply
     ensures { result ≡ check_reply (whole_words values.now (structure_checked 8 (arena codes.now (words_in values.now) records.now))) }
 {
-    count_le(values, |numbers| oli_structure(codes, numbers, records))
+    check_le(
+        values,
+        &mut |numbers| oli_structure(codes, numbers, records),
+    )
 }
 
 pub fn oli_padding_le(codes: &[u8], values: &[u8], records: &[u8]) -> CheckReply
     ensures { result ≡ check_reply (whole_words values.now (padding_checked 8 (arena codes.now (words_in values.now) records.now))) }
 {
-    count_le(values, |numbers| oli_padding(codes, numbers, records))
+    check_le(values, &mut |numbers| oli_padding(codes, numbers, records))
 }
 
 pub fn oli_commitment_le(table: &[u8], codes: &[u8], values: &[u8], records: &[u8]) -> CheckReply
     ensures { result ≡ check_reply (whole_words values.now (commitment_checked 8 table.now (arena codes.now (words_in values.now) records.now))) }
 {
-    if !crossing::few_words(values) {
-        return CheckReply::from(Err(Refusal::OverLimit));
-    }
-    numbers_le(
+    check_le(
         values,
         &mut |numbers| { oli_commitment(table, codes, numbers, records) },
     )

@@ -1,4 +1,4 @@
-use mathlib.Core.Path.{◌≡◌}
+use mathlib.Core.Path.{◌≡◌, sym}
 use borrow.Author.Rules.{rules}
 use Rattle.rules.specs.Functions.{structure_checked}
 use Rattle.rules.specs.Answer.{Answer}
@@ -10,5 +10,10 @@ pub returns : goal.returns
 unfolding structure_checked
 returns c =
     let a = c.args in
-    let e = c.count_le.ensures in
-    either a.values.now (λ (d : Answer Unit). c.count_le.result ≡ check_reply d) _ (λ h. let k = e.few h in search rules) (λ h. checked_broken a.values.now a.codes.now a.records.now h _) e.many
+    let e = c.check_le.ensures in
+    either a.values.now (λ (d : Answer Unit). c.check_le.result ≡ check_reply d) _
+    (λ h.
+    let k = e.few h in
+    rw (sym k.shows) (search rules))
+    (λ h. checked_broken a.values.now a.codes.now a.records.now h _)
+    e.many
