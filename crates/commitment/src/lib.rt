@@ -59,7 +59,8 @@ impl<'a> Group<'a> {
     }
 }
 
-// ---- a batch: its record is the block's b-th, and its operations begin at `from`
+// ---- a batch: its record is the block's b-th, and its operations begin at `from`. The record is made where it is asked: a field for it would have to say
+// that its run is the block's.
 
 // A block that passed the structure check, and its table.
 #[derive(Clone, Copy)]
@@ -277,7 +278,8 @@ impl<'a> Batch<'a> {
     }
 }
 
-// ---- batch by batch
+// ---- batch by batch: two walks, one to the first fault, which is a refusal, and one that only says whether there is none. A walk with a closure for both
+// would have to answer both.
 
 impl<'a> Block<'a> {
     // The first batch with a fault, where the table has a kind for each opcode.

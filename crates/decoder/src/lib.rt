@@ -30,7 +30,9 @@ pub struct Decoded {
 
 // ---- items 2 and 3: operations and batch count
 
-// n operations from `at` on, into the first places of two lent runs. What a refusal leaves in them is not said, here and below.
+// n operations from `at` on, into the first places of two lent runs. What a refusal leaves in them is not said, here and below. The runs to be written come
+// one by one, here and below: a struct of three `&mut` would make each function say besides that the references are the same. They are written by place: a loop
+// over two of them side by side leaves only their lengths to a proof.
 fn read_ops(
     table: &[u8; 128],
     s: &[u8],
@@ -91,7 +93,8 @@ fn nibbles_right(s: &[u8], at: usize, k: usize) -> Result<usize, Refusal>
 
 // ---- the batches
 
-// The batches in these operations, one after the other: k batches, their sizes from `sizes` on and their flags from `flags` on.
+// The batches in these operations, one after the other: k batches, their sizes from `sizes` on and their flags from `flags` on. By b, which is the place of a
+// refusal and of the record.
 fn decode_each(
     ops: Ops<'_>,
     s: &[u8],

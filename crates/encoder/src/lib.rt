@@ -79,7 +79,7 @@ impl<'a> Input<'a> {
         5 * self.batches() + 4 + wire::count_size(self.arena.codes.len() as u64) + self.ops_len()
     }
 
-    // ---- the bytes, each item stored from `at` on; and the place after it
+    // ---- the bytes, each item stored from `at` on; and the place after it, where another item follows
 
     fn write_ops(self, out: &mut [u8], at: usize) -> usize
         requires { at + length (ops_of self) ≤ length out.old }

@@ -132,6 +132,7 @@ impl RecordAt<'_> {
         self.start(WIDTH)
     }
 
+    // `g < 8`, here and where else a group is named: a type for its number would be made at each turn of a walk.
     pub fn flag(self, g: usize) -> u8
         requires { g < 8 }
         ensures { result ≡ slice_index (recorded self.entry).flags g }
@@ -139,7 +140,8 @@ impl RecordAt<'_> {
         self.records[RECORD * self.b + FLAGS + g]
     }
 
-    // All eight as the bytes of one number, the first lowest: 0 where no flag is set.
+    // All eight as the bytes of one number, the first lowest: 0 where no flag is set. Four walks go by it as far as one is set (checks, prefix, strict,
+    // comparison); an iterator of its own, with its end and its steps, would be longer than their three lines each.
     pub fn flags(self) -> u64
         ensures { result ≡ number 256 (recorded self.entry).flags }
     {

@@ -2,7 +2,7 @@
 ghost use Rattle.std.specs.Prelude.{◌+◌, ◌*◌, ◌≤◌, length};
 ghost use Rattle.rules.specs.Record.{record_size};
 
-// The b-th record of a run.
+// The b-th record of a run. Walks over a run go by b and not by an iterator of records: b is the place of a refusal, or of what is written.
 #[derive(Clone, Copy)]
 pub struct RecordAt<'a> {
     pub records: &'a [u8],

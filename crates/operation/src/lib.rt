@@ -37,6 +37,8 @@ impl From<u8> for Kind {
     }
 }
 
+// `code < 128` stands where an opcode is asked for: opcodes are bytes of lent runs, and a type for those that are one would be made and undone at each byte.
+
 // Whether an opcode has a value.
 pub fn has_value(table: &[u8; 128], code: u8) -> bool
     requires { code < 128 }
@@ -74,7 +76,7 @@ pub fn good_table(table: &[u8]) -> bool
     table[0] == 0 && kinds_right(table)
 }
 
-// A good table, or refusal 14.
+// A good table, or refusal 14. The test stands in `good_table`, which is public by itself.
 pub fn checked(table: &[u8]) -> Result<&[u8; 128], Refusal>
     ensures ok { IfOk result (λ t. (t.now ≡ table.now) × (good_table table.now ≡ true)) }
     ensures err { IfErr result (λ r. (r ≡ Refusal.BadTable) × (good_table table.now ≡ false)) }
@@ -119,7 +121,7 @@ pub fn fault(table: &[u8; 128], code: u8, v: u64, i: usize) -> Result<(), Refusa
     }
 }
 
-// The first operation of a list that is not admissible.
+// The first operation of a list that is not admissible. Its number is asked for, so that a `zip` of the two runs would want one beside it.
 pub fn first_fault(table: &[u8; 128], codes: &[u8], values: &[u64]) -> Result<(), Refusal>
     requires { length codes.now ≡ length values.now }
     ensures { told result ≡ refuse_first 0 (map (op_fault table.now) (operations codes.now values.now)) (good tt) }

@@ -28,7 +28,7 @@ pub enum Prefix {
     PaddedToRaw,
 }
 
-// ---- lookups
+// ---- lookups: the one adds, the other takes away, and each has its own index type, so that a trait would be longer than the four functions
 
 // Where the entry of a raw index leads.
 pub fn padded_by(entry: u64, i: RawIndex) -> Option<PaddedIndex>
@@ -74,7 +74,7 @@ struct Filled {
 fn pads_in(size: usize, flag: u8) -> usize
     ensures { (result ≡ pads_in size flag) × (result ≤ 1) × (result ≤ size) }
 {
-    if size != 0 && flag == 1 { 1 } else { 0 }
+    usize::from(size != 0 && flag == 1)
 }
 
 // The entries of a group: the raw table has none for a padding.
@@ -137,7 +137,7 @@ fn fill(records: &[u8], which: Prefix, out: &mut [u64]) -> usize
     done.entries + last
 }
 
-// Either table, for callers that tell them apart by a value: how many entries it has.
+// Either table: how many entries it has. Which one is told by a value and not by a closure: what is proved of both tables speaks of them by it.
 pub fn table(arena: Arena<'_>, which: Prefix, out: &mut [u64]) -> Result<usize, Refusal>
     ensures { Answered (table_of (table_by which) 8 (lying arena.entry) (length out.old)) result out.old out.new }
 {

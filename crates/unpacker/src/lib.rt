@@ -31,6 +31,7 @@ fn operations_in(deltas: u64) -> usize
         .sum()
 }
 
+// The sizes stay one number: they are read as one, and a group's is taken off its low end.
 impl Ops<'_> {
     // The immediates of a group's operations, each into the next slot, which must be an empty group under the width; `deltas` has the sizes from the slot on.
     // The reply has the sizes from the next slot on, and that slot.

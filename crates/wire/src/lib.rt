@@ -33,7 +33,7 @@ pub fn opened(table: &[u8], size: usize, at: usize) -> Result<&[u8; 128], Refusa
     Ok(table)
 }
 
-// What was read, and the place after it.
+// What was read, and the place after it; in the unpacker, what is found of a batch and where its walk goes on.
 #[derive(Clone, Copy, Debug, PartialEq, Eq)]
 pub struct Item<T> {
     pub item: T,

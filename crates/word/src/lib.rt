@@ -142,7 +142,7 @@ pub fn fill_few(out: &mut [u8], at: usize, n: usize, v: u8)
 
 // ---- zeroed tails: what the run begins with stays, up to index k
 
-// A number, and how a run of such is said to be zeroed after its first k.
+// A number, and how a run of such is said to be zeroed after its first k. Those of u8 and u64 are alike: an impl may be written by no macro of the repository.
 pub trait Number: Copy {
     const ZERO: Self;
 
