@@ -4,8 +4,9 @@
 
 ghost use Rattle.std.specs.Prelude.{◌+◌, ◌<◌, ◌^◌};
 
-use comparison::Refused;
+use comparison::{Entry, Kind, Refused, Side};
 use console::{Page, counted, quote_name};
+use decoder::Decoded;
 use listing::Runs;
 use refusal::Refusal;
 use space::Room;
@@ -15,23 +16,8 @@ use std::{fmt, io};
 
 // ---- two blocks
 
-#[derive(Clone, Copy, Debug, PartialEq, Eq)]
-enum Side {
-    First,
-    Second,
-}
-
-impl fmt::Display for Side {
-    fn fmt<W: fmt::Write>(&self, f: &mut fmt::Formatter<W>) -> fmt::Result {
-        match self {
-            Side::First => write!(f, "first"),
-            Side::Second => write!(f, "second"),
-        }
-    }
-}
-
 // What there is of each block.
-#[derive(Clone, Copy)]
+#[derive(Clone, Copy, Default)]
 struct Pair<T> {
     first: T,
     second: T,
@@ -70,12 +56,34 @@ impl fmt::Display for Source<'_> {
     }
 }
 
+// A block as a refusal names it.
+#[derive(Clone, Copy)]
+struct Named<'a> {
+    side: Side,
+    source: Source<'a>,
+}
+
+impl<'a> Pair<Source<'a>> {
+    fn named(self, side: Side) -> Named<'a> {
+        let source = match side {
+            Side::First => self.first,
+            Side::Second => self.second,
+        };
+        Named { side, source }
+    }
+}
+
+impl fmt::Display for Named<'_> {
+    fn fmt<W: fmt::Write>(&self, f: &mut fmt::Formatter<W>) -> fmt::Result {
+        write!(f, "the {} block, {}", self.side, self.source)
+    }
+}
+
 // What a block lies in, and its totals.
 #[derive(Clone, Copy)]
 struct Whole<'a> {
     runs: Runs<'a>,
-    batches: usize,
-    operations: usize,
+    made: Decoded,
 }
 
 impl Whole<'_> {
@@ -101,11 +109,11 @@ impl Whole<'_> {
     }
 
     fn paddings(self) -> usize {
-        self.runs.paddings(self.batches)
+        self.runs.paddings(self.made.batches)
     }
 
     fn own(self) -> usize {
-        self.operations.saturating_sub(self.paddings())
+        self.made.operations.saturating_sub(self.paddings())
     }
 
     fn batch_size(self, b: usize) -> usize {
@@ -118,45 +126,10 @@ impl Whole<'_> {
     }
 }
 
-// ---- an entry of the report
-
-// What differs (crates/rules/specs/Compare.antt, kinds 1 to 10): of a batch, or second minus first of the totals.
-#[derive(Clone, Copy)]
-enum Difference {
-    Number { group: usize },
-    Flag { group: usize },
-    Length { group: usize },
-    Operation { place: usize },
-    Groups,
-    Missing(Side),
-    Batches(i32),
-    Operations(i32),
-    Own(i32),
-    Paddings(i32),
-}
-
-impl Difference {
-    fn of(kind: i32, place: usize, difference: i32) -> Difference {
-        match kind {
-            1 => Difference::Number { group: place },
-            2 => Difference::Flag { group: place },
-            3 => Difference::Length { group: place },
-            4 => Difference::Operation { place },
-            5 => Difference::Groups,
-            6 if place == 1 => Difference::Missing(Side::First),
-            6 => Difference::Missing(Side::Second),
-            7 => Difference::Batches(difference),
-            8 => Difference::Operations(difference),
-            9 => Difference::Own(difference),
-            _ => Difference::Paddings(difference),
-        }
-    }
-}
-
 // ---- the lines of two blocks
 
 // A batch, and where its operations begin.
-#[derive(Clone, Copy)]
+#[derive(Clone, Copy, Default)]
 struct Begin {
     batch: usize,
     at: Pair<usize>,
@@ -195,44 +168,53 @@ fn print_difference(
     page: &mut Page,
     blocks: Pair<Whole>,
     begin: Begin,
-    difference: Difference,
+    entry: Entry,
 ) -> fmt::Result {
-    let b = begin.batch;
-    match difference {
-        Difference::Number { group: g } => {
-            let numbers = blocks.map(|block| block.number(b, g));
-            writeln!(page, "  batch {b}, group {g}: number {numbers}")
+    let Entry {
+        kind,
+        batch: b,
+        place,
+        difference: d,
+    } = entry;
+    match kind {
+        Kind::Number => {
+            let numbers = blocks.map(|block| block.number(b, place));
+            writeln!(page, "  batch {b}, group {place}: number {numbers}")
         }
-        Difference::Flag { group: g } => {
-            let flags = blocks.map(|block| block.flag(b, g));
-            writeln!(page, "  batch {b}, group {g}: padding flag {flags}")
+        Kind::Flag => {
+            let flags = blocks.map(|block| block.flag(b, place));
+            writeln!(page, "  batch {b}, group {place}: padding flag {flags}")
         }
-        Difference::Length { group: g } => {
-            let lengths = blocks.map(|block| block.length(b, g));
-            writeln!(page, "  batch {b}, group {g}: {lengths} operations")
+        Kind::Length => {
+            let lengths = blocks.map(|block| block.length(b, place));
+            writeln!(page, "  batch {b}, group {place}: {lengths} operations")
         }
-        Difference::Operation { place } => print_operation(page, blocks, begin, place),
-        Difference::Groups => {
+        Kind::Operation => print_operation(page, blocks, begin, place),
+        Kind::Count => {
             let groups = blocks.map(|block| block.groups(b));
             writeln!(page, "  batch {b}: {groups} groups")
         }
-        Difference::Missing(side) => writeln!(page, "  batch {b}: missing in the {side}"),
-        Difference::Batches(d) => {
-            let batches = blocks.map(|block| block.batches);
+        Kind::Missing => {
+            // compare writes a side here; another place would be printed as the second
+            let side = Side::try_from(place).unwrap_or(Side::Second);
+            writeln!(page, "  batch {b}: missing in the {side}")
+        }
+        Kind::Batches => {
+            let batches = blocks.map(|block| block.made.batches);
             writeln!(page, "  batches: {d:+} ({batches})")
         }
-        Difference::Operations(d) => {
-            let operations = blocks.map(|block| block.operations);
+        Kind::Padded => {
+            let operations = blocks.map(|block| block.made.operations);
             writeln!(
                 page,
                 "  operations, paddings among them: {d:+} ({operations})"
             )
         }
-        Difference::Own(d) => {
+        Kind::Raw => {
             let own = blocks.map(|block| block.own());
             writeln!(page, "  operations without paddings: {d:+} ({own})")
         }
-        Difference::Paddings(d) => {
+        Kind::Paddings => {
             let paddings = blocks.map(|block| block.paddings());
             writeln!(page, "  paddings: {d:+} ({paddings})")
         }
@@ -246,22 +228,17 @@ fn print_differences(
     report: &[i32],
     entries: usize,
 ) -> fmt::Result {
-    let mut begin = Begin {
-        batch: 0,
-        at: Pair {
-            first: 0,
-            second: 0,
-        },
-    };
-    for entry in report.chunks_exact(4).take(entries) {
-        begin = begin.later(blocks, usize::try_from(entry[1]).unwrap_or(0));
-        let place = usize::try_from(entry[2]).unwrap_or(0);
-        print_difference(
-            page,
-            blocks,
-            begin,
-            Difference::of(entry[0], place, entry[3]),
-        )?;
+    let mut begin = Begin::default();
+    for numbers in report.chunks_exact(4).take(entries) {
+        // compare writes entries alone; numbers that are none, as those of no kind, would be printed as a difference of paddings
+        let entry = Entry::try_from(numbers).unwrap_or(Entry {
+            kind: Kind::Paddings,
+            batch: begin.batch,
+            place: 0,
+            difference: numbers[3],
+        });
+        begin = begin.later(blocks, entry.batch);
+        print_difference(page, blocks, begin, entry)?;
     }
     Ok(())
 }
@@ -282,26 +259,18 @@ fn print_different(
     page.flush()
 }
 
-fn print_refused(
-    rt: HostRuntime,
-    side: Side,
-    source: Source,
-    s: &[u8],
-    refusal: Refusal,
-) -> fmt::Result {
+// No Display, since listing prints to a page.
+fn print_refused(rt: HostRuntime, block: Named, s: &[u8], refusal: Refusal) -> fmt::Result {
     let mut page = Page::output(rt);
-    write!(page, "refused: the {side} block, {source}: ")?;
-    listing::print_numbered(&mut page, s, source.at, refusal)?;
+    write!(page, "refused: {block}: ")?;
+    listing::print_numbered(&mut page, s, block.source.at, refusal)?;
     writeln!(page, ": {refusal}")?;
     page.flush()
 }
 
 // A block that cannot be had, without a number of refusal.
-fn not_had(rt: HostRuntime, side: Side, source: Source, why: &str) {
-    console::print(
-        rt,
-        format_args!("refused: the {side} block, {source}: {why}\n"),
-    );
+fn not_had(rt: HostRuntime, block: Named, why: &str) {
+    console::print(rt, format_args!("refused: {block}: {why}\n"));
 }
 
 // ---- the bytes of two files
@@ -319,8 +288,7 @@ fn read_again<'a>(s: &[u8], at: usize, room: &'a mut Room) -> Whole<'a> {
     .unwrap_or_default();
     Whole {
         runs: Runs::from(&*room),
-        batches: made.batches,
-        operations: made.operations,
+        made,
     }
 }
 
@@ -362,10 +330,10 @@ fn compare_in(
             let _ = print_different(rt, sources, blocks, report, entries);
         }
         Err(Refused::First(refusal)) => {
-            let _ = print_refused(rt, Side::First, sources.first, bytes.first, refusal);
+            let _ = print_refused(rt, sources.named(Side::First), bytes.first, refusal);
         }
         Err(Refused::Second(refusal)) => {
-            let _ = print_refused(rt, Side::Second, sources.second, bytes.second, refusal);
+            let _ = print_refused(rt, sources.named(Side::Second), bytes.second, refusal);
         }
         Err(Refused::Report) => console::print(
             rt,
@@ -409,20 +377,15 @@ fn read<'a>(rt: HostRuntime, path: &[u8], room: &'a mut [u8]) -> io::Result<Opti
 }
 
 // The same; a line says why there are none.
-fn had<'a>(
-    rt: HostRuntime,
-    side: Side,
-    source: Source,
-    room: &'a mut [u8; 1048576],
-) -> Option<&'a [u8]> {
-    match read(rt, source.path, room) {
+fn had<'a>(rt: HostRuntime, block: Named, room: &'a mut [u8; 1048576]) -> Option<&'a [u8]> {
+    match read(rt, block.source.path, room) {
         Ok(Some(bytes)) => Some(bytes),
         Ok(None) => {
-            not_had(rt, side, source, "the file has more than 1048576 bytes");
+            not_had(rt, block, "the file has more than 1048576 bytes");
             None
         }
         Err(error) => {
-            not_had(rt, side, source, console::unread(error));
+            not_had(rt, block, console::unread(error));
             None
         }
     }
@@ -431,10 +394,10 @@ fn had<'a>(
 fn compare_files(rt: HostRuntime, sources: Pair<Source>) {
     let mut first_room = [0u8; 1048576];
     let mut second_room = [0u8; 1048576];
-    let Some(first) = had(rt, Side::First, sources.first, &mut first_room) else {
+    let Some(first) = had(rt, sources.named(Side::First), &mut first_room) else {
         return;
     };
-    let Some(second) = had(rt, Side::Second, sources.second, &mut second_room) else {
+    let Some(second) = had(rt, sources.named(Side::Second), &mut second_room) else {
         return;
     };
     compare_bytes(rt, sources, Pair { first, second });
@@ -445,37 +408,40 @@ fn compare_files(rt: HostRuntime, sources: Pair<Source>) {
 const HELP: &str =
     "compare FILE FILE: says how the blocks that two files start with differ, under the virtual machine's own table.\ncompare FILE OFFSET FILE OFFSET...: the same for the blocks that start at byte OFFSET of each FILE; as many pairs as there are.\nThe first word tells which of three endings it is. `same`: the decoded blocks are the same. `different`: lines follow that begin with two\nspaces, one for each difference, what the first block has before `/` and what the second has after it. `refused`: a block cannot be read,\nor a file, and the line says which and why.\nOf each batch that both have there is a line for the first group whose number, whose padding flag and whose length differs, for the first\noperation that differs, counted in the batch, and for the group counts; then for each batch that one block lacks; then for the totals, second\nminus first. Batches, groups and operations count from 0. A file has at most 1048576 bytes; what stands after a block is not compared.\n";
 
-// The blocks at two bytes of the files that arguments i and k name; none for an OFFSET that is no number.
-fn compare_arguments(rt: HostRuntime, i: usize, from: Option<usize>, k: usize, at: Option<usize>) {
+// The blocks at two bytes of the files that two arguments name; none for an OFFSET that is no number.
+fn compare_arguments(rt: HostRuntime, names: Pair<usize>, offsets: Pair<Option<usize>>) {
     let mut first_name = [0u8; 4096];
     let mut second_name = [0u8; 4096];
-    let Some(first) = console::argument(rt, i, &mut first_name) else {
+    let Some(first) = console::argument(rt, names.first, &mut first_name) else {
         return console::print(rt, "refused: the name of the first file is too long\n");
     };
-    let Some(second) = console::argument(rt, k, &mut second_name) else {
+    let Some(second) = console::argument(rt, names.second, &mut second_name) else {
         return console::print(rt, "refused: the name of the second file is too long\n");
     };
-    let Some(from) = from else {
+    let Some(first_at) = offsets.first else {
         return not_offset(rt, Side::First, first);
     };
-    let Some(at) = at else {
+    let Some(second_at) = offsets.second else {
         return not_offset(rt, Side::Second, second);
     };
     let sources = Pair {
         first: Source {
             path: first,
-            at: from,
+            at: first_at,
         },
-        second: Source { path: second, at },
+        second: Source {
+            path: second,
+            at: second_at,
+        },
     };
     compare_files(rt, sources);
 }
 
 fn not_offset(rt: HostRuntime, side: Side, path: &[u8]) {
+    let source = Source { path, at: 0 };
     not_had(
         rt,
-        side,
-        Source { path, at: 0 },
+        Named { side, source },
         "its OFFSET is not a number of bytes",
     );
 }
@@ -491,7 +457,15 @@ fn offset(rt: HostRuntime, i: usize) -> Option<usize> {
 fn compare_four(rt: HostRuntime, i: usize)
     requires { i + 3 < 2 ^ 64 }
 {
-    compare_arguments(rt, i, offset(rt, i + 1), i + 2, offset(rt, i + 3));
+    let names = Pair {
+        first: i,
+        second: i + 2,
+    };
+    let offsets = Pair {
+        first: offset(rt, i + 1),
+        second: offset(rt, i + 3),
+    };
+    compare_arguments(rt, names, offsets);
 }
 
 fn is_help(rt: HostRuntime) -> bool {
@@ -503,7 +477,17 @@ fn is_help(rt: HostRuntime) -> bool {
 fn run(rt: HostRuntime, count: usize) {
     match count {
         1 if is_help(rt) => console::print(rt, HELP),
-        2 => compare_arguments(rt, 1, Some(0), 2, Some(0)),
+        2 => {
+            let names = Pair {
+                first: 1,
+                second: 2,
+            };
+            let start = Pair {
+                first: Some(0),
+                second: Some(0),
+            };
+            compare_arguments(rt, names, start);
+        }
         4.. if count % 4 == 0 => {
             for k in 0..count / 4 {
                 compare_four(rt, 4 * k + 1);
