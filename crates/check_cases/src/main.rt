@@ -141,15 +141,51 @@ fn show_number(rt: HostRuntime, reply: Result<Option<usize>, Refusal>) -> io::Re
 
 // ---- cases
 
-// What a case lends.
 #[derive(Clone, Copy)]
-struct Lent<'a> {
+enum What {
+    Structure,
+    Padding,
+    Commitment,
+    RawTable,
+    PaddedTable,
+    GroupOfOperation,
+    NextGroup,
+    PaddedIndex,
+    RawIndex,
+}
+
+impl From<u64> for What {
+    fn from(number: u64) -> What {
+        match number {
+            0 => What::Structure,
+            1 => What::Padding,
+            2 => What::Commitment,
+            3 => What::RawTable,
+            4 => What::PaddedTable,
+            5 => What::GroupOfOperation,
+            6 => What::NextGroup,
+            8 => What::RawIndex,
+            _ => What::PaddedIndex, // 7, and past 8
+        }
+    }
+}
+
+// What a case asks, and what it lends.
+#[derive(Clone, Copy)]
+struct Case<'a> {
+    what: What,
+    argument: usize,
     table: &'a [u8],
     arena: Arena<'a>,
 }
 
-fn run(rt: HostRuntime, what: u64, argument: usize, lent: Lent) -> io::Result<()> {
-    let Lent { table, arena } = lent;
+fn run(rt: HostRuntime, case: Case) -> io::Result<()> {
+    let Case {
+        what,
+        argument,
+        table,
+        arena,
+    } = case;
     let Arena {
         values,
         records,
@@ -158,31 +194,31 @@ fn run(rt: HostRuntime, what: u64, argument: usize, lent: Lent) -> io::Result<()
     let mut room = [7; 16];
     let out = &mut room[..argument.min(16)];
     match what {
-        0 => show_check(rt, arena.structure()),
-        1 => show_check(rt, arena.padding()),
-        2 => show_check(rt, commitment::commitment(table, arena)),
-        3 => {
+        What::Structure => show_check(rt, arena.structure()),
+        What::Padding => show_check(rt, arena.padding()),
+        What::Commitment => show_check(rt, commitment::commitment(table, arena)),
+        What::RawTable => {
             let reply = prefix::raw_to_padded(arena, out);
             show_table(rt, reply, out)
         }
-        4 => {
+        What::PaddedTable => {
             let reply = prefix::padded_to_raw(arena, out);
             show_table(rt, reply, out)
         }
-        5 | 6 if records.len() < RECORD => Ok(()),
-        5 => {
+        What::GroupOfOperation | What::NextGroup if records.len() < RECORD => Ok(()),
+        What::GroupOfOperation => {
             let batch = RecordAt { records, b: 0 }.load();
             show_place(rt, batch.op_idx_in_batch_to_group(argument))
         }
-        6 => {
+        What::NextGroup => {
             let batch = RecordAt { records, b: 0 }.load();
             show_number(rt, batch.next_op_group_index(argument))
         }
-        8 => {
+        What::RawIndex => {
             let raw = prefix::padded_to_raw_index(values, PaddedIndex(argument));
             show_number(rt, Ok(raw.map(|i| i.0)))
         }
-        _ => {
+        What::PaddedIndex => {
             let padded = prefix::raw_to_padded_index(values, RawIndex(argument));
             show_number(rt, Ok(padded.map(|i| i.0)))
         }
@@ -197,9 +233,9 @@ fn cases(rt: HostRuntime, text: &[u8]) -> io::Result<()> {
     let mut records = space::records();
     let mut numbers = Numbers { rest: text };
     for _ in 0..numbers.next() {
-        let what = numbers.next();
-        let argument = numbers.next() as usize;
-        let lent = Lent {
+        let case = Case {
+            what: What::from(numbers.next()),
+            argument: numbers.next() as usize,
             table: numbers.table(&mut table),
             arena: Arena {
                 codes: numbers.list(&mut codes, |n| (n % 256) as u8),
@@ -207,7 +243,7 @@ fn cases(rt: HostRuntime, text: &[u8]) -> io::Result<()> {
                 records: numbers.records(&mut records),
             },
         };
-        run(rt, what, argument, lent)?;
+        run(rt, case)?;
     }
     Ok(())
 }
