@@ -1,3 +1,4 @@
 pub mod Keeps
 pub mod InHand
 pub mod Join
+pub mod Ahead
