@@ -36,6 +36,7 @@ impl<'a> Arena<'a> {
     // ---- structure
 
     // The first record that fails the structure test, or their sum: for callers that made sure of equal lengths themselves.
+    #[inline(always)]
     pub fn structure_fault(self, width: usize) -> Result<(), Refusal>
         requires { (width ≤ 8) × (length self.codes.now ≡ length self.values.now) }
         ensures { told result ≡ refuse_first 0 (structure_faults width (block_in (lying self.entry))) (good tt) }
@@ -56,7 +57,8 @@ impl<'a> Arena<'a> {
         Ok(())
     }
 
-    // Structure: refusals 3, 15.
+    // Structure: refusals 3, 15. Drawn into its callers, as what it calls is: an arena handed on by a pointer would be copied first.
+    #[inline(always)]
     #[tactic(auto, unfolding(rules::specs::Functions::structure_checked))]
     pub fn structure(self) -> Result<(), Refusal>
         ensures { told result ≡ structure_checked 8 (lying self.entry) }
@@ -102,6 +104,7 @@ impl<'a> Arena<'a> {
     }
 
     // The first batch with a padding fault, where the arena passed the structure check.
+    #[inline(always)]
     fn padding_fault(self) -> Result<(), Refusal>
         requires { Structured (lying self) }
         ensures { told result ≡ refuse_first 0 (padding_faults (block_in (lying self.entry))) (good tt) }
@@ -117,6 +120,7 @@ impl<'a> Arena<'a> {
     }
 
     // Padding: refusals 3, 15, 10.
+    #[inline(always)]
     pub fn padding(self) -> Result<(), Refusal>
         ensures { told result ≡ padding_checked 8 (lying self.entry) }
     {
