@@ -1,7 +1,7 @@
 // The files of cases (rust/README.md, "The files of cases"): the numbers of a line, the runs that it lends, and what it has beside ours.
 #![tactic(auto)]
 
-ghost use Rattle.std.specs.Prelude.{◌≤◌, length, IfSome};
+ghost use Rattle.std.specs.Prelude.{◌≡◌, ◌≤◌, ◌<◌, ◌==◌, length, IfSome};
 
 use std::fmt;
 use text::Radix;
@@ -74,15 +74,21 @@ struct Head {
 const MOST: usize = 1343652;
 
 impl<'a> Line<'a> {
-    pub fn new(text: &'a [u8]) -> Line<'a> {
+    pub fn new(text: &'a [u8]) -> Line<'a>
+        ensures { result.rest.now ≡ text.now }
+    {
         Line { rest: text }
     }
 
-    pub fn is_read(&self) -> bool {
+    pub fn is_read(&self) -> bool
+        ensures { result ≡ (length self.now.rest.now == 0) }
+    {
         self.rest.is_empty()
     }
 
-    pub fn number(&mut self) -> Option<u64> {
+    pub fn number(&mut self) -> Option<u64>
+        ensures { IfSome result (λ _. length self.new.rest.now < length self.old.rest.now) }
+    {
         let end = self.rest.iter().position(|b| matches!(b, b' ' | b'\n'))?;
         let (word, rest) = self.rest.split_at(end);
         self.rest = &rest[1..];
@@ -121,7 +127,9 @@ impl<'a> Line<'a> {
     }
 
     // As much room for an output as the line says.
-    pub fn room<'b, T: Item>(&mut self, room: &'b mut [T]) -> Option<&'b mut [T]> {
+    pub fn room<'b, T: Item>(&mut self, room: &'b mut [T]) -> Option<&'b mut [T]>
+        ensures { IfSome result (λ lent. length lent.now ≤ length room.old) }
+    {
         let n = self.index()?;
         let lent = room.get_mut(..n)?;
         for item in lent.iter_mut() {
@@ -217,15 +225,12 @@ impl Case<'_> {
             function,
             ..
         } = self;
-        console::print(
-            self.rt,
-            format_args!("  line {place}, {function}: {what}\n"),
-        );
+        console::print_pieces(self.rt, format_args!("  line {place}, {function}: {what}"));
     }
 
     fn hold(&mut self, what: &str, ours: usize, theirs: usize) {
         if ours != theirs {
-            self.differs(format_args!("{what} is {ours}, in the file {theirs}"));
+            self.differs(format_args!("{what} is {ours}, in the file {theirs}\n"));
         }
     }
 
@@ -260,9 +265,9 @@ impl Case<'_> {
             }
         }
         if ours.len() != length {
-            self.differs(format_args!("{what} are not so many as in the file"));
+            self.differs(format_args!("{what} are not so many as in the file\n"));
         } else if let Some(i) = first {
-            self.differs(format_args!("{what} differ first at {i}"));
+            self.differs(format_args!("{what} differ first at {i}\n"));
         }
         Some(())
     }

@@ -1,13 +1,16 @@
 // What the programs read, print and say. What is printed goes to a page, which is written when it is full and when it is flushed.
 #![tactic(auto)]
 
-ghost use Rattle.std.specs.Prelude.{◌≡◌, ◌+◌, ◌≤◌};
+ghost use Rattle.console.specs.Said.{said};
+ghost use Rattle.console.specs.declared.Stream.TheVariants.{Output, Errors};
+ghost use Rattle.std.specs.Prelude.{◌≡◌, ◌+◌, ◌<◌, ◌≤◌, ◌++◌, ℕ, List, [], length, take, IsTrue, MatchResult, Bool, true, false, nat_lt};
 
 use std::env::{Env, FillError};
 use std::fmt;
 use std::fmt::Write;
 use std::fs::File;
 use std::io::{Error, ErrorKind, Read, Result};
+use std::marker::Model;
 
 // ---- reading
 
@@ -57,29 +60,42 @@ pub fn argument(rt: HostRuntime, i: usize, room: &mut [u8]) -> Option<&[u8]> {
 pub struct Text<const N: usize> {
     bytes: [u8; N],
     filled: usize,
-    ghost within: { filled ≤ N },
+}
+
+impl<const N: usize> Model for Text<N> {
+    ghost Value = { List ℕ };
+
+    ghost view = { λ text. take text.filled text.bytes };
+
+    ghost invariant = { λ text. text.filled ≤ N };
 }
 
 impl<const N: usize> Text<N> {
-    pub fn new() -> Self {
+    pub fn new() -> Self
+        ensures { result ≡ [] }
+    {
         Text {
             bytes: [0; N],
             filled: 0,
         }
     }
 
-    pub fn as_bytes(&self) -> &[u8] {
+    pub fn as_bytes(&self) -> &[u8]
+        ensures { result.now ≡ self.now }
+    {
         &self.bytes[..self.filled]
     }
 
     // How many bytes still fit.
     fn left(&self) -> usize
-        ensures { self.now.filled + result ≡ N }
+        ensures { length self.now + result ≡ N }
     {
         N - self.filled
     }
 
-    pub fn push(&mut self, text: &[u8]) {
+    pub fn push(&mut self, text: &[u8])
+        ensures { self.new ≡ take N (self.old ++ text.now) }
+    {
         let n = text.len().min(self.left());
         let from = self.filled;
         let bytes = &mut self.bytes[..];
@@ -87,7 +103,9 @@ impl<const N: usize> Text<N> {
         self.filled += n;
     }
 
-    fn clear(&mut self) {
+    fn clear(&mut self)
+        ensures { self.new ≡ [] }
+    {
         self.filled = 0;
     }
 }
@@ -117,16 +135,22 @@ pub struct Page {
 
 impl Page {
     // A page for what was asked.
-    pub fn output(rt: HostRuntime) -> Page {
+    pub fn output(rt: HostRuntime) -> Page
+        ensures { (result.to ≡ Output) × (result.text ≡ []) × (result.failed ≡ false) }
+    {
         Page::new(rt, Stream::Output)
     }
 
     // A page for what is wrong.
-    pub fn errors(rt: HostRuntime) -> Page {
+    pub fn errors(rt: HostRuntime) -> Page
+        ensures { (result.to ≡ Errors) × (result.text ≡ []) × (result.failed ≡ false) }
+    {
         Page::new(rt, Stream::Errors)
     }
 
-    fn new(rt: HostRuntime, to: Stream) -> Page {
+    fn new(rt: HostRuntime, to: Stream) -> Page
+        ensures { (result.to ≡ to) × (result.text ≡ []) × (result.failed ≡ false) }
+    {
         Page {
             rt,
             to,
@@ -144,7 +168,12 @@ impl Page {
     }
 
     // Writes what the page has. A write that fails is told once, and what comes after it is dropped.
-    pub fn flush(&mut self) -> fmt::Result {
+    pub fn flush(&mut self) -> fmt::Result
+        ensures stream { self.new.to ≡ self.old.to }
+        ensures told { MatchResult result
+            (λ _. (self.new.text ≡ []) × (self.old.failed ≡ false) × (self.new.failed ≡ false))
+            (λ _. self.new.failed ≡ true) }
+    {
         if self.failed {
             return Err(fmt::Error);
         }
@@ -158,7 +187,12 @@ impl Page {
     }
 
     // A text that is no longer than a page.
-    pub fn say(&mut self, text: &[u8]) -> fmt::Result {
+    pub fn say(&mut self, text: &[u8]) -> fmt::Result
+        ensures stream { self.new.to ≡ self.old.to }
+        ensures said { MatchResult result
+            (λ _. self.new.text ≡ said self.old.text text.now)
+            (λ _. self.new.failed ≡ true) }
+    {
         if self.text.left() < text.len() {
             self.flush()?;
         }
@@ -175,19 +209,19 @@ impl fmt::Write for Page {
 
 // A number with its thing, one or several.
 #[derive(Clone, Copy)]
-pub struct Count {
+pub struct Count<'a> {
     number: usize,
-    thing: &'static str,
+    thing: &'a str,
 }
 
-pub fn counted(number: usize, one: &'static str, several: &'static str) -> Count {
+pub fn counted<'a>(number: usize, one: &'a str, several: &'a str) -> Count<'a> {
     Count {
         number,
         thing: if number == 1 { one } else { several },
     }
 }
 
-impl fmt::Display for Count {
+impl fmt::Display for Count<'_> {
     fn fmt<W: fmt::Write>(&self, f: &mut fmt::Formatter<W>) -> fmt::Result {
         write!(f, "{} {}", self.number, self.thing)
     }
@@ -200,7 +234,10 @@ pub struct Quoted<'a> {
     is_cut: bool,
 }
 
-pub fn quote(text: &[u8], most: usize) -> Quoted<'_> {
+pub fn quote(text: &[u8], most: usize) -> Quoted<'_>
+    ensures text { result.text.now ≡ take most text.now }
+    ensures is_cut { result.is_cut ≡ nat_lt most (length text.now) }
+{
     let n = text.len().min(most);
     Quoted {
         text: &text[..n],
@@ -209,7 +246,10 @@ pub fn quote(text: &[u8], most: usize) -> Quoted<'_> {
 }
 
 // The name of a file.
-pub fn quote_name(path: &[u8]) -> Quoted<'_> {
+pub fn quote_name(path: &[u8]) -> Quoted<'_>
+    ensures text { result.text.now ≡ take 4096 path.now }
+    ensures is_cut { result.is_cut ≡ nat_lt 4096 (length path.now) }
+{
     quote(path, 4096)
 }
 
@@ -291,4 +331,29 @@ pub fn print<D: fmt::Display + Drop>(rt: HostRuntime, text: D) {
 pub fn tell<D: fmt::Display + Drop>(rt: HostRuntime, text: D) {
     let mut page = Page::errors(rt);
     print_to(&mut page, text);
+}
+
+// Bytes by themselves, past any page. Where they are not taken, that is told, and what comes after them is tried all the same.
+pub fn print_bytes(rt: HostRuntime, bytes: &[u8]) {
+    if let Err(error) = rt.stdout().write_all(bytes) {
+        tell_failed(rt, "standard output", error);
+    }
+}
+
+#[derive(Clone, Copy)]
+struct Pieces {
+    rt: HostRuntime,
+}
+
+impl fmt::Write for Pieces {
+    fn write_str(&mut self, text: &str) -> fmt::Result {
+        print_bytes(self.rt, text.as_bytes());
+        Ok(())
+    }
+}
+
+// A text whose pieces, its arguments and what stands between them, are printed so one after the other.
+pub fn print_pieces<D: fmt::Display + Drop>(rt: HostRuntime, text: D) {
+    let mut pieces = Pieces { rt };
+    let _ = pieces.write(text);
 }

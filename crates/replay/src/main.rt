@@ -5,8 +5,7 @@
 ghost use Rattle.std.specs.Prelude.{◌≡◌, ◌≤◌, length};
 
 use cases::{Case, Function, Line};
-use console::Page;
-use std::fmt::Write;
+use console::{print_bytes, print_pieces};
 use std::{fmt, io};
 
 // ---- the functions, each on what its line lends
@@ -297,27 +296,15 @@ fn lines(rt: HostRuntime, text: &[u8], counts: &mut Counts) -> Result<(), usize>
 fn print_counts(rt: HostRuntime, counts: &Counts) {
     for (function, n) in Function::ALL.iter().zip(counts.agree) {
         if n != 0 {
-            console::print(rt, format_args!("  {function}: {n} agree\n"));
+            print_pieces(rt, format_args!("  {function}: {n} agree\n"));
         }
     }
 }
 
-// A file's name in a line.
-fn print_name<D: fmt::Display + Drop>(
-    rt: HostRuntime,
-    before: &str,
-    path: &[u8],
-    after: D,
-) -> fmt::Result {
-    let mut page = Page::output(rt);
-    page.write_str(before)?;
-    page.say(path)?;
-    writeln!(page, "{after}")?;
-    page.flush()
-}
-
 fn not_read<D: fmt::Display + Drop>(rt: HostRuntime, path: &[u8], counts: &mut Counts, why: D) {
-    let _ = print_name(rt, "  ", path, why);
+    print_bytes(rt, b"  ");
+    print_bytes(rt, path);
+    print_pieces(rt, why);
     add(&mut counts.not_read);
 }
 
@@ -328,16 +315,17 @@ fn load<'a>(rt: HostRuntime, path: &[u8], room: &'a mut [u8]) -> io::Result<&'a 
 }
 
 fn file(rt: HostRuntime, path: &[u8], counts: &mut Counts) {
-    let _ = print_name(rt, "", path, "");
+    print_bytes(rt, path);
+    print_bytes(rt, b"\n");
     counts.agree = [0; 14];
     let mut room = [0u8; 262144];
     let most = room.len();
     let text = load(rt, path, &mut room).unwrap_or_default();
     if text.is_empty() {
-        return not_read(rt, path, counts, " cannot be read, or has nothing in it");
+        return not_read(rt, path, counts, " cannot be read, or has nothing in it\n");
     }
     if text.len() == most {
-        return not_read(rt, path, counts, " is longer than 262143 bytes");
+        return not_read(rt, path, counts, " is longer than 262143 bytes\n");
     }
     let read = lines(rt, text, counts);
     print_counts(rt, counts);
@@ -347,20 +335,24 @@ fn file(rt: HostRuntime, path: &[u8], counts: &mut Counts) {
             path,
             counts,
             format_args!(
-                ", line {place}: neither a case nor a table; what comes after it is not run"
+                ", line {place}: neither a case nor a table; what comes after it is not run\n"
             ),
         );
     }
 }
 
-fn print_total(rt: HostRuntime, counts: &Counts) -> fmt::Result {
-    let mut page = Page::output(rt);
-    write!(page, "{} cases, {} differ", counts.cases, counts.differ)?;
+fn print_total(rt: HostRuntime, counts: &Counts) {
+    print_pieces(
+        rt,
+        format_args!("{} cases, {} differ", counts.cases, counts.differ),
+    );
     if counts.not_read != 0 {
-        write!(page, "; files not read to the end: {}", counts.not_read)?;
+        print_pieces(
+            rt,
+            format_args!("; files not read to the end: {}", counts.not_read),
+        );
     }
-    writeln!(page)?;
-    page.flush()
+    print_bytes(rt, b"\n");
 }
 
 // The file that an argument names.
@@ -370,8 +362,10 @@ fn argument(rt: HostRuntime, i: usize, counts: &mut Counts) {
     file(rt, path, counts);
 }
 
+const USAGE: &str = "usage: replay FILE..\n";
+
 const HELP: &str =
-    "usage: replay FILE..\nRuns the cases of each file (rust/README.md) on the exported functions, and says where a reply or an output is not the file's.\n";
+    "Runs the cases of each file (rust/README.md) on the exported functions, and says where a reply or an output is not the file's.\n";
 
 fn asked_for_help(rt: HostRuntime) -> bool {
     let mut word = [0u8; 4096];
@@ -384,11 +378,11 @@ fn main(rt: HostRuntime) {
         return console::tell(rt, "usage: replay FILE.. (replay --help says more)\n");
     }
     if asked_for_help(rt) {
-        return console::print(rt, HELP);
+        return print_pieces(rt, format_args!("{USAGE}{HELP}"));
     }
     let mut counts = Counts::default();
     for i in 1..count {
         argument(rt, i, &mut counts);
     }
-    let _ = print_total(rt, &counts);
+    print_total(rt, &counts);
 }

@@ -2,7 +2,9 @@
 // asks for.
 #![tactic(auto)]
 
-ghost use Rattle.std.specs.Prelude.{◌≡◌, ◌≤◌, length};
+ghost use Rattle.std.specs.Prelude.{◌≡◌, ◌≤◌, ◌++◌, ℕ, List, [], ◌∷◌, length, take, replicate, MatchResult};
+
+use std::marker::Model;
 
 // 65,535 operations, and one.
 pub fn codes() -> [u8; 65536]
@@ -55,7 +57,11 @@ pub struct Room {
 }
 
 impl Room {
-    pub fn new() -> Room {
+    pub fn new() -> Room
+        ensures codes { result.codes ≡ replicate 65536 0 }
+        ensures values { result.values ≡ replicate 65536 0 }
+        ensures records { result.records ≡ replicate 1343652 0 }
+    {
         Room {
             codes: [0; 65536],
             values: [0; 65536],
@@ -70,16 +76,26 @@ impl Room {
 #[derive(Clone, Copy, Debug, PartialEq, Eq)]
 pub struct Full;
 
+// The codes and the values of the operations, in order.
 #[derive(Drop)]
 pub struct List {
     codes: [u8; 16384],
     values: [u64; 16384],
     count: usize,
-    ghost within: { count ≤ 16384 },
+}
+
+impl Model for List {
+    ghost Value = { List ℕ × List ℕ };
+
+    ghost view = { λ list. (take list.count list.codes, take list.count list.values) };
+
+    ghost invariant = { λ list. list.count ≤ 16384 };
 }
 
 impl List {
-    pub fn new() -> List {
+    pub fn new() -> List
+        ensures { result ≡ ([], []) }
+    {
         List {
             codes: [0; 16384],
             values: [0; 16384],
@@ -87,7 +103,11 @@ impl List {
         }
     }
 
-    pub fn push(&mut self, code: u8, value: u64) -> Result<(), Full> {
+    pub fn push(&mut self, code: u8, value: u64) -> Result<(), Full>
+        ensures { MatchResult result
+            (λ _. self.new ≡ (self.old.0 ++ code ∷ [], self.old.1 ++ value ∷ []))
+            (λ _. (self.new ≡ self.old) × (length self.old.0 ≡ 16384)) }
+    {
         let i = self.count;
         if i == self.codes.len() {
             return Err(Full);
@@ -98,11 +118,17 @@ impl List {
         Ok(())
     }
 
-    pub fn codes(&self) -> &[u8] {
+    pub fn codes(&self) -> &[u8]
+        ensures listed { result.now ≡ self.now.0 }
+        ensures room { (length self.now.0 ≡ length self.now.1) × (length self.now.0 ≤ 16384) }
+    {
         &self.codes[..self.count]
     }
 
-    pub fn values(&self) -> &[u64] {
+    pub fn values(&self) -> &[u64]
+        ensures listed { result.now ≡ self.now.1 }
+        ensures room { (length self.now.0 ≡ length self.now.1) × (length self.now.0 ≤ 16384) }
+    {
         &self.values[..self.count]
     }
 }

@@ -62,17 +62,27 @@ fn every_number_has_words() {
     }
 }
 
-/// The programs print the same sentences, each for its number (`Display` of `Refusal`, crates/refusal, by number).
+/// The programs print the same sentences, each for its number (`number` and `Display` of `Refusal`,
+/// crates/refusal).
 #[test]
 fn the_words_of_the_programs() {
     let refusal = include_str!("../../../crates/refusal/src/lib.rt");
-    let (_, display) = refusal
-        .split_once("impl fmt::Display for Refusal")
-        .unwrap();
-    let sentences: Vec<&str> = display.split('"').skip(1).step_by(2).collect();
-    assert_eq!(sentences.len(), 18);
-    for (number, sentence) in (1..).zip(sentences) {
-        let words = sentence.trim_end_matches(", in batch {batch}");
+    let (numbers, display) = refusal.split_once("impl fmt::Display for Refusal").unwrap();
+    // A case's name, and what stands between it and the next.
+    let cases = |text: &'static str| {
+        let cases = text.split("            Refusal::").skip(1);
+        cases.map(|case| case.split_once(|c: char| !c.is_alphanumeric()).unwrap())
+    };
+    for number in 1..=18 {
+        let named: Vec<&str> = (cases(numbers))
+            .filter(|(_, rest)| rest.contains(&format!("=> {number},")))
+            .map(|(name, _)| name)
+            .collect();
+        assert_eq!(named.len(), 1, "{number}");
+        let (_, arm) = cases(display).find(|(name, _)| *name == named[0]).unwrap();
+        let (_, words) = arm.split_once('"').unwrap();
+        let (words, _) = words.split_once('"').unwrap();
+        let words = words.trim_end_matches(", in batch {batch}");
         let words = words.trim_end_matches(", operation {operation}");
         let cause = Cause::of_number(number);
         let ours = Refusal { cause, place: 0 }.to_string();
