@@ -1,7 +1,9 @@
 // The files of cases (rust/README.md, "The files of cases"): the numbers of a line, the runs that it lends, and what it has beside ours.
 #![tactic(auto)]
 
-ghost use Rattle.std.specs.Prelude.{◌≡◌, ◌≤◌, ◌<◌, ◌==◌, length, IfSome};
+ghost use Rattle.std.specs.Prelude.{◌≡◌, ◌≤◌, ◌<◌, ◌==◌, ◌⊎◌, length, IsTrue, IfSome, MatchOption, false};
+ghost use Rattle.cases.specs.Functions.{number_of};
+ghost use Rattle.cases.specs.Lines.{StartsWith, StartsRun};
 
 use std::fmt;
 use text::Radix;
@@ -87,7 +89,7 @@ impl<'a> Line<'a> {
     }
 
     pub fn number(&mut self) -> Option<u64>
-        ensures { IfSome result (λ _. length self.new.rest.now < length self.old.rest.now) }
+        ensures { IfSome result (λ n. StartsWith self.old.rest.now n self.new.rest.now) }
     {
         let end = self.rest.iter().position(|b| matches!(b, b' ' | b'\n'))?;
         let (word, rest) = self.rest.split_at(end);
@@ -95,12 +97,14 @@ impl<'a> Line<'a> {
         text::number(word, Radix::Hex).ok()
     }
 
-    pub fn index(&mut self) -> Option<usize> {
+    pub fn index(&mut self) -> Option<usize>
+        ensures { IfSome result (λ n. StartsWith self.old.rest.now n self.new.rest.now) }
+    {
         Some(self.number()? as usize)
     }
 
     fn head(&mut self, most: usize) -> Option<Head>
-        ensures { IfSome result (λ h. (h.length ≤ most) × (h.given ≤ h.length)) }
+        ensures { IfSome result (λ h. (h.length ≤ most) × (h.given ≤ h.length) × StartsRun self.old.rest.now h.length) }
     {
         let length = self.index()?;
         let given = self.index()?;
@@ -112,7 +116,8 @@ impl<'a> Line<'a> {
 
     // A run that is lent, at the front of the room for it.
     pub fn run<'b, T: Item>(&mut self, room: &'b mut [T]) -> Option<&'b mut [T]>
-        ensures { IfSome result (λ run. length run.now ≤ length room.old) }
+        ensures bound { IfSome result (λ run. length run.now ≤ length room.old) }
+        ensures told { IfSome result (λ run. StartsRun self.old.rest.now (length run.now)) }
     {
         let Head { length, given } = self.head(room.len())?;
         let mut last = T::from_number(0)?;
@@ -128,7 +133,8 @@ impl<'a> Line<'a> {
 
     // As much room for an output as the line says.
     pub fn room<'b, T: Item>(&mut self, room: &'b mut [T]) -> Option<&'b mut [T]>
-        ensures { IfSome result (λ lent. length lent.now ≤ length room.old) }
+        ensures bound { IfSome result (λ lent. length lent.now ≤ length room.old) }
+        ensures told { IfSome result (λ lent. StartsWith self.old.rest.now (length lent.now) self.new.rest.now) }
     {
         let n = self.index()?;
         let lent = room.get_mut(..n)?;
@@ -178,7 +184,9 @@ impl Function {
         Function::Compare,
     ];
 
-    pub fn numbered(number: u64) -> Option<Function> {
+    pub fn numbered(number: u64) -> Option<Function>
+        ensures { MatchOption result ((number ≡ 0) ⊎ (14 < number)) (λ function. number ≡ number_of function) }
+    {
         let i = (number as usize).checked_sub(1)?;
         Function::ALL.get(i).copied()
     }
@@ -218,7 +226,9 @@ pub struct Case<'a> {
 
 impl Case<'_> {
     // A line about what differs.
-    fn differs<D: fmt::Display + Drop>(&mut self, what: D) {
+    fn differs<D: fmt::Display + Drop>(&mut self, what: D)
+        ensures { self.new.same ≡ false }
+    {
         self.same = false;
         let Case {
             place,
@@ -252,7 +262,9 @@ impl Case<'_> {
     }
 
     // A run of outputs.
-    pub fn run_is<T: Item>(&mut self, what: &str, ours: &[T]) -> Option<()> {
+    pub fn run_is<T: Item>(&mut self, what: &str, ours: &[T]) -> Option<()>
+        ensures { IfSome result (λ _. IsTrue self.new.same → IsTrue self.old.same × StartsRun self.old.line.rest.now (length ours.now)) }
+    {
         let Head { length, given } = self.line.head(MOST)?;
         let mut theirs = 0;
         let mut first = None;

@@ -1,0 +1,5 @@
+use mathlib.Core.Path.{◌≡◌}
+use Rattle.cases.proofs.Case.run_is.Given as goal
+
+abbrev pub invariant-loop-i : goal.invariant-loop-i
+invariant-loop-i g l = l.self.same ≡ l.fn.self.same
