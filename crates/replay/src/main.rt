@@ -6,6 +6,7 @@ ghost use Rattle.std.specs.Prelude.{◌≡◌, ◌≤◌, length};
 
 use cases::{Case, Function, Line};
 use console::{print_bytes, print_pieces};
+use exports::{CheckReply, DecodeReply, IndexReply, TableReply};
 use std::{fmt, io};
 
 // ---- the functions, each on what its line lends
@@ -49,7 +50,11 @@ fn encode(case: &mut Case) -> Option<()> {
     case.run_is("bytes", out)
 }
 
-fn decode(case: &mut Case) -> Option<()> {
+fn decode<F>(case: &mut Case, decode: F) -> Option<()>
+where
+    F: FnOnce(&[u8], &[u8], usize, &mut [u8], &mut [u64], &mut [u8]) -> DecodeReply,
+    requires { F.IsAlwaysCallable decode }
+{
     let mut block = space::records();
     let mut codes = space::codes();
     let mut values = space::values();
@@ -59,11 +64,7 @@ fn decode(case: &mut Case) -> Option<()> {
     let codes = case.line.room(&mut codes)?;
     let values = case.line.room(&mut values)?;
     let records = case.line.room(&mut records)?;
-    let r = if case.function == Function::DecodeStrict {
-        exports::oli_decode_strict(case.table, block, at, codes, values, records)
-    } else {
-        exports::oli_decode(case.table, block, at, codes, values, records)
-    };
+    let r = decode(case.table, block, at, codes, values, records);
     case.made(r.number, r.place, r.batches, r.operations)?;
     case.is("bytes used", r.used)?;
     case.block_is(codes, values, records)
@@ -116,23 +117,26 @@ fn compare(case: &mut Case) -> Option<()> {
     case.run_is("report", report)
 }
 
-// The checks and the tables.
-fn check(case: &mut Case) -> Option<()> {
+fn check<F>(case: &mut Case, check: F) -> Option<()>
+where
+    F: FnOnce(&[u8], &[u8], &[u64], &[u8]) -> CheckReply,
+    requires { F.IsAlwaysCallable check }
+{
     let mut codes = space::codes();
     let mut values = space::values();
     let mut records = space::records();
     let codes = case.line.run(&mut codes)?;
     let values = case.line.run(&mut values)?;
     let records = case.line.run(&mut records)?;
-    let r = match case.function {
-        Function::Structure => exports::oli_structure(codes, values, records),
-        Function::Padding => exports::oli_padding(codes, values, records),
-        _ => exports::oli_commitment(case.table, codes, values, records),
-    };
+    let r = check(case.table, codes, values, records);
     case.refusal(r.number, r.place)
 }
 
-fn index_table(case: &mut Case) -> Option<()> {
+fn index_table<F>(case: &mut Case, fill: F) -> Option<()>
+where
+    F: FnOnce(&[u8], &[u64], &[u8], &mut [u64]) -> TableReply,
+    requires { F.IsAlwaysCallable fill }
+{
     let mut codes = space::codes();
     let mut values = space::values();
     let mut records = space::records();
@@ -141,25 +145,21 @@ fn index_table(case: &mut Case) -> Option<()> {
     let values = case.line.run(&mut values)?;
     let records = case.line.run(&mut records)?;
     let out = case.line.room(&mut out)?;
-    let r = if case.function == Function::RawTable {
-        exports::oli_raw_table(codes, values, records, out)
-    } else {
-        exports::oli_padded_table(codes, values, records, out)
-    };
+    let r = fill(codes, values, records, out);
     case.refusal(r.number, r.place)?;
     case.is("entries", r.entries)?;
     case.run_is("entries", out)
 }
 
-fn index(case: &mut Case) -> Option<()> {
+fn index<F>(case: &mut Case, find: F) -> Option<()>
+where
+    F: FnOnce(&[u64], usize) -> IndexReply,
+    requires { F.IsAlwaysCallable find }
+{
     let mut entries = space::values();
     let entries = case.line.run(&mut entries)?;
     let asked = case.line.index()?;
-    let r = if case.function == Function::PaddedIndex {
-        exports::oli_padded_index(entries, asked)
-    } else {
-        exports::oli_raw_index(entries, asked)
-    };
+    let r = find(entries, asked);
     case.is("found", usize::from(r.found))?;
     case.is("index", r.index)
 }
@@ -189,10 +189,19 @@ fn run(case: &mut Case) -> Option<()> {
     match case.function {
         Function::Build => build(case),
         Function::Encode => encode(case),
-        Function::Decode | Function::DecodeStrict => decode(case),
-        Function::Structure | Function::Padding | Function::Commitment => check(case),
-        Function::RawTable | Function::PaddedTable => index_table(case),
-        Function::PaddedIndex | Function::RawIndex => index(case),
+        Function::Decode => decode(case, exports::oli_decode),
+        Function::DecodeStrict => decode(case, exports::oli_decode_strict),
+        Function::Structure => check(case, |_, codes, values, records| {
+            exports::oli_structure(codes, values, records)
+        }),
+        Function::Padding => check(case, |_, codes, values, records| {
+            exports::oli_padding(codes, values, records)
+        }),
+        Function::Commitment => check(case, exports::oli_commitment),
+        Function::RawTable => index_table(case, exports::oli_raw_table),
+        Function::PaddedTable => index_table(case, exports::oli_padded_table),
+        Function::PaddedIndex => index(case, exports::oli_padded_index),
+        Function::RawIndex => index(case, exports::oli_raw_index),
         Function::Group => group(case),
         Function::NextGroup => next_group(case),
         Function::Compare => compare(case),
