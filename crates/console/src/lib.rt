@@ -27,6 +27,32 @@ pub fn fill<'a, F: Read>(file: &mut F, room: &'a mut [u8]) -> Result<&'a [u8]> {
     Ok(&room[..n])
 }
 
+// What a room took of a file: the whole file, or as much as fills the room, so that there may be more.
+#[derive(Clone, Copy)]
+pub enum Filled<'a> {
+    Whole(&'a [u8]),
+    Full(&'a [u8]),
+}
+
+impl<'a> Filled<'a> {
+    pub fn bytes(self) -> &'a [u8] {
+        match self {
+            Filled::Whole(bytes) | Filled::Full(bytes) => bytes,
+        }
+    }
+}
+
+// The same, and which it was.
+pub fn read<'a, F: Read>(file: &mut F, room: &'a mut [u8]) -> Result<Filled<'a>> {
+    let most = room.len();
+    let bytes = fill(file, room)?;
+    Ok(if bytes.len() < most {
+        Filled::Whole(bytes)
+    } else {
+        Filled::Full(bytes)
+    })
+}
+
 // The name of a file, which is text.
 pub fn name(path: &[u8]) -> Result<&str> {
     str::from_utf8(path).map_err(|_| Error::new(ErrorKind::InvalidInput, "the name is not text"))
