@@ -5,8 +5,8 @@
 
 use build::Totals;
 use checks::Arena;
-use console::{Page, Text, quote, quote_name};
-use listing::{After, Block, Runs};
+use console::{Filled, Page, Text, quote, quote_name};
+use listing::{After, Block, Decoded, Runs};
 use operation::Kind;
 use refusal::Refusal;
 use space::{Full, List, Room};
@@ -15,6 +15,8 @@ use std::fs::{File, OpenOptions};
 use std::io::{Error, Read, Write as _};
 use std::{fmt, fs, io};
 use text::NotNumber;
+
+// What is said is printed a line at a time to a page, which can fail; a Display of a block would hold its runs.
 
 // ---- a line of the list
 
@@ -281,9 +283,11 @@ fn print_block(rt: HostRuntime, runs: Runs, block: Block, bytes: &[u8]) -> fmt::
 fn answer(rt: HostRuntime, file: Option<&[u8]>, runs: Runs, batches: usize, bytes: &[u8]) {
     let block = Block {
         at: 0,
-        batches,
-        operations: runs.codes.len(),
-        used: bytes.len(),
+        made: Decoded {
+            batches,
+            operations: runs.codes.len(),
+            used: bytes.len(),
+        },
     };
     match file {
         Some(file) => {
@@ -354,12 +358,11 @@ fn tell_refusal(rt: HostRuntime, name: &[u8], refusal: Refusal) {
 fn batch_from<F: Read>(rt: HostRuntime, name: &[u8], file: Option<&[u8]>, from: &mut F) {
     let mut room = space::bytes();
     let mut list = List::new();
-    let most = room.len();
-    match console::fill(from, &mut room) {
-        Ok(text) if text.len() == most => {
+    match console::read(from, &mut room) {
+        Ok(Filled::Full(_)) => {
             return console::wrong(rt, "batch", name, "longer than 1048575 bytes");
         }
-        Ok(text) => {
+        Ok(Filled::Whole(text)) => {
             if let Err(wrong) = read(text, &mut list) {
                 return tell_wrong(rt, name, wrong);
             }

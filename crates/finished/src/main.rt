@@ -4,8 +4,8 @@
 
 ghost use Rattle.std.specs.Prelude.{◌≤◌, ◌<◌, IfSome};
 
-use console::{Page, counted, quote_name};
-use listing::{After, Block, Runs};
+use console::{Filled, Page, counted, quote_name};
+use listing::{After, Runs};
 use op_batch::OpBatch;
 use refusal::Refusal;
 use space::{List, Room};
@@ -13,9 +13,12 @@ use std::fmt;
 use std::fmt::Write;
 use std::io::Result;
 
+// What is said is printed a line at a time to a page, which can fail; a Display would hold the runs, or take a type for each part of a sentence.
+
 // ---- a group of a batch
 
-// Whether it is under the group count, how many operations of the list it has, whether a padding follows them, and its flag.
+// Whether it is under the group count, how many operations of the list it has, whether a padding follows them, and its flag. Two that are not there
+// are held against each other all the same, so this is no Option.
 #[derive(Clone, Copy, PartialEq, Eq)]
 struct Group {
     there: bool,
@@ -225,19 +228,18 @@ fn print_why(page: &mut Page, s: &[u8], place: usize, room: &mut Room) -> fmt::R
 
 // ---- a file's line
 
-// How many bytes follow, where there are any; `whole` where the file's end was seen.
-fn after(read: usize, used: usize, whole: bool) -> After {
-    if read <= used {
-        After::Unasked
-    } else if whole {
-        After::Bytes(read - used)
-    } else {
-        After::AtLeast(read - used)
+// How many bytes follow those that were used, where there are any.
+fn after(read: Filled, used: usize) -> After {
+    match (read, read.bytes().len().saturating_sub(used)) {
+        (_, 0) => After::Unasked,
+        (Filled::Whole(_), n) => After::Bytes(n),
+        (Filled::Full(_), n) => After::AtLeast(n),
     }
 }
 
 // The first bytes of a file, as many as a block may have.
-fn check_bytes(page: &mut Page, path: &[u8], s: &[u8], whole: bool) -> fmt::Result {
+fn check_bytes(page: &mut Page, path: &[u8], read: Filled) -> fmt::Result {
+    let s = read.bytes();
     let mut room = Room::new();
     match strict::decode_strict(
         &vm::table(),
@@ -248,19 +250,8 @@ fn check_bytes(page: &mut Page, path: &[u8], s: &[u8], whole: bool) -> fmt::Resu
         &mut room.records,
     ) {
         Ok(made) => {
-            let block = Block {
-                at: 0,
-                batches: made.batches,
-                operations: made.operations,
-                used: made.used,
-            };
             write!(page, "finished {}: ", quote_name(path))?;
-            listing::print_totals(
-                page,
-                Runs::from(&room),
-                block,
-                after(s.len(), made.used, whole),
-            )
+            listing::print_totals(page, Runs::from(&room), made, after(read, made.used))
         }
         Err(refusal) => {
             write!(page, "not finished {}: ", quote_name(path))?;
@@ -277,16 +268,15 @@ fn check_bytes(page: &mut Page, path: &[u8], s: &[u8], whole: bool) -> fmt::Resu
 // ---- files
 
 // The first bytes of a file.
-fn read<'a>(rt: HostRuntime, path: &[u8], room: &'a mut [u8]) -> Result<&'a [u8]> {
+fn read<'a>(rt: HostRuntime, path: &[u8], room: &'a mut [u8]) -> Result<Filled<'a>> {
     let mut file = console::open(rt, path)?;
-    console::fill(&mut file, room)
+    console::read(&mut file, room)
 }
 
 fn check_file(rt: HostRuntime, page: &mut Page, path: &[u8]) -> fmt::Result {
     let mut room = space::bytes();
-    let most = room.len();
     match read(rt, path, &mut room) {
-        Ok(bytes) => check_bytes(page, path, bytes, bytes.len() < most),
+        Ok(read) => check_bytes(page, path, read),
         Err(error) => writeln!(
             page,
             "not finished {}: {}",

@@ -5,6 +5,7 @@
 ghost use Rattle.std.specs.Prelude.{◌<◌};
 
 use console::{Page, counted};
+pub use decoder::Decoded;
 use op_batch::{OpBatch, RecordAt};
 use operation::Kind;
 use refusal::Refusal;
@@ -12,6 +13,8 @@ use space::Room;
 use std::fmt;
 use std::fmt::Write;
 use wire::Item;
+
+// Each `print_..` writes to a page, which can fail, a line at a time: a Display of a batch or a block would hold its runs.
 
 // ---- operations
 
@@ -242,37 +245,34 @@ impl fmt::Display for After {
     }
 }
 
-// A block that stands at a byte, and its totals.
+// A block that stands at a byte.
 #[derive(Clone, Copy)]
 pub struct Block {
     pub at: usize,
-    pub batches: usize,
-    pub operations: usize,
-    pub used: usize,
+    pub made: Decoded,
 }
 
 // In a line: the totals of a block, and what stands after it.
-pub fn print_totals(page: &mut Page, runs: Runs, block: Block, after: After) -> fmt::Result {
-    let batches = counted(block.batches, "batch", "batches");
-    let operations = counted(block.operations, "operation", "operations");
-    let paddings = counted(runs.paddings(block.batches), "padding", "paddings");
-    let bytes = counted(block.used, "byte", "bytes");
+pub fn print_totals(page: &mut Page, runs: Runs, made: Decoded, after: After) -> fmt::Result {
+    let batches = counted(made.batches, "batch", "batches");
+    let operations = counted(made.operations, "operation", "operations");
+    let paddings = counted(runs.paddings(made.batches), "padding", "paddings");
+    let bytes = counted(made.used, "byte", "bytes");
     writeln!(page, "{batches}, {operations}, {paddings}, {bytes}{after}")
 }
 
 // The same after the byte where the block stands.
 pub fn print_line(page: &mut Page, runs: Runs, block: Block, after: After) -> fmt::Result {
     write!(page, "block at byte {}: ", block.at)?;
-    print_totals(page, runs, block, after)
+    print_totals(page, runs, block.made, after)
 }
 
 // The same, and the batches.
 pub fn print_block(page: &mut Page, runs: Runs, block: Block, after: After) -> fmt::Result {
     print_line(page, runs, block, after)?;
-    let first = block
-        .at
-        .wrapping_add(wire::count_size(block.operations as u64));
-    print_batches(page, runs, block.batches, first)
+    let Block { at, made } = block;
+    let first = at.wrapping_add(wire::count_size(made.operations as u64));
+    print_batches(page, runs, made.batches, first)
 }
 
 // ---- where a refusal of decode points to, in the bytes of a block

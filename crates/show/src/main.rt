@@ -2,7 +2,7 @@
 // what is wrong.
 #![tactic(auto)]
 
-use console::{Page, quote_name};
+use console::{Filled, Page, quote_name};
 use listing::{After, Block, Runs};
 use refusal::Refusal;
 use space::Room;
@@ -11,6 +11,8 @@ use std::fmt::Write;
 use std::fs::File;
 use std::io::{Result, Seek, SeekFrom};
 use text::NotNumber;
+
+// What is said is printed a line at a time to a page, which can fail; a Display of a block would hold its runs.
 
 // ---- a block
 
@@ -44,14 +46,12 @@ fn refused(rt: HostRuntime, path: &[u8], s: &[u8], at: usize, refusal: Refusal) 
     let _ = print_refusal(&mut page, path, s, at, refusal);
 }
 
-// What stands after a block that ends at `last`, in a file that ends at `end`; that is not known where it comes first.
-fn after(last: usize, end: usize, read: usize, used: usize) -> After {
-    if last <= end {
-        After::Bytes(end - last)
-    } else if used <= read {
-        After::AtLeast(read - used)
-    } else {
-        After::Unasked
+// What stands after a block that ends at `last`, in a file that ends at `end`, where that is known and does not come first.
+fn after(last: usize, end: Option<usize>, read: usize, used: usize) -> After {
+    match end {
+        Some(end) if last <= end => After::Bytes(end - last),
+        _ if used <= read => After::AtLeast(read - used),
+        _ => After::Unasked,
     }
 }
 
@@ -62,7 +62,7 @@ fn print_block(rt: HostRuntime, runs: Runs, block: Block, rest: After) -> fmt::R
 }
 
 // The bytes of the file from `at` on, as many as a block may have.
-fn show(rt: HostRuntime, path: &[u8], bytes: &[u8], at: usize, end: usize) {
+fn show(rt: HostRuntime, path: &[u8], bytes: &[u8], at: usize, end: Option<usize>) {
     let mut room = Room::new();
     match decoder::decode(
         &vm::table(),
@@ -73,14 +73,8 @@ fn show(rt: HostRuntime, path: &[u8], bytes: &[u8], at: usize, end: usize) {
         &mut room.records,
     ) {
         Ok(made) => {
-            let block = Block {
-                at,
-                batches: made.batches,
-                operations: made.operations,
-                used: made.used,
-            };
             let rest = after(at.wrapping_add(made.used), end, bytes.len(), made.used);
-            let _ = print_block(rt, Runs::from(&room), block, rest);
+            let _ = print_block(rt, Runs::from(&room), Block { at, made }, rest);
         }
         Err(refusal) => refused(rt, path, bytes, at, refusal),
     }
@@ -90,11 +84,13 @@ fn show(rt: HostRuntime, path: &[u8], bytes: &[u8], at: usize, end: usize) {
 
 const LAST: usize = 9223372036854775807;
 
-// Where the file ends; 0 where it is a pipe.
-fn end_of(file: &mut File) -> usize {
-    file.seek(SeekFrom::End(0)).map_or(0, |end| end as usize)
+// Where the file ends; a pipe does not say.
+fn end_of(file: &mut File) -> Option<usize> {
+    let end = file.seek(SeekFrom::End(0)).ok()?;
+    Some(end as usize)
 }
 
+// Where the end is not known, a file that gives nothing is taken to end at its first byte.
 fn show_file(rt: HostRuntime, path: &[u8], at: usize) -> Result<()> {
     let mut file = console::open(rt, path)?;
     if LAST < at {
@@ -105,15 +101,14 @@ fn show_file(rt: HostRuntime, path: &[u8], at: usize) -> Result<()> {
         file.seek(SeekFrom::Start(at as u64))?;
     }
     let mut room = space::bytes();
-    let most = room.len();
-    let read = console::fill(&mut file, &mut room)?;
+    let read = console::read(&mut file, &mut room)?;
     let end = end_of(&mut file);
-    if read.is_empty() && end < at {
-        refused(rt, path, b"", at, Refusal::PastEnd);
-    } else if read.len() < most {
-        show(rt, path, read, at, at.wrapping_add(read.len()));
-    } else {
-        show(rt, path, read, at, end);
+    match read {
+        Filled::Whole(bytes) if bytes.is_empty() && end.unwrap_or(0) < at => {
+            refused(rt, path, b"", at, Refusal::PastEnd);
+        }
+        Filled::Whole(bytes) => show(rt, path, bytes, at, Some(at.wrapping_add(bytes.len()))),
+        Filled::Full(bytes) => show(rt, path, bytes, at, end),
     }
     Ok(())
 }
