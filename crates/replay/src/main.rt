@@ -5,7 +5,7 @@
 ghost use Rattle.std.specs.Prelude.{◌≡◌, ◌≤◌, length};
 
 use cases::{Case, Function, Line};
-use console::{print_bytes, print_pieces};
+use console::{Filled, print_bytes, print_pieces};
 use exports::{CheckReply, DecodeReply, IndexReply, TableReply};
 use std::{fmt, io};
 
@@ -210,11 +210,11 @@ fn run(case: &mut Case) -> Option<()> {
 
 // ---- a file
 
-// Of the cases of a file, how many agree, by function; and of all files, how many cases there are and how many differ, and how many files were not
+// Of the cases of a file, how many agree, by function, in the order of `Function::ALL`, where a function as a number is its index; and of all files, how many cases there are and how many differ, and how many files were not
 // read to the end.
 #[derive(Clone, Copy, Default)]
 struct Counts {
-    agree: [usize; 14],
+    agree: [usize; Function::ALL.len()],
     cases: usize,
     differ: usize,
     not_read: usize,
@@ -318,24 +318,25 @@ fn not_read<D: fmt::Display + Drop>(rt: HostRuntime, path: &[u8], counts: &mut C
 }
 
 // The text of a file, or as much of it as the room takes.
-fn load<'a>(rt: HostRuntime, path: &[u8], room: &'a mut [u8]) -> io::Result<&'a [u8]> {
+fn load<'a>(rt: HostRuntime, path: &[u8], room: &'a mut [u8]) -> io::Result<Filled<'a>> {
     let mut file = console::open(rt, path)?;
-    console::fill(&mut file, room)
+    console::read(&mut file, room)
 }
 
 fn file(rt: HostRuntime, path: &[u8], counts: &mut Counts) {
     print_bytes(rt, path);
     print_bytes(rt, b"\n");
-    counts.agree = [0; 14];
+    counts.agree = [0; Function::ALL.len()];
     let mut room = [0u8; 262144];
-    let most = room.len();
-    let text = load(rt, path, &mut room).unwrap_or_default();
-    if text.is_empty() {
-        return not_read(rt, path, counts, " cannot be read, or has nothing in it\n");
-    }
-    if text.len() == most {
-        return not_read(rt, path, counts, " is longer than 262143 bytes\n");
-    }
+    let text = match load(rt, path, &mut room) {
+        Ok(Filled::Full(_)) => {
+            return not_read(rt, path, counts, " is longer than 262143 bytes\n");
+        }
+        Ok(Filled::Whole(text)) if !text.is_empty() => text,
+        Ok(Filled::Whole(_)) | Err(_) => {
+            return not_read(rt, path, counts, " cannot be read, or has nothing in it\n");
+        }
+    };
     let read = lines(rt, text, counts);
     print_counts(rt, counts);
     if let Err(place) = read {
