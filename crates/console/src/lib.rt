@@ -2,8 +2,9 @@
 #![tactic(auto)]
 
 ghost use Rattle.console.specs.Said.{said};
+ghost use Rattle.console.specs.Took.{bytes_of, Took};
 ghost use Rattle.console.specs.declared.Stream.TheVariants.{Output, Errors};
-ghost use Rattle.std.specs.Prelude.{◌≡◌, ◌+◌, ◌<◌, ◌≤◌, ◌++◌, ℕ, List, [], length, take, IsTrue, MatchResult, Bool, true, false, nat_lt};
+ghost use Rattle.std.specs.Prelude.{◌≡◌, ◌+◌, ◌<◌, ◌≤◌, ◌++◌, ℕ, List, [], length, take, IsTrue, MatchResult, IfOk, Bool, true, false, nat_lt};
 
 use std::env::{Env, FillError};
 use std::fmt;
@@ -35,7 +36,9 @@ pub enum Filled<'a> {
 }
 
 impl<'a> Filled<'a> {
-    pub fn bytes(self) -> &'a [u8] {
+    pub fn bytes(self) -> &'a [u8]
+        ensures { result.now ≡ bytes_of self.entry }
+    {
         match self {
             Filled::Whole(bytes) | Filled::Full(bytes) => bytes,
         }
@@ -43,7 +46,9 @@ impl<'a> Filled<'a> {
 }
 
 // The same, and which it was.
-pub fn read<'a, F: Read>(file: &mut F, room: &'a mut [u8]) -> Result<Filled<'a>> {
+pub fn read<'a, F: Read>(file: &mut F, room: &'a mut [u8]) -> Result<Filled<'a>>
+    ensures { IfOk result (Took (length room.old)) }
+{
     let most = room.len();
     let bytes = fill(file, room)?;
     Ok(if bytes.len() < most {
