@@ -2,7 +2,10 @@
 // can trip the printing up.
 #![tactic(auto)]
 
-ghost use Rattle.std.specs.Prelude.{◌<◌};
+ghost use Rattle.std.specs.Prelude.{◌≡◌, ◌<◌, ◌≤◌, ◌*◌, ◌/◌, length, nat_lt, if◌then◌else◌};
+ghost use Rattle.rules.specs.Record.{record_at};
+ghost use Rattle.op_batch.specs.OpBatch.{record_in};
+ghost use Rattle.listing.specs.Records.{no_record};
 
 use console::{Page, counted};
 pub use decoder::Decoded;
@@ -93,7 +96,9 @@ impl Runs<'_> {
     }
 
     // The b-th record, or one of zeros where the run ends before it.
-    pub fn record(self, b: usize) -> OpBatch {
+    pub fn record(self, b: usize) -> OpBatch
+        ensures { record_in result ≡ if nat_lt b (length self.entry.records.now / 82) then record_at self.entry.records.now b else no_record }
+    {
         if b < self.records.len() / op_batch::RECORD {
             let records = self.records;
             return RecordAt { records, b }.load();
@@ -107,13 +112,17 @@ impl Runs<'_> {
     }
 
     // How many paddings so many batches have.
-    pub fn paddings(self, batches: usize) -> usize {
+    pub fn paddings(self, batches: usize) -> usize
+        ensures { result ≤ 8 * batches }
+    {
         (0..batches).fold(0, |n: usize, b| n.wrapping_add(flagged(&self.record(b))))
     }
 }
 
 // How many groups of a batch are flagged. A flag at or above the count is no group's.
-fn flagged(batch: &OpBatch) -> usize {
+fn flagged(batch: &OpBatch) -> usize
+    ensures { result ≤ 8 }
+{
     batch
         .flags
         .iter()
