@@ -1,4 +1,3 @@
 pub mod Keeps
 pub mod InHand
 pub mod Join
-pub mod Ahead

@@ -233,10 +233,9 @@ impl Input<'_> {
         let mut next = a.next;
         let mut number = a.number;
         let mut unit = a.unit;
-        let ops = self.codes[i..i + end]
-            .iter()
-            .zip(self.values[i..i + end].iter());
-        for (n, (&code, &v)) in ops.enumerate() {
+        for n in 0..end {
+            let code = self.codes[i + n];
+            let v = self.values[i + n];
             let Some(k) = self.slots(code, v, next, end - n) else {
                 return self.gather(work, i, n, next, number, unit);
             };
