@@ -1,14 +1,13 @@
 -- Laws of the items: the bytes of an operation, one read, tests of digits. Assumes nothing.
-use mathlib.Core.Path.{◌≡◌, refl, ap}
-use mathlib.Core.Bool.{Bool, true, false, cond, not, ◌&&◌}
+use mathlib.Core.Path.{◌≡◌, refl}
+use mathlib.Core.Bool.{true, false, cond, not}
 use mathlib.Core.List.{List, [], ◌∷◌}
-use Prim.Native.Nat.{ℕ, ◌+◌, ◌<◌}
+use Prim.Native.Nat.{ℕ, ◌+◌, ◌≤◌, ◌<◌}
 use native.Mathlib.Omega.{arith}
-use borrow.Author.Tests.{lt-leb, lt-ltb, ne_eqb}
+use borrow.Author.Tests.{le-leb, lt-leb, lt-ltb, ne_eqb}
 use lib.ListN.{length, get_or}
 use Rattle.rules.specs.Lists.{every}
-use lib.Dec.{ltb, leb, eqb}
-use Rattle.std.specs.List.{list_all}
+use lib.Dec.{ltb, eqb}
 use Rattle.rules.specs.Answer.{found, refuse}
 use Rattle.rules.specs.Digits.{le_bytes, le_at}
 use Rattle.rules.specs.Operations.{kind_of, assigned, valued, field}
@@ -43,7 +42,14 @@ module _ (t s : List ℕ) (at i : ℕ) (l : length t ≡ 128) (h : at < length s
 
 -- ---- tests of digits
 
-pub all_up_to : (m : ℕ) (ns : List ℕ) → list_all (λ n. leb n m) ns ≡ up_to m ns
+pub up_to_stop : (m d : ℕ) (ds : List ℕ) → m < d → up_to m (d ∷ ds) ≡ false
 unfolding every
-all_up_to m [] = refl
-all_up_to m (n ∷ ns) = ap (λ (r : Bool). leb n m && r) (all_up_to m ns)
+up_to_stop m d ds h = rw (lt-leb d m h)
+
+pub up_to_turn : (m d : ℕ) (ds : List ℕ) → d ≤ m → up_to m (d ∷ ds) ≡ up_to m ds
+unfolding every
+up_to_turn m d ds h = rw (le-leb d m h)
+
+pub up_to_end : (m : ℕ) → up_to m [] ≡ true
+unfolding every
+up_to_end m = refl

@@ -210,5 +210,12 @@ pub fn read_batch_count(s: &[u8], at: usize) -> Result<Item<u64>, Refusal>
 pub fn deltas_right(v: u64) -> bool
     ensures { result ≡ up_to 9 (digits 16 8 v) }
 {
-    word::digits::<16, 8>(v).iter().all(|size| *size <= 9)
+    let mut left = v;
+    for _i in 0..8usize {
+        if 9 < left % 16 {
+            return false;
+        }
+        left /= 16;
+    }
+    true
 }
