@@ -2,15 +2,13 @@
 use mathlib.Core.Path.{◌≡◌, refl, sym, ap, ◌∙◌}
 use mathlib.Core.Bool.{true, false}
 use mathlib.Core.List.{List, [], ◌∷◌, ◌++◌}
-use Prim.Native.Nat.{ℕ, zero, suc, ◌+◌, ◌-◌, ◌*◌, ◌/◌, ◌%◌, ◌≤◌, ◌<◌}
+use Prim.Native.Nat.{ℕ, zero, suc, ◌+◌, ◌-◌, ◌/◌, ◌%◌, ◌≤◌, ◌<◌}
 use native.Mathlib.Numerals.{add-one}
 use native.Mathlib.Omega.{arith}
 use borrow.Author.Tests.{leb-true}
 use lib.ListN.{length, get_or, take, drop, set, length-take, length-drop}
 use lib.Seq.{append_snoc, take-suc-set, length-take-le, get_or-take, get_or-drop}
 use lib.Dec.{leb, eqb}
-use Rattle.std.specs.List.{sum_by}
-use Rattle.std.proofs.lemmas.List.Sums.{sum_by-cons}
 use Rattle.rules.specs.Lists.{fitted, total, every}
 use Rattle.rules.specs.Digits.{digits, number}
 use Rattle.rules.specs.Answer.{good, refused, Read, found, ◌then◌}
@@ -160,15 +158,9 @@ module _ (w : ℕ) (t : List ℕ) (b : ℕ) (xs : List Op) where
 
 -- ---- the sizes left
 
-pub total_few : (k v : ℕ) → total (digits 16 k v) ≤ 15 * k
-unfolding total digits
-total_few zero v = omega arith
-total_few (suc k) v = omega (arith, total_few k (v / 16))
-
-pub sum_total : (ns : List ℕ) → sum_by (λ n. n) ns ≡ total ns
+pub total_end : (w g left : ℕ) → w ≤ g → total (digits 16 (w - g) left) ≡ 0
 unfolding total
-sum_total [] = refl
-sum_total (n ∷ ns) = sum_by-cons (λ n. n) n ns ∙ ap (λ (m : ℕ). n + m) (sum_total ns)
+total_end w g left h = rw (digits_end 16 w g left h)
 
 module _ (w g left : ℕ) (h : g < w) where
   pub total_turn : total (digits 16 (w - g) left) ≡ left % 16 + total (digits 16 (w - (g + 1)) (left / 16))

@@ -25,10 +25,13 @@ pub use ops::Ops;
 fn operations_in(deltas: u64) -> usize
     ensures { result ≡ total (digits 16 8 deltas) }
 {
-    word::digits::<16, 8>(deltas)
-        .iter()
-        .map(|size| usize::from(*size))
-        .sum()
+    let mut left = deltas;
+    let mut sum: usize = 0;
+    for _ in 0..8_usize {
+        sum += (left % 16) as usize;
+        left /= 16;
+    }
+    sum
 }
 
 // The sizes stay one number: they are read as one, and a group's is taken off its low end.
