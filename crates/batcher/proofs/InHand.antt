@@ -263,9 +263,6 @@ going_as g l =
 pub going_here : {w : ℕ} {e : Arena} {t xs ys : List ℕ} {i : ℕ} {s : Work} {a : Arena} → Going w e t xs ys i s a → Going w a t xs ys i s a
 going_here g = going_as g (going_lengths g)
 
-pub going_back : {w : ℕ} {e : Arena} {t xs ys : List ℕ} {i j : ℕ} {s v : Work} {a b : Arena} → Going w e t xs ys i s a → Going w a t xs ys j v b → Going w e t xs ys j v b
-going_back g h = let l = going_lengths g in going_as h (sym l.0, sym l.1, sym l.2)
-
 steps_turn : (w : ℕ) (t xs ys : List ℕ) (i : ℕ) (d : rule.Work) → i < length xs → i < length ys
     → steps w t (operations (drop (i + 1) xs) (drop (i + 1) ys)) (step w t (op (get_or xs i 0) (get_or ys i 0)) d) ≡ steps w t (operations (drop i xs) (drop i ys)) d
 unfolding steps

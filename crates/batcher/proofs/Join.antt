@@ -124,13 +124,6 @@ pub going_at : {w : ℕ} {e : Arena} {t xs ys : List ℕ} {i i' : ℕ} {s s' : W
 going_at {w} {e} {t} {xs} {ys} {i} {i'} {s} {s'} {a} g p q = subst (λ (x : ℕ × Work). Going w e t xs ys x.0 x.1 a) (λ l. (sym p l, sym q l)) g
 
 module _ {w : ℕ} {e : Arena} {t xs ys : List ℕ} (s : Work) (i : ℕ) {a : Arena} where
-  pub going_none : Going w e t xs ys i s a → Going w e t xs ys (i + 0) (taken_work t xs s i 0 s.acc.next s.acc.number s.acc.unit) a
-  going_none g =
-      let inside = add-zero s.acc.inside in
-      let total = add-zero s.acc.total in
-      going_at g (add-zero i)
-      (λ l. record { acc = record { cur = s.acc.cur; next = s.acc.next; inside = inside l; number = s.acc.number; unit = s.acc.unit; total = total l; tail = s.acc.tail }; base = s.base; batches = s.batches })
-
   pub going_more : {left k : ℕ} {rs : List ℕ} (n next number unit : ℕ) → Going w e t xs ys (i + n) (taken_work t xs s i n next number unit) a → 2 ≤ w → w ≤ record_groups → length t ≡ 128
       → Joins w t (get_or xs (i + n) 0) (get_or ys (i + n) 0) next left k → k < 2 → s.acc.inside + n + left ≤ 9 → i + n < length xs → i + n < length ys
       → rs ≡ kept_run (get_or ys (i + n) 0) s.batches next a.records

@@ -209,7 +209,8 @@ impl Input<'_> {
         }
     }
 
-    // The operations from the i-th on that join the current group as it is, up to the first that does not.
+    // The operations from the i-th on that join the current group as it is, up to the first that does not. By their places: side by side, with `zip`, build took
+    // 1.1 of its time.
     fn join_ops(
         self,
         work: Work,

@@ -60,6 +60,3 @@ module _ (s : List ℕ) where
       go : (b : Bool) → few_words s ≡ b → P (whole_words s r)
       go true h = rw (whole r h) (t h)
       go false h = rw (e h) (f h)
-
-pub all_in : (w s : List ℕ) → length w ≡ length s / 8 → take (length s / 8) w ≡ words_in s → w ≡ words_in s
-all_in w s e h = sym (take_all (length s / 8) w (omega arith)) ∙ h

@@ -1,14 +1,10 @@
 -- Digits put together and taken apart: how large they are, and what is stored of them. Assumes nothing.
-use Rattle.std.proofs.Common.{◌≡◌, ℕ, zero, suc, ◌+◌, ◌-◌, ◌*◌, ◌/◌, ◌%◌, ◌^◌, ◌<◌, ◌≤◌, Bool, true, ◌&&◌, leb, List, [], ◌∷◌, ◌++◌, length, get_or, take, drop, set, w64, sym, refl, ap, ◌∙◌, add-one, append_assoc, pow-suc, arith, drop-cons, drop_of_length-le, leb-true}
+use Rattle.std.proofs.Common.{◌≡◌, ℕ, zero, suc, ◌+◌, ◌*◌, ◌/◌, ◌%◌, ◌^◌, ◌<◌, ◌≤◌, Bool, true, ◌&&◌, leb, List, [], ◌∷◌, length, get_or, w64, refl, ap, ◌∙◌, pow-suc, arith, leb-true}
 use Rattle.std.specs.Int.{to_le_bytes}
-use Rattle.std.proofs.lemmas.List.{drop-drop}
-use Rattle.std.proofs.lemmas.List.Edits.{sets-eq}
-use lib.Seq.{sets}
-use borrow.Rule.Slice.PartMut.{put_mid}
-use native.Mathlib.Nat.{zero-add, pow-zero, mul_comm, mul-le-mul_left, pow-le-pow_right, mod-lt, mod-eq_of_lt, div-eq_of_lt, add-mul-mod_self_left, add-mul-div_left, div-div-eq-div-mul}
+use native.Mathlib.Nat.{zero-add, pow-zero, mul_comm, mul-le-mul_left, pow-le-pow_right, mod-eq_of_lt, div-eq_of_lt, add-mul-mod_self_left, add-mul-div_left, div-div-eq-div-mul}
 use Rattle.rules.specs.Lists.{every}
 use Rattle.rules.specs.Digits.{digits, number, le_at}
-use Rattle.rules.specs.Record.{differences, starts_from, bytes_at}
+use Rattle.rules.specs.Record.{differences, bytes_at}
 use Rattle.rules.specs.Checks.{starts_right}
 use Rattle.rules.proofs.Operations.{true_left, true_right}
 use Rattle.op_batch.proofs.Right.{every_at, starts_at}
@@ -32,34 +28,6 @@ pub bits_number_fits : (fs : List ℕ) → length fs ≡ 8 → every (λ (f : �
 bits_number_fits fs e h =
     let n = number_below 2 fs (λ i l. omega (arith, leb-true (get_or fs i 0) 1 (every_at (λ (f : ℕ). leb f 1) fs i h l))) in
     omega (arith, rw e at n)
-
-pub digit_below : (b n v i : ℕ) → 0 < b → get_or (digits b n v) i 0 < b
-unfolding digits
-digit_below b zero v i h = omega arith
-digit_below b (suc n) v zero h = mod-lt v h
-digit_below b (suc n) v (suc i) h = digit_below b n (v / b) i h
-
--- ---- digits stored
-
--- a part of a run with a list written over it
-pub put_part : (out ys : List ℕ) (at n : ℕ) → length ys ≡ n → at + n ≤ length out → put_mid at (at + n - at) out ys ≡ sets out at ys
-put_part out ys at n l k =
-    let m : at + n - at ≡ n = omega arith in
-    let d : drop n (drop at out) ≡ drop (at + length ys) out = rw l (drop-drop n at out) in
-    rw m (ap (λ (r : List ℕ). take at out ++ (ys ++ r)) d ∙ sym (sets-eq ys out at (omega arith) ∙ append_assoc (take at out) ys (drop (at + length ys) out)))
-
--- one start more, and the size that comes next
-pub start_more : (out ds : List ℕ) (at i sum : ℕ) → i < length ds
-    → sets (set out (at + i) sum) (at + (i + 1)) (starts_from (sum + get_or ds i 0) (drop (i + 1) ds)) ≡ sets out (at + i) (starts_from sum (drop i ds))
-unfolding starts_from
-start_more out ds at i sum h =
-    let e : at + (i + 1) ≡ suc (at + i) = omega arith in
-    let d : drop i ds ≡ get_or ds i 0 ∷ drop (i + 1) ds = rw (add-one i) (drop-cons ds i 0 h) in
-    rw (e, d)
-
-pub last_start : (out ds : List ℕ) (at i sum : ℕ) → length ds ≤ i → set out (at + i) sum ≡ sets out (at + i) (starts_from sum (drop i ds))
-unfolding starts_from
-last_start out ds at i sum h = rw (drop_of_length-le ds {i = i} h)
 
 -- ---- eight sizes as the bytes of one number
 

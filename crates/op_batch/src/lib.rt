@@ -248,17 +248,20 @@ pub fn put_number(records: &mut [u8], b: usize, g: usize, v: u64)
     word::put::<8>(records, RECORD * b + NUMBERS + 8 * g, v);
 }
 
-// ---- a record by its packed forms: eight sizes in four bits each and eight flags in one bit each, the first lowest
+// ---- a record by its packed forms: eight sizes in four bits each and eight flags in one bit each, the first lowest. To unpack they are taken off one by
+// one: by `word::digits`, of eight at once, decode took 1.2 to 1.3 of its time.
 
 // The nine starts that v's eight nibbles say, stored from `at` on.
 fn unpack_indptr_deltas(v: u64, out: &mut [u8], at: usize)
     requires { at + 9 ≤ length out.old }
     ensures { out.new ≡ sets out.old at (starts_from 0 (digits 16 8 v)) }
 {
+    let mut left = v;
     let mut sum = 0;
-    for (i, size) in word::digits::<16, 8>(v).iter().enumerate() {
+    for i in 0..8 {
         out[at + i] = sum;
-        sum += *size;
+        sum += (left % 16) as u8;
+        left /= 16;
     }
     out[at + 8] = sum;
 }
@@ -268,7 +271,11 @@ fn unpack_padding(v: u8, out: &mut [u8], at: usize)
     requires { at + 8 ≤ length out.old }
     ensures { out.new ≡ sets out.old at (digits 2 8 v) }
 {
-    out[at..at + 8].copy_from_slice(&word::digits::<2, 8>(u64::from(v)));
+    let mut left = v;
+    for i in 0..8 {
+        out[at + i] = left % 2;
+        left /= 2;
+    }
 }
 
 // The b-th record of a run, by its packed sizes and flags, its numbers and its count. Nor does this ask more of b.

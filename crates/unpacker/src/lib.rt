@@ -21,7 +21,7 @@ mod ops;
 
 pub use ops::Ops;
 
-// How many operations a batch has, by its eight sizes.
+// How many operations a batch has, by its eight sizes, taken off one by one as in wire's `deltas_right`.
 fn operations_in(deltas: u64) -> usize
     ensures { result ≡ total (digits 16 8 deltas) }
 {

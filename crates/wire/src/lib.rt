@@ -206,7 +206,7 @@ pub fn read_batch_count(s: &[u8], at: usize) -> Result<Item<u64>, Refusal>
 
 // ---- 4. nibbles: eight sizes in four bytes
 
-// Whether none of v's eight nibbles is over 9.
+// Whether none of v's eight nibbles is over 9. Taken off one by one: by `word::digits`, of eight at once, decode took 1.2 to 1.3 of its time.
 pub fn deltas_right(v: u64) -> bool
     ensures { result ≡ up_to 9 (digits 16 8 v) }
 {

@@ -1,12 +1,14 @@
-use Rattle.std.proofs.Common.{◌≡◌, length, ap, ◌∙◌}
-use lib.Seq.{sets}
-use Rattle.rules.specs.Digits.{digits}
-use Rattle.rules.proofs.Digits.{length_digits}
-use Rattle.op_batch.proofs.Packing.{put_part}
+use Rattle.std.proofs.Common.{◌≡◌, suc, ◌+◌, arith}
+use Rattle.rules.proofs.Digits.{digits_turn, digits_end}
 use Rattle.op_batch.proofs.unpack_padding.Goals as goal
+
+pub loop-i-preserved : goal.loop-i-preserved
+loop-i-preserved c =
+    let l = c.loop-i in
+    let e : c.args.at + (l.i + 1) ≡ suc (c.args.at + l.i) = omega arith in
+    rw e (rw (digits_turn 2 8 l.i l.left (omega arith)) at l.invariant)
 
 pub returns : goal.returns
 returns c =
-    let a = c.args in
-    let e : c.copy_from_slice.new.self ≡ digits 2 8 a.v = c.copy_from_slice.ensures.after ∙ rw c.from.ensures at c.digits.ensures in
-    put_part a.out.now c.copy_from_slice.new.self a.at 8 (ap length e ∙ length_digits 2 8 a.v) c.requires ∙ ap (sets a.out.now a.at) e
+    let l = c.loop-i in
+    rw (digits_end 2 8 l.i l.left (omega arith)) at l.invariant
