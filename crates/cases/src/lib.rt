@@ -251,7 +251,8 @@ impl Case<'_> {
         Some(())
     }
 
-    // The number of refusal, as a reply to C has it, and its place, which the original does not always name.
+    // The number of refusal, as a reply to C has it, and its place, which the original does not always name: the text has
+    // usize::MAX for it.
     pub fn refusal(&mut self, number: u8, place: usize) -> Option<()> {
         self.is("number", usize::from(number))?;
         let theirs = self.line.index()?;

@@ -15,7 +15,7 @@ use std::marker::Model;
 
 // ---- reading
 
-// Reads until the room is full or the file ends; the bytes that were read.
+// Reads until the room is full or the file ends; the bytes that were read. No `for`: it goes on by as many as were read.
 pub fn fill<'a, F: Read>(file: &mut F, room: &'a mut [u8]) -> Result<&'a [u8]> {
     let mut n = 0;
     while n < room.len() {
@@ -150,6 +150,7 @@ impl<const N: usize> fmt::Write for Text<N> {
 
 // ---- a page
 
+// A page is for one of these two and for nothing else: with a type parameter any writer could be taken for one.
 #[derive(Clone, Copy)]
 enum Stream {
     Output,

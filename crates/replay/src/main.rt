@@ -302,6 +302,7 @@ fn lines(rt: HostRuntime, text: &[u8], counts: &mut Counts) -> Result<(), usize>
     Ok(())
 }
 
+// What is printed is a line for each function or for the file, and no value of its own that a Display could be of.
 fn print_counts(rt: HostRuntime, counts: &Counts) {
     for (function, n) in Function::ALL.iter().zip(counts.agree) {
         if n != 0 {

@@ -1,5 +1,5 @@
 // Room for the largest block, and a little more so that a test can go over each limit. The `ensures` gives the length, which lending an array
-// asks for.
+// asks for; so each is a function of its own, and not one for any length.
 #![tactic(auto)]
 
 ghost use Rattle.std.specs.Prelude.{◌≡◌, ◌≤◌, ◌++◌, ℕ, List, [], ◌∷◌, length, take, replicate, MatchResult};
@@ -76,7 +76,7 @@ impl Room {
 #[derive(Clone, Copy, Debug, PartialEq, Eq)]
 pub struct Full;
 
-// The codes and the values of the operations, in order.
+// The codes and the values of the operations, in order: two arrays, as build is lent them, and how many places of each are filled. There is no heap.
 #[derive(Drop)]
 pub struct List {
     codes: [u8; 16384],
