@@ -54,6 +54,7 @@ impl fmt::Display for Fault {
     }
 }
 
+// As a line of the list says it; wire's `Op` is one that was read of a block.
 #[derive(Clone, Copy)]
 struct Operation {
     code: u8,

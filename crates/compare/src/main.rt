@@ -468,6 +468,7 @@ fn compare_four(rt: HostRuntime, i: usize)
     compare_arguments(rt, names, offsets);
 }
 
+// As replay asks it: two lines, over room of its own.
 fn is_help(rt: HostRuntime) -> bool {
     let mut word = [0u8; 4096];
     console::argument(rt, 1, &mut word) == Some(b"--help".as_slice())

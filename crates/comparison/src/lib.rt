@@ -52,7 +52,7 @@ impl Refused {
     }
 }
 
-// A block that decode took, as it lies in its room.
+// A block that decode took, as it lies in its room: its runs and not checks' `Arena`, since each method goes by one or two of them.
 #[derive(Clone, Copy)]
 struct Block<'a> {
     codes: &'a [u8],

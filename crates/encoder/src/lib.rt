@@ -20,7 +20,7 @@ use refusal::Refusal;
 
 mod input;
 
-// How many bytes an operation takes.
+// How many bytes an operation takes. listing says the same of the virtual machine's own opcodes, which need no table.
 #[tactic(auto, unfolding(rules::specs::Operations::valued))]
 fn op_len(table: &[u8; 128], code: u8) -> usize
     requires { code < 128 }

@@ -34,7 +34,7 @@ impl fmt::Display for Name {
     }
 }
 
-// An operation, with its value where its kind has one.
+// An operation that prints itself, with its value where its kind has one; wire's `Op` is one that was read.
 #[derive(Clone, Copy)]
 struct Operation {
     code: u8,

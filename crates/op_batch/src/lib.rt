@@ -331,6 +331,7 @@ fn next_from(starts: &[u8; 9], count: usize, k: usize) -> Option<usize>
 
 // ---- a record by value
 
+// The lookups ask for the structure first, three lines each; what refuses there is the batch itself, so that nothing is handed on.
 impl OpBatch {
     fn right(&self, width: usize) -> bool
         requires { width ≤ 8 }

@@ -9,7 +9,7 @@ use console::{Filled, print_bytes, print_pieces};
 use exports::{CheckReply, DecodeReply, IndexReply, TableReply};
 use std::{fmt, io};
 
-// ---- the functions, each on what its line lends
+// ---- the functions, each on what its line lends: run by run, in the order of the line. A helper for several of them would hand on the arrays they lie in.
 
 fn build(case: &mut Case) -> Option<()> {
     let mut codes = space::codes();
@@ -378,6 +378,7 @@ const USAGE: &str = "usage: replay FILE..\n";
 const HELP: &str =
     "Runs the cases of each file (rust/README.md) on the exported functions, and says where a reply or an output is not the file's.\n";
 
+// As compare asks it: two lines, over room of its own.
 fn asked_for_help(rt: HostRuntime) -> bool {
     let mut word = [0u8; 4096];
     console::argument(rt, 1, &mut word) == Some(b"--help".as_slice())

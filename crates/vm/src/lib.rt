@@ -8,6 +8,7 @@ ghost use Rattle.vm.specs.Kinds.{kinds};
 
 use operation::Kind;
 
+// Bytes, as a table is lent.
 const KINDS: [u8; 128] = [
     0, 0, 0, 0, 0, 0, 3, 0, 0, 0, 0, 0, 0, 0, 0, 0, 0, 0, 0, 0, 0, 0, 0, 0, 0, 0, 0, 0, 0, 0, 0, 0,
     2, 0, 0, 0, 0, 0, 0, 0, 0, 0, 0, 0, 0, 0, 0, 3, 0, 0, 0, 0, 0, 0, 0, 0, 0, 0, 0, 0, 0, 0, 0, 0,

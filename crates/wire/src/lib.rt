@@ -73,7 +73,7 @@ fn lowest(t: u32) -> u64
     }
 }
 
-// The count at `at`.
+// The count at `at`: the number as it is read; who goes by it turns it into a place, which it fits.
 pub fn read_count(s: &[u8], at: usize) -> Result<Item<u64>, Refusal>
     ensures { count_told result ≡ count_at s.now at }
 {

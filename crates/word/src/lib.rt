@@ -77,7 +77,7 @@ pub fn from_digits<const B: u64>(digits: &[u8]) -> u64
     v
 }
 
-// ---- stores that fall away past the end, as `set` and `sets` do on lists
+// ---- stores that fall away past the end, as `set` and `sets` do on lists; where one may be of several bytes, its place is low enough that they can be counted
 
 pub fn store<T: Copy>(out: &mut [T], at: usize, v: T)
     ensures { out.new ≡ set out.old at v }
