@@ -4,7 +4,7 @@
 ghost use Rattle.console.specs.Said.{said};
 ghost use Rattle.console.specs.Took.{bytes_of, Took};
 ghost use Rattle.console.specs.declared.Stream.TheVariants.{Output, Errors};
-ghost use Rattle.std.specs.Prelude.{◌≡◌, ◌+◌, ◌<◌, ◌≤◌, ◌++◌, ℕ, List, [], length, take, IsTrue, MatchResult, IfOk, Bool, true, false, nat_lt};
+ghost use Rattle.std.specs.Prelude.{◌≡◌, ◌+◌, ◌<◌, ◌≤◌, ◌++◌, ℕ, List, [], length, take, IsTrue, MatchResult, IfOk, IfSome, Bool, true, false, nat_lt};
 
 use std::env::{Env, FillError};
 use std::fmt;
@@ -16,7 +16,9 @@ use std::marker::Model;
 // ---- reading
 
 // Reads until the room is full or the file ends; the bytes that were read. No `for`: it goes on by as many as were read.
-pub fn fill<'a, F: Read>(file: &mut F, room: &'a mut [u8]) -> Result<&'a [u8]> {
+pub fn fill<'a, F: Read>(file: &mut F, room: &'a mut [u8]) -> Result<&'a [u8]>
+    ensures { IfOk result (λ bytes. length bytes.now ≤ length room.old) }
+{
     let mut n = 0;
     while n < room.len() {
         let more = file.read(&mut room[n..])?;
@@ -77,7 +79,9 @@ pub fn arguments(rt: HostRuntime) -> usize {
 }
 
 // The i-th argument; none where it is missing, or longer than the room.
-pub fn argument(rt: HostRuntime, i: usize, room: &mut [u8]) -> Option<&[u8]> {
+pub fn argument(rt: HostRuntime, i: usize, room: &mut [u8]) -> Option<&[u8]>
+    ensures { IfSome result (λ word. length word.now ≤ length room.old) }
+{
     match rt.arg(i, room) {
         Ok(n) => Some(&room[..n]),
         Err(_) => None,

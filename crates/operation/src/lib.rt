@@ -38,6 +38,7 @@ impl From<u8> for Kind {
 }
 
 // `code < 128` stands where an opcode is asked for: opcodes are bytes of lent runs, and a type for those that are one would be made and undone at each byte.
+// As an index an opcode is taken by `as`, here and in wire, batcher and commitment: beside `Kind::from` a second `from` says no more.
 
 // Whether an opcode has a value.
 pub fn has_value(table: &[u8; 128], code: u8) -> bool
