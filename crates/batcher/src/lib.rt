@@ -45,7 +45,9 @@ struct Work {
 }
 
 impl Work {
-    // Ends the batch in hand and starts the next.
+    // Ends the batch in hand and starts the next. Drawn into its callers: as a function of its own it would take and give the work through memory, and each
+    // step would go there too, also where no batch ends.
+    #[inline(always)]
     fn end_batch(self, records: &mut [u8]) -> Work
         requires good { Good record_groups self.acc }
         requires base_bound { (self.base < 2 ^ 32) × (self.batches < 2 ^ 20) }
@@ -145,11 +147,11 @@ fn room_ahead(from: usize, b: usize, codes: usize, values: usize, records: usize
 }
 
 impl Input<'_> {
-    // How many slots an operation takes that joins the current group as it is, 0 or 1; none where it does not, or is left to `step`. At most `left` may
-    // join, and the last of them has no immediate.
-    fn slots(self, code: u8, v: u64, next: usize, left: usize) -> Option<usize>
-        requires { next ≤ record_groups }
-        ensures { IfSome result (λ k. (k < 2) × Joins self.entry.width self.entry.table.now code v next left k) }
+    // How many slots an operation takes that joins the current group as it is, 0 or 1; none where it does not, or is left to `step`. It is the n-th of at
+    // most `end`, and the last of them has no immediate. Both are asked for, not what is left: the loop has both in hand, and one number less this way.
+    fn slots(self, code: u8, v: u64, next: usize, n: usize, end: usize) -> Option<usize>
+        requires { (next ≤ record_groups) × (n < end) × (end ≤ 9) }
+        ensures { IfSome result (λ k. (k < 2) × Joins self.entry.width self.entry.table.now code v next (end - n) k) }
     {
         if 128 <= code {
             return None;
@@ -160,7 +162,7 @@ impl Input<'_> {
         if 1 < kind || u64::from(kind) * (operation::FIELD - 1) < v {
             return None;
         }
-        if left <= k || self.width < next + k {
+        if end <= n + k || self.width < next + k {
             return None;
         }
         Some(k)
@@ -237,7 +239,7 @@ impl Input<'_> {
         for n in 0..end {
             let code = self.codes[i + n];
             let v = self.values[i + n];
-            let Some(k) = self.slots(code, v, next, end - n) else {
+            let Some(k) = self.slots(code, v, next, n, end) else {
                 return self.gather(work, i, n, next, number, unit);
             };
             keep(v, b, next, records);
