@@ -300,7 +300,9 @@ impl<'a> Block<'a> {
         Ok(())
     }
 
-    // Whether every operation is admissible and no batch has a fault.
+    // Whether every operation is admissible and no batch has a fault. Not drawn into the check: there the loop over a group's operations had its number in memory
+    // for want of registers, and took half as long again.
+    #[inline(never)]
     fn is_right(self) -> bool
         ensures { result ≡ true → AllRight self.entry.table.now (lying self.entry.arena) }
     {
