@@ -13,7 +13,7 @@ ghost use Rattle.rules.specs.Block.{Room};
 ghost use Rattle.rules.specs.Lookups.{raw_at, padded_at, padded_index, raw_index};
 ghost use Rattle.rules.specs.Functions.{arena, built, encoded, decoded, strictly_decoded, compared, headed, structure_checked, padding_checked, commitment_checked, raw_tabled, padded_tabled, group_lookup, next_lookup};
 ghost use Rattle.refusal.specs.Told.{told, told_by};
-ghost use Rattle.op_batch.specs.OpBatch.{record_in};
+ghost use Rattle.op_batch.specs.RecordAt.{recorded};
 ghost use Rattle.comparison.specs.Replies as marked;
 ghost use Rattle.comparison.specs.Replies.{side, room_for};
 ghost use Rattle.crossing.specs.Words.{words_in, few_words, has_word};
@@ -26,7 +26,7 @@ use checks::Arena;
 use comparison::Refused;
 use decoder::Decoded;
 use head::Headed;
-use op_batch::{OpBatch, Place, RecordAt};
+use op_batch::{Place, RecordAt};
 use prefix::{PaddedIndex, RawIndex};
 use refusal::Refusal;
 
@@ -464,14 +464,15 @@ pub fn oli_raw_index(table: &[u64], padded: usize) -> IndexReply
 
 // ---- lookups in one batch
 
+// Where the one record of a run lies. It is loaded by who asks, since a `Result` of its 82 bytes would be copied on the way.
 #[tactic(auto, unfolding(crate::specs::Replies::one_record))]
-fn one_record(run: &[u8]) -> Result<OpBatch, Refusal>
-    ensures { told_by record_in result ≡ one_record run.now (good (record_at run.now 0)) }
+fn one_record(run: &[u8]) -> Result<RecordAt<'_>, Refusal>
+    ensures { told_by recorded result ≡ one_record run.now (good (record_at run.now 0)) }
 {
     if run.len() != op_batch::RECORD {
         return Err(Refusal::OverLimit);
     }
-    Ok(RecordAt { records: run, b: 0 }.load())
+    Ok(RecordAt { records: run, b: 0 })
 }
 
 #[tactic(auto, unfolding(crate::specs::Replies::one_record))]
@@ -479,7 +480,7 @@ pub fn oli_group(run: &[u8], index: usize) -> GroupReply
     ensures { result ≡ group_reply (one_record run.now (group_lookup 8 (record_at run.now 0) index)) }
 {
     one_record(run)
-        .and_then(|batch| batch.op_idx_in_batch_to_group(index))
+        .and_then(|record| record.load().op_idx_in_batch_to_group(index))
         .into()
 }
 
@@ -488,7 +489,7 @@ pub fn oli_next_group(run: &[u8], group: usize) -> NextReply
     ensures { result ≡ next_reply (one_record run.now (next_lookup 8 (record_at run.now 0) group)) }
 {
     one_record(run)
-        .and_then(|batch| batch.next_op_group_index(group))
+        .and_then(|record| record.load().next_op_group_index(group))
         .into()
 }
 

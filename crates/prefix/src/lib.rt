@@ -138,6 +138,8 @@ fn fill(records: &[u8], which: Prefix, out: &mut [u64]) -> usize
 }
 
 // Either table: how many entries it has. Which one is told by a value and not by a closure: what is proved of both tables speaks of them by it.
+// Drawn into its callers, and these into theirs: handed on by a pointer, an arena keeps its values alive, of which a table needs only how many there are.
+#[inline(always)]
 pub fn table(arena: Arena<'_>, which: Prefix, out: &mut [u64]) -> Result<usize, Refusal>
     ensures { Answered (table_of (table_by which) 8 (lying arena.entry) (length out.old)) result out.old out.new }
 {
@@ -155,6 +157,7 @@ pub fn table(arena: Arena<'_>, which: Prefix, out: &mut [u64]) -> Result<usize, 
 }
 
 // RawToPaddedPrefix: for each raw operation the flagged paddings before it, then all. Refusals 3, 15, 10, 13.
+#[inline(always)]
 pub fn raw_to_padded(arena: Arena<'_>, out: &mut [u64]) -> Result<usize, Refusal>
     ensures { Answered (raw_tabled 8 (lying arena.entry) (length out.old)) result out.old out.new }
 {
@@ -162,6 +165,7 @@ pub fn raw_to_padded(arena: Arena<'_>, out: &mut [u64]) -> Result<usize, Refusal
 }
 
 // PaddedToRawPrefix: the same for each padded operation.
+#[inline(always)]
 pub fn padded_to_raw(arena: Arena<'_>, out: &mut [u64]) -> Result<usize, Refusal>
     ensures { Answered (padded_tabled 8 (lying arena.entry) (length out.old)) result out.old out.new }
 {
