@@ -332,12 +332,14 @@ fn next_from(starts: &[u8; 9], count: usize, k: usize) -> Option<usize>
 // ---- a record by value
 
 // The lookups ask for the structure first, three lines each; what refuses there is the batch itself, so that nothing is handed on.
+// The starts are copied before one is read by an index that is not known: read in the batch, they would keep its numbers alive, and those be copied.
 impl OpBatch {
     fn right(&self, width: usize) -> bool
         requires { width ≤ 8 }
         ensures { result ≡ record_right width (record_in self.now) }
     {
-        layout_right(width, &self.starts, &self.flags, self.count)
+        let starts = self.starts;
+        layout_right(width, &starts, &self.flags, self.count)
     }
 
     // The group of an operation number in the batch, and its place there.
@@ -347,7 +349,8 @@ impl OpBatch {
         if !self.right(WIDTH) {
             return Err(Refusal::BadStructure { batch: 0 });
         }
-        Ok(group_of(&self.starts, index))
+        let starts = self.starts;
+        Ok(group_of(&starts, index))
     }
 
     // The next group with operations after a group.
@@ -360,6 +363,7 @@ impl OpBatch {
         if 7 <= group {
             return Ok(None);
         }
-        Ok(next_from(&self.starts, usize::from(self.count), group + 1))
+        let starts = self.starts;
+        Ok(next_from(&starts, usize::from(self.count), group + 1))
     }
 }
