@@ -213,17 +213,23 @@ impl<'a> Batch<'a> {
     // ---- where all is right: one walk that says only whether it is
 
     // The group after an operation's immediate, which belongs in the j-th: j where the operation has none. None where it is not admissible or the group's
-    // number is another.
+    // number is another. An operation without a value goes first: of a `match` on the kind, as there was here, its arm was the last that was tried.
     #[tactic(auto, unfolding(crate::specs::Walk::slot_after))]
     fn slot_after(self, kind: u8, v: u64, j: usize) -> Option<usize>
         requires { j ≤ 8 }
         ensures value { result ≡ slot_after kind v (record_of self.entry).numbers j }
         ensures low { IfSome result (λ k. k ≤ 8) }
     {
-        match Kind::from(kind) {
-            Kind::Plain if v == 0 => Some(j),
-            Kind::Placed if v < FIELD && j < 8 && self.number(j) == v => Some(j + 1),
-            Kind::Carried if v < FIELD => Some(j),
+        let kind = Kind::from(kind);
+        if kind == Kind::Plain {
+            return (v == 0).then_some(j);
+        }
+        if FIELD <= v {
+            return None;
+        }
+        match kind {
+            Kind::Placed if j < 8 && self.number(j) == v => Some(j + 1),
+            Kind::Carried => Some(j),
             _ => None,
         }
     }
