@@ -1,4 +1,4 @@
-mod Bases
-mod Bytes
-mod Copies
-mod Zeros
+pub mod Bases
+pub mod Bytes
+pub mod Copies
+pub mod Zeros
