@@ -67,6 +67,28 @@ pub fn starts_number(text: &[u8]) -> bool {
     text.first().is_some_and(|b| b.is_ascii_digit())
 }
 
+// Where the digits from a place on end.
+fn digits_end(s: &[u8], from: usize, radix: Radix) -> usize
+    requires { from ≤ length s.now }
+    ensures { (from ≤ result) × (result ≤ length s.now) }
+{
+    from + place(&s[from..], |b| radix.digit(b).is_none())
+}
+
+pub fn decimal_end(s: &[u8], from: usize) -> usize
+    requires { from ≤ length s.now }
+    ensures { (from ≤ result) × (result ≤ length s.now) }
+{
+    digits_end(s, from, Radix::Decimal)
+}
+
+pub fn hex_end(s: &[u8], from: usize) -> usize
+    requires { from ≤ length s.now }
+    ensures { (from ≤ result) × (result ≤ length s.now) }
+{
+    digits_end(s, from, Radix::Hex)
+}
+
 // ---- words
 
 // The place of the first byte that stops; the end where none does.

@@ -126,7 +126,12 @@ fn is_named(code: u8, word: &[u8]) -> bool {
     name(code).is_some_and(|name| name.as_bytes().eq_ignore_ascii_case(word))
 }
 
-// The opcode of a name. A capital letter counts as its small one.
+// The opcode of a name. A capital letter counts as its small one, and spaces behind the name count for nothing.
 pub fn code_of(word: &[u8]) -> Option<u8> {
-    (0..128).find(|code| is_named(*code, word))
+    let end = word
+        .iter()
+        .rposition(|b| *b != b' ')
+        .map_or(0, |last| last + 1);
+    let name = &word[..end];
+    (0..128).find(|code| is_named(*code, name))
 }
