@@ -5,6 +5,7 @@ ghost use Rattle.console.specs.Said.{said};
 ghost use Rattle.console.specs.Took.{bytes_of, Took};
 ghost use Rattle.console.specs.declared.Stream.TheVariants.{Output, Errors};
 ghost use Rattle.std.specs.Prelude.{◌≡◌, ◌+◌, ◌<◌, ◌≤◌, ◌++◌, ℕ, List, [], length, take, IsTrue, MatchResult, IfOk, IfSome, Bool, true, false, nat_lt};
+ghost use Rattle.io.specs.Counts.{IsPrefixLen};
 
 use std::env::{Env, FillError};
 use std::fmt;
@@ -13,21 +14,66 @@ use std::fs::File;
 use std::io::{Error, ErrorKind, Read, Result};
 use std::marker::Model;
 
+mod lent;
+
+pub use lent::{
+    Lent, about, byte, copy, counted, errors, flush, hex, long, number, output, quote, say, unread,
+};
+
 // ---- reading
 
-// Reads until the room is full or the file ends; the bytes that were read. No `for`: it goes on by as many as were read.
-pub fn fill<'a, F: Read>(file: &mut F, room: &'a mut [u8]) -> Result<&'a [u8]>
-    ensures { IfOk result (λ bytes. length bytes.now ≤ length room.old) }
+// How many bytes were read; and the error of a read that failed, which is not the end of the file.
+#[derive(Clone, Copy)]
+pub struct Got {
+    pub count: usize,
+    pub failed: Option<Error>,
+}
+
+// Reads until the room is full, the file ends or a read fails. No `for`: it goes on by as many as were read.
+pub fn fill<F: Read>(file: &mut F, room: &mut [u8]) -> Got
+    ensures { IsPrefixLen result.count room.new }
 {
     let mut n = 0;
     while n < room.len() {
-        let more = file.read(&mut room[n..])?;
-        if more == 0 {
-            break;
+        match file.read(&mut room[n..]) {
+            Ok(0) => break,
+            Ok(more) => n += more,
+            Err(error) => {
+                return Got {
+                    count: n,
+                    failed: Some(error),
+                };
+            }
         }
-        n += more;
     }
-    Ok(&room[..n])
+    Got {
+        count: n,
+        failed: None,
+    }
+}
+
+// A read that failed, and how many bytes had come before it.
+#[derive(Clone, Copy)]
+pub struct Broken {
+    pub count: usize,
+    pub error: Error,
+}
+
+impl From<Broken> for Error {
+    fn from(broken: Broken) -> Error {
+        broken.error
+    }
+}
+
+// The bytes that `fill` reads.
+pub fn load<'a, F: Read>(file: &mut F, room: &'a mut [u8]) -> std::result::Result<&'a [u8], Broken>
+    ensures { MatchResult result (λ bytes. length bytes.now ≤ length room.old) (λ broken. broken.count ≤ length room.old) }
+{
+    let Got { count, failed } = fill(file, room);
+    match failed {
+        None => Ok(&room[..count]),
+        Some(error) => Err(Broken { count, error }),
+    }
 }
 
 // What a room took of a file: the whole file, or as much as fills the room, so that there may be more.
@@ -52,7 +98,7 @@ pub fn read<'a, F: Read>(file: &mut F, room: &'a mut [u8]) -> Result<Filled<'a>>
     ensures { IfOk result (Took (length room.old)) }
 {
     let most = room.len();
-    let bytes = fill(file, room)?;
+    let bytes = load(file, room)?;
     Ok(if bytes.len() < most {
         Filled::Whole(bytes)
     } else {
@@ -79,13 +125,20 @@ pub fn arguments(rt: HostRuntime) -> usize {
 }
 
 // The i-th argument; none where it is missing, or longer than the room.
-pub fn argument(rt: HostRuntime, i: usize, room: &mut [u8]) -> Option<&[u8]>
+pub fn argument_bytes(rt: HostRuntime, i: usize, room: &mut [u8]) -> Option<&[u8]>
     ensures { IfSome result (λ word. length word.now ≤ length room.old) }
 {
     match rt.arg(i, room) {
         Ok(n) => Some(&room[..n]),
         Err(_) => None,
     }
+}
+
+// The same at the start of the room: how many bytes it has, 0 where there is none.
+pub fn argument(rt: HostRuntime, i: usize, room: &mut [u8]) -> usize
+    ensures { IsPrefixLen result room.new }
+{
+    rt.arg(i, room).unwrap_or(0)
 }
 
 // ---- text
@@ -250,10 +303,12 @@ pub struct Count<'a> {
     thing: &'a str,
 }
 
-pub fn counted<'a>(number: usize, one: &'a str, several: &'a str) -> Count<'a> {
-    Count {
-        number,
-        thing: if number == 1 { one } else { several },
+impl<'a> Count<'a> {
+    pub fn of(number: usize, one: &'a str, several: &'a str) -> Count<'a> {
+        Count {
+            number,
+            thing: if number == 1 { one } else { several },
+        }
     }
 }
 
@@ -270,14 +325,16 @@ pub struct Quoted<'a> {
     is_cut: bool,
 }
 
-pub fn quote(text: &[u8], most: usize) -> Quoted<'_>
-    ensures text { result.text.now ≡ take most text.now }
-    ensures is_cut { result.is_cut ≡ nat_lt most (length text.now) }
-{
-    let n = text.len().min(most);
-    Quoted {
-        text: &text[..n],
-        is_cut: n < text.len(),
+impl<'a> Quoted<'a> {
+    pub fn of(text: &'a [u8], most: usize) -> Quoted<'a>
+        ensures text { result.text.now ≡ take most text.now }
+        ensures is_cut { result.is_cut ≡ nat_lt most (length text.now) }
+    {
+        let n = text.len().min(most);
+        Quoted {
+            text: &text[..n],
+            is_cut: n < text.len(),
+        }
     }
 }
 
@@ -286,7 +343,7 @@ pub fn quote_name(path: &[u8]) -> Quoted<'_>
     ensures text { result.text.now ≡ take 4096 path.now }
     ensures is_cut { result.is_cut ≡ nat_lt 4096 (length path.now) }
 {
-    quote(path, 4096)
+    Quoted::of(path, 4096)
 }
 
 impl fmt::Display for Quoted<'_> {
@@ -328,14 +385,23 @@ fn tell_failed(rt: HostRuntime, what: &str, error: Error) {
     let _ = to.write_all(b"\n");
 }
 
+// How a line about a file starts.
+fn start(page: &mut Page, program: &[u8], path: &[u8]) -> fmt::Result {
+    page.say(program)?;
+    write!(page, ": {}", quote_name(path))
+}
+
 // A call that failed, in the system's words.
-pub fn fail(rt: HostRuntime, program: &str, path: &[u8], error: Error) {
-    tell(rt, format_args!("{program}: {}", quote_name(path)));
+pub fn fail(rt: HostRuntime, program: &[u8], path: &[u8], error: Error) {
+    let mut page = Page::errors(rt);
+    if start(&mut page, program, path).is_ok() {
+        let _ = page.flush();
+    }
     tell_failed(rt, "", error);
 }
 
 // What kept a file from being read, by the failed call's error.
-pub fn unread(error: Error) -> &'static str {
+pub fn why_unread(error: Error) -> &'static str {
     match error.kind() {
         ErrorKind::NotFound | ErrorKind::NotADirectory => "there is no such file",
         ErrorKind::PermissionDenied => "it may not be read",
@@ -345,11 +411,16 @@ pub fn unread(error: Error) -> &'static str {
     }
 }
 
-pub fn wrong(rt: HostRuntime, program: &str, path: &[u8], what: &str) {
-    tell(
-        rt,
-        format_args!("{program}: {}: {what}\n", quote_name(path)),
-    );
+fn say_wrong(page: &mut Page, program: &[u8], path: &[u8], what: &[u8]) -> fmt::Result {
+    start(page, program, path)?;
+    page.say(b": ")?;
+    page.say(what)?;
+    page.say(b"\n")?;
+    page.flush()
+}
+
+pub fn wrong(rt: HostRuntime, program: &[u8], path: &[u8], what: &[u8]) {
+    let _ = say_wrong(&mut Page::errors(rt), program, path, what);
 }
 
 fn print_to<D: fmt::Display + Drop>(page: &mut Page, text: D) {
@@ -359,14 +430,33 @@ fn print_to<D: fmt::Display + Drop>(page: &mut Page, text: D) {
 }
 
 // One text by itself.
-pub fn print<D: fmt::Display + Drop>(rt: HostRuntime, text: D) {
+pub fn print_text<D: fmt::Display + Drop>(rt: HostRuntime, text: D) {
     let mut page = Page::output(rt);
     print_to(&mut page, text);
 }
 
-pub fn tell<D: fmt::Display + Drop>(rt: HostRuntime, text: D) {
+pub fn tell_text<D: fmt::Display + Drop>(rt: HostRuntime, text: D) {
     let mut page = Page::errors(rt);
     print_to(&mut page, text);
+}
+
+// The same of any bytes.
+fn say_to(page: &mut Page, text: &[u8]) {
+    if page.say(text).is_ok() {
+        let _ = page.flush();
+    }
+}
+
+pub fn print(rt: HostRuntime, text: &[u8]) {
+    say_to(&mut Page::output(rt), text);
+}
+
+pub fn print_number(rt: HostRuntime, n: usize) {
+    print_text(rt, n);
+}
+
+pub fn tell(rt: HostRuntime, text: &[u8]) {
+    say_to(&mut Page::errors(rt), text);
 }
 
 // Bytes by themselves, past any page. Where they are not taken, that is told, and what comes after them is tried all the same.
