@@ -1,1 +1,1 @@
-mod Paddings
+mod Totals

@@ -3,11 +3,11 @@
 #![tactic(auto)]
 
 ghost use Rattle.std.specs.Prelude.{◌≡◌, ◌<◌, ◌≤◌, ◌*◌, ◌/◌, length, nat_lt, if◌then◌else◌};
-ghost use Rattle.rules.specs.Record.{record_at};
+ghost use Rattle.rules.specs.Record.{record_at, record_size};
 ghost use Rattle.op_batch.specs.OpBatch.{record_in};
 ghost use Rattle.listing.specs.Records.{no_record};
 
-use console::{Page, counted};
+use console::Count;
 pub use decoder::Decoded;
 use op_batch::{OpBatch, RecordAt};
 use operation::Kind;
@@ -17,7 +17,14 @@ use std::fmt;
 use std::fmt::Write;
 use wire::Item;
 
-// Each `print_..` writes to a page, which can fail, a line at a time: a Display of a batch or a block would hold its runs.
+mod lent;
+
+pub use lent::{
+    place_byte, print_at, print_block, print_line, print_numbered, print_op_at, print_refusal,
+    print_totals, print_words,
+};
+
+// Each `write_..` writes to what can fail, a line at a time: a Display of a batch or a block would hold its runs.
 
 // ---- operations
 
@@ -95,28 +102,42 @@ impl Runs<'_> {
             .fold(0, |sum: usize, code| sum.wrapping_add(op_size(*code)))
     }
 
-    // The b-th record, or one of zeros where the run ends before it.
     pub fn record(self, b: usize) -> OpBatch
-        ensures { record_in result ≡ if nat_lt b (length self.entry.records.now / 82) then record_at self.entry.records.now b else no_record }
+        ensures { record_in result ≡ if nat_lt b (length self.entry.records.now / record_size) then record_at self.entry.records.now b else no_record }
     {
-        if b < self.records.len() / op_batch::RECORD {
-            let records = self.records;
-            return RecordAt { records, b }.load();
-        }
-        OpBatch {
-            starts: [0; 9],
-            flags: [0; 8],
-            groups: [0; 8],
-            count: 0,
-        }
+        record(self.records, b)
     }
 
-    // How many paddings so many batches have.
     pub fn paddings(self, batches: usize) -> usize
         ensures { result ≤ 8 * batches }
     {
-        (0..batches).fold(0, |n: usize, b| n.wrapping_add(flagged(&self.record(b))))
+        paddings(self.records, batches)
     }
+}
+
+// The b-th record, or one of zeros where the run ends before it.
+pub fn record(records: &[u8], b: usize) -> OpBatch
+    ensures { record_in result ≡ if nat_lt b (length records.now / record_size) then record_at records.now b else no_record }
+{
+    if b < records.len() / op_batch::RECORD {
+        return RecordAt { records, b }.load();
+    }
+    OpBatch {
+        starts: [0; 9],
+        flags: [0; 8],
+        groups: [0; 8],
+        count: 0,
+    }
+}
+
+// How many paddings so many batches have.
+pub fn paddings(records: &[u8], batches: usize) -> usize
+    ensures { result ≤ 8 * batches }
+{
+    (0..batches).fold(
+        0,
+        |n: usize, b| n.wrapping_add(flagged(&record(records, b))),
+    )
 }
 
 // How many groups of a batch are flagged. A flag at or above the count is no group's.
@@ -132,7 +153,7 @@ fn flagged(batch: &OpBatch) -> usize
 }
 
 // The operation at a place, after a space.
-pub fn print_op_at(page: &mut Page, runs: Runs, at: usize) -> fmt::Result {
+pub fn write_op_at<W: Write>(page: &mut W, runs: Runs, at: usize) -> fmt::Result {
     match runs.operation(at) {
         Some(operation) => write!(page, " {operation}"),
         None => Ok(()),
@@ -140,9 +161,9 @@ pub fn print_op_at(page: &mut Page, runs: Runs, at: usize) -> fmt::Result {
 }
 
 // The n operations from `at` on.
-fn print_ops(page: &mut Page, runs: Runs, at: usize, n: usize) -> fmt::Result {
+fn write_ops<W: Write>(page: &mut W, runs: Runs, at: usize, n: usize) -> fmt::Result {
     for i in 0..n {
-        print_op_at(page, runs, at.wrapping_add(i))?;
+        write_op_at(page, runs, at.wrapping_add(i))?;
     }
     Ok(())
 }
@@ -167,7 +188,13 @@ impl Place {
 }
 
 // Group g of a batch.
-fn print_group(page: &mut Page, runs: Runs, batch: &OpBatch, at: Place, g: usize) -> fmt::Result
+fn write_group<W: Write>(
+    page: &mut W,
+    runs: Runs,
+    batch: &OpBatch,
+    at: Place,
+    g: usize,
+) -> fmt::Result
     requires { g < 8 }
 {
     let number = batch.groups[g];
@@ -181,7 +208,7 @@ fn print_group(page: &mut Page, runs: Runs, batch: &OpBatch, at: Place, g: usize
         page,
         "  group {g}, number {number}, operation {operation}, byte {byte}:"
     )?;
-    print_ops(page, runs, operation, to - from)?;
+    write_ops(page, runs, operation, to - from)?;
     let padding = if batch.flags[g] == 0 {
         ""
     } else {
@@ -191,15 +218,15 @@ fn print_group(page: &mut Page, runs: Runs, batch: &OpBatch, at: Place, g: usize
 }
 
 // The groups of a batch.
-fn print_groups(page: &mut Page, runs: Runs, batch: &OpBatch, at: Place) -> fmt::Result {
+fn write_groups<W: Write>(page: &mut W, runs: Runs, batch: &OpBatch, at: Place) -> fmt::Result {
     for g in 0..usize::from(batch.count).min(8) {
-        print_group(page, runs, batch, at, g)?;
+        write_group(page, runs, batch, at, g)?;
     }
     Ok(())
 }
 
 // The flags of a batch at or above its group count, which mark no padding.
-fn print_flags(page: &mut Page, batch: &OpBatch) -> fmt::Result {
+fn write_flags<W: Write>(page: &mut W, batch: &OpBatch) -> fmt::Result {
     for g in usize::from(batch.count)..8 {
         if batch.flags[g] != 0 {
             writeln!(
@@ -212,7 +239,7 @@ fn print_flags(page: &mut Page, batch: &OpBatch) -> fmt::Result {
 }
 
 // The batches of a block whose first operation is at a byte.
-fn print_batches(page: &mut Page, runs: Runs, batches: usize, first: usize) -> fmt::Result {
+fn write_batches<W: Write>(page: &mut W, runs: Runs, batches: usize, first: usize) -> fmt::Result {
     let mut at = Place {
         operation: 0,
         byte: first,
@@ -220,11 +247,11 @@ fn print_batches(page: &mut Page, runs: Runs, batches: usize, first: usize) -> f
     for b in 0..batches {
         let batch = runs.record(b);
         let n = usize::from(batch.starts[8]);
-        let groups = counted(usize::from(batch.count), "group", "groups");
-        let operations = counted(n, "operation", "operations");
+        let groups = Count::of(usize::from(batch.count), "group", "groups");
+        let operations = Count::of(n, "operation", "operations");
         writeln!(page, "batch {b}: {groups}, {operations}")?;
-        print_groups(page, runs, &batch, at)?;
-        print_flags(page, &batch)?;
+        write_groups(page, runs, &batch, at)?;
+        write_flags(page, &batch)?;
         at = at.after(runs, n);
     }
     Ok(())
@@ -244,11 +271,11 @@ impl fmt::Display for After {
     fn fmt<W: fmt::Write>(&self, f: &mut fmt::Formatter<W>) -> fmt::Result {
         match *self {
             After::Unasked => Ok(()),
-            After::Bytes(n) => write!(f, ", then {}", counted(n, "more byte", "more bytes")),
+            After::Bytes(n) => write!(f, ", then {}", Count::of(n, "more byte", "more bytes")),
             After::AtLeast(n) => write!(
                 f,
                 ", then at least {}",
-                counted(n, "more byte", "more bytes")
+                Count::of(n, "more byte", "more bytes")
             ),
         }
     }
@@ -262,26 +289,36 @@ pub struct Block {
 }
 
 // In a line: the totals of a block, and what stands after it.
-pub fn print_totals(page: &mut Page, runs: Runs, made: Decoded, after: After) -> fmt::Result {
-    let batches = counted(made.batches, "batch", "batches");
-    let operations = counted(made.operations, "operation", "operations");
-    let paddings = counted(runs.paddings(made.batches), "padding", "paddings");
-    let bytes = counted(made.used, "byte", "bytes");
+pub fn write_totals<W: Write>(
+    page: &mut W,
+    records: &[u8],
+    made: Decoded,
+    after: After,
+) -> fmt::Result {
+    let batches = Count::of(made.batches, "batch", "batches");
+    let operations = Count::of(made.operations, "operation", "operations");
+    let paddings = Count::of(paddings(records, made.batches), "padding", "paddings");
+    let bytes = Count::of(made.used, "byte", "bytes");
     writeln!(page, "{batches}, {operations}, {paddings}, {bytes}{after}")
 }
 
 // The same after the byte where the block stands.
-pub fn print_line(page: &mut Page, runs: Runs, block: Block, after: After) -> fmt::Result {
+pub fn write_line<W: Write>(
+    page: &mut W,
+    records: &[u8],
+    block: Block,
+    after: After,
+) -> fmt::Result {
     write!(page, "block at byte {}: ", block.at)?;
-    print_totals(page, runs, block.made, after)
+    write_totals(page, records, block.made, after)
 }
 
 // The same, and the batches.
-pub fn print_block(page: &mut Page, runs: Runs, block: Block, after: After) -> fmt::Result {
-    print_line(page, runs, block, after)?;
+pub fn write_block<W: Write>(page: &mut W, runs: Runs, block: Block, after: After) -> fmt::Result {
+    write_line(page, runs.records, block, after)?;
     let Block { at, made } = block;
     let first = at.wrapping_add(wire::count_size(made.operations as u64));
-    print_batches(page, runs, made.batches, first)
+    write_batches(page, runs, made.batches, first)
 }
 
 // ---- where a refusal of decode points to, in the bytes of a block
@@ -300,29 +337,23 @@ fn four(s: &[u8], at: usize) -> usize {
     u32::from_le_bytes([0, 1, 2, 3].map(|k| byte(s, at.wrapping_add(k)))) as usize
 }
 
-// The byte of what a refusal names behind a block's count.
-fn item_byte(s: &[u8], count: Item<u64>, refusal: Refusal) -> usize {
+// The byte of what a refusal names behind a block's count, by the refusal's number: an operation, a batch's flags or its nibbles, or the batch count.
+fn item_byte(s: &[u8], count: Item<u64>, number: u8, place: usize) -> usize {
     let batch_count = operation_byte(s, count.next, count.item as usize);
     let nibbles = batch_count.wrapping_add(4);
-    match refusal {
-        Refusal::Unassigned { operation } | Refusal::BadValue { operation } => operation_byte(
-            s, count.next, operation,
-        ),
-        Refusal::BadNibble { batch }
-        | Refusal::PastOperations { batch }
-        | Refusal::NoSlot { batch }
-        | Refusal::SlotTaken { batch } => nibbles.wrapping_add(batch.wrapping_mul(4)),
-        Refusal::BadPadding { batch } => nibbles
+    match number {
+        4 | 17 => operation_byte(s, count.next, place),
+        ..6 => batch_count,
+        10 => nibbles
             .wrapping_add(four(s, batch_count).wrapping_mul(4))
-            .wrapping_add(batch),
-        _ => batch_count,
+            .wrapping_add(place),
+        _ => nibbles.wrapping_add(place.wrapping_mul(4)),
     }
 }
 
 // The byte that a refusal points to, where it has one; the block is at a byte.
-pub fn place_byte(s: &[u8], from: usize, refusal: Refusal) -> Option<usize> {
+pub fn refusal_byte(s: &[u8], from: usize, refusal: Refusal) -> Option<usize> {
     match refusal {
-        Refusal::CutShort { byte } => Some(byte),
         Refusal::PastEnd
         | Refusal::LeftOver
         | Refusal::EmptyList
@@ -331,14 +362,19 @@ pub fn place_byte(s: &[u8], from: usize, refusal: Refusal) -> Option<usize> {
         | Refusal::BadStructure { .. }
         | Refusal::BadCommitment { .. }
         | Refusal::Unfinished { .. } => None,
-        _ => Some(wire::read_count(s, from).map_or(from, |count| item_byte(s, count, refusal))),
+        _ => Some(place_byte(s, from, refusal.number(), refusal.place())),
     }
 }
 
 // The number of a refusal of decode, and the byte that it points to, where it has one.
-pub fn print_numbered(page: &mut Page, s: &[u8], from: usize, refusal: Refusal) -> fmt::Result {
+pub fn write_numbered<W: Write>(
+    page: &mut W,
+    s: &[u8],
+    from: usize,
+    refusal: Refusal,
+) -> fmt::Result {
     write!(page, "{}", refusal.number())?;
-    match place_byte(s, from, refusal) {
+    match refusal_byte(s, from, refusal) {
         Some(byte) => write!(page, " at byte {byte}"),
         None => Ok(()),
     }

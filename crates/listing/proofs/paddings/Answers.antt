@@ -9,8 +9,8 @@ use Rattle.std.proofs.lemmas.List.FromFn.{length-range_with_len}
 use Rattle.std.proofs.lemmas.Fn.{chained_keeps}
 use Rattle.std.proofs.lemmas.Iterator.{YieldsList-from_range}
 use Rattle.std.proofs.lemmas.Iterator.Consumers.{count_from_yields_List}
-use Rattle.listing.proofs.Paddings.{one_more}
-use Rattle.listing.proofs.Runs.paddings.Goals as goal
+use Rattle.listing.proofs.Totals.{one_more}
+use Rattle.listing.proofs.paddings.Goals as goal
 
 pub returns : goal.returns
 returns c =
