@@ -1,5 +1,5 @@
 -- The numbers of the functions in a file.
-use Rattle.std.specs.Prelude.{ℕ}
+use Rattle.std.specs.Prelude.{ℕ, ◌≡◌, ◌<◌, ◌⊎◌}
 use Rattle.cases.specs.declared.Function.{Function}
 use Rattle.cases.specs.declared.Function.TheVariants.{Build, Encode, Decode, Structure, Padding, Commitment, RawTable, PaddedTable, PaddedIndex, RawIndex, Group, NextGroup, DecodeStrict, Compare}
 
@@ -18,3 +18,7 @@ number_of Group = 11
 number_of NextGroup = 12
 number_of DecodeStrict = 13
 number_of Compare = 14
+
+-- the function of any number: compare where it is no other's
+abbrev pub Names : ℕ → Function → Type 0
+Names n function = (n ≡ number_of function) ⊎ (((n ≡ 0) ⊎ (14 < n)) × (function ≡ Compare))

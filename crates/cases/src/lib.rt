@@ -2,7 +2,7 @@
 #![tactic(auto)]
 
 ghost use Rattle.std.specs.Prelude.{◌≡◌, ◌≤◌, ◌<◌, ◌==◌, ◌⊎◌, length, IsTrue, IfSome, MatchOption, false};
-ghost use Rattle.cases.specs.Functions.{number_of};
+ghost use Rattle.cases.specs.Functions.{number_of, Names};
 ghost use Rattle.cases.specs.Lines.{StartsWith, StartsRun};
 
 use std::fmt;
@@ -75,6 +75,14 @@ struct Head {
 // No run is longer.
 const MOST: usize = 1343652;
 
+// How much room a line says for a block.
+#[derive(Clone, Copy, Debug, PartialEq, Eq)]
+pub struct Rooms {
+    pub codes: usize,
+    pub values: usize,
+    pub records: usize,
+}
+
 impl<'a> Line<'a> {
     pub fn new(text: &'a [u8]) -> Line<'a>
         ensures { result.rest.now ≡ text.now }
@@ -101,6 +109,14 @@ impl<'a> Line<'a> {
         ensures { IfSome result (λ n. StartsWith self.old.rest.now n self.new.rest.now) }
     {
         Some(self.number()? as usize)
+    }
+
+    // Past so many numbers.
+    fn pass(&mut self, n: usize) -> Option<()> {
+        for _ in 0..n {
+            self.number()?;
+        }
+        Some(())
     }
 
     fn head(&mut self, most: usize) -> Option<Head>
@@ -142,6 +158,42 @@ impl<'a> Line<'a> {
             *item = T::SOIL;
         }
         Some(lent)
+    }
+
+    // How much room that is, for who has none at hand: at most so much.
+    pub fn lent(&mut self, most: usize) -> Option<usize>
+        ensures bound { IfSome result (λ lent. lent ≤ most) }
+        ensures told { IfSome result (λ lent. StartsWith self.old.rest.now lent self.new.rest.now) }
+    {
+        let n = self.index()?;
+        if most < n {
+            return None;
+        }
+        Some(n)
+    }
+
+    // The same of a block: at most so many operations, and their records.
+    fn rooms(&mut self, most: usize) -> Option<Rooms>
+        ensures { IfSome result (λ r. (r.codes ≤ most) × (r.values ≤ most) × (r.records ≤ 1343652)) }
+    {
+        Some(Rooms {
+            codes: self.lent(most)?,
+            values: self.lent(most)?,
+            records: self.lent(MOST)?,
+        })
+    }
+
+    pub fn block_room(&mut self) -> Option<Rooms>
+        ensures { IfSome result (λ r. (r.codes ≤ 65536) × (r.values ≤ 65536) × (r.records ≤ 1343652)) }
+    {
+        self.rooms(65536)
+    }
+
+    // Working room for one of two blocks that are compared: no case of theirs needs more.
+    pub fn pair_room(&mut self) -> Option<Rooms>
+        ensures { IfSome result (λ r. (r.codes ≤ 16384) × (r.values ≤ 16384) × (r.records ≤ 1343652)) }
+    {
+        self.rooms(16384)
     }
 }
 
@@ -192,6 +244,15 @@ impl Function {
     }
 }
 
+// Any number has one: compare is that of all that are no other's.
+impl From<u64> for Function {
+    ghost from_gives = { λ n function. Names n function };
+
+    fn from(number: u64) -> Function {
+        Function::numbered(number).unwrap_or(Function::Compare)
+    }
+}
+
 impl fmt::Display for Function {
     fn fmt<W: fmt::Write>(&self, f: &mut fmt::Formatter<W>) -> fmt::Result {
         match self {
@@ -213,8 +274,13 @@ impl fmt::Display for Function {
     }
 }
 
+// The function of any number.
+pub fn say_function(rt: HostRuntime, what: u64) {
+    console::print_pieces(rt, Function::from(what));
+}
+
 // A case: which line of the file it is, its function and table, what is left of its line, and whether all was alike so far.
-#[derive(Drop)]
+#[derive(Clone, Copy)]
 pub struct Case<'a> {
     pub rt: HostRuntime,
     pub place: usize,
@@ -225,8 +291,8 @@ pub struct Case<'a> {
 }
 
 impl Case<'_> {
-    // A line about what differs.
-    fn differs<D: fmt::Display + Drop>(&mut self, what: D)
+    // A line about what differs, and how.
+    fn differs<D: fmt::Display + Drop>(&mut self, what: &[u8], how: D)
         ensures { self.new.same ≡ false }
     {
         self.same = false;
@@ -235,17 +301,19 @@ impl Case<'_> {
             function,
             ..
         } = self;
-        console::print_pieces(self.rt, format_args!("  line {place}, {function}: {what}"));
+        console::print_pieces(self.rt, format_args!("  line {place}, {function}: "));
+        console::print_bytes(self.rt, what);
+        console::print_pieces(self.rt, how);
     }
 
-    fn hold(&mut self, what: &str, ours: usize, theirs: usize) {
+    fn hold(&mut self, what: &[u8], ours: usize, theirs: usize) {
         if ours != theirs {
-            self.differs(format_args!("{what} is {ours}, in the file {theirs}\n"));
+            self.differs(what, format_args!(" is {ours}, in the file {theirs}\n"));
         }
     }
 
     // One number of the reply.
-    pub fn is(&mut self, what: &str, ours: usize) -> Option<()> {
+    pub fn is(&mut self, what: &[u8], ours: usize) -> Option<()> {
         let theirs = self.line.index()?;
         self.hold(what, ours, theirs);
         Some(())
@@ -254,33 +322,43 @@ impl Case<'_> {
     // The number of refusal, as a reply to C has it, and its place, which the original does not always name: the text has
     // usize::MAX for it.
     pub fn refusal(&mut self, number: u8, place: usize) -> Option<()> {
-        self.is("number", usize::from(number))?;
+        self.is(b"number", usize::from(number))?;
         let theirs = self.line.index()?;
         if theirs != usize::MAX {
-            self.hold("place", place, theirs);
+            self.hold(b"place", place, theirs);
         }
         Some(())
     }
 
-    // A run of outputs.
-    pub fn run_is<T: Item>(&mut self, what: &str, ours: &[T]) -> Option<()>
-        ensures { IfSome result (λ _. IsTrue self.new.same → IsTrue self.old.same × StartsRun self.old.line.rest.now (length ours.now)) }
+    // The first item of ours that is not the file's, where so many are given; the line goes on behind those that it was held against.
+    fn first_apart<T: Item>(&mut self, given: usize, ours: &[T]) -> Option<Option<usize>>
+        ensures alike { self.new.same ≡ self.old.same }
+        ensures within { IfSome result (λ first. IfSome first (λ i. i < length ours.now)) }
     {
-        let Head { length, given } = self.line.head(MOST)?;
         let mut theirs = 0;
-        let mut first = None;
-        for i in 0..length {
+        for (i, item) in ours.iter().enumerate() {
             if i < given {
                 theirs = self.line.number()?;
             }
-            if first.is_none() && ours.get(i).is_some_and(|x| x.number() != theirs) {
-                first = Some(i);
+            if item.number() != theirs {
+                return Some(Some(i));
             }
         }
+        Some(None)
+    }
+
+    // A run of outputs. It is gone over as far as ours reaches, and the line as far as items are given: the length that the line says may be any.
+    pub fn run_is<T: Item>(&mut self, what: &[u8], ours: &[T]) -> Option<()>
+        ensures { IfSome result (λ _. IsTrue self.new.same → IsTrue self.old.same × StartsRun self.old.line.rest.now (length ours.now)) }
+    {
+        let Head { length, given } = self.line.head(MOST)?;
+        let first = self.first_apart(given, ours)?;
+        let held = first.map_or(ours.len(), |i| i + 1);
+        self.line.pass(given.saturating_sub(held))?;
         if ours.len() != length {
-            self.differs(format_args!("{what} are not so many as in the file\n"));
+            self.differs(what, " are not so many as in the file\n");
         } else if let Some(i) = first {
-            self.differs(format_args!("{what} differ first at {i}\n"));
+            self.differs(what, format_args!(" differ first at {i}\n"));
         }
         Some(())
     }
@@ -294,13 +372,13 @@ impl Case<'_> {
         operations: usize,
     ) -> Option<()> {
         self.refusal(number, place)?;
-        self.is("batches", batches)?;
-        self.is("operations", operations)
+        self.is(b"batches", batches)?;
+        self.is(b"operations", operations)
     }
 
     pub fn block_is(&mut self, codes: &[u8], values: &[u64], records: &[u8]) -> Option<()> {
-        self.run_is("opcodes", codes)?;
-        self.run_is("values", values)?;
-        self.run_is("records", records)
+        self.run_is(b"opcodes", codes)?;
+        self.run_is(b"values", values)?;
+        self.run_is(b"records", records)
     }
 }

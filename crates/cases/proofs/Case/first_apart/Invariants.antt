@@ -1,5 +1,5 @@
 use mathlib.Core.Path.{◌≡◌}
-use Rattle.cases.proofs.Case.run_is.Given as goal
+use Rattle.cases.proofs.Case.first_apart.Given as goal
 
 abbrev pub invariant-loop-i : goal.invariant-loop-i
 invariant-loop-i g l = l.self.same ≡ l.fn.self.same
