@@ -5,7 +5,7 @@
 
 use build::Totals;
 use checks::Arena;
-use console::{Filled, Page, Text, quote, quote_name};
+use console::{Filled, Page, Quoted, Text, quote_name};
 use listing::{After, Block, Decoded, Runs};
 use operation::Kind;
 use refusal::Refusal;
@@ -141,7 +141,7 @@ struct Wrong<'a> {
 
 impl fmt::Display for Wrong<'_> {
     fn fmt<W: fmt::Write>(&self, f: &mut fmt::Formatter<W>) -> fmt::Result {
-        let words = quote(text::words(self.line), 40);
+        let words = Quoted::of(text::words(self.line), 40);
         write!(f, "line {}: {words}: {}", self.place, self.fault)
     }
 }
@@ -235,14 +235,14 @@ fn replaceable(rt: HostRuntime, path: &[u8]) -> bool {
 // Whether the bytes could be put in a file; a line says why not.
 fn save(rt: HostRuntime, path: &[u8], bytes: &[u8]) -> bool {
     if !replaceable(rt, path) {
-        console::wrong(rt, "batch", path, "not a file that can be replaced");
+        console::wrong(rt, b"batch", path, b"not a file that can be replaced");
         return false;
     }
     let mut new = Text::<4100>::new(); // a name has at most 4096 bytes
     new.push(path);
     new.push(b".new");
     if let Err(failed) = replace(rt, path, new.as_bytes(), bytes) {
-        console::fail(rt, "batch", failed.name, failed.error);
+        console::fail(rt, b"batch", failed.name, failed.error);
         return false;
     }
     true
@@ -254,10 +254,15 @@ fn save(rt: HostRuntime, path: &[u8], bytes: &[u8]) -> bool {
 #[derive(Clone, Copy)]
 struct Hex<'a>(&'a [u8]);
 
+const DIGITS: [char; 16] = [
+    '0', '1', '2', '3', '4', '5', '6', '7', '8', '9', 'a', 'b', 'c', 'd', 'e', 'f',
+];
+
 impl fmt::Display for Hex<'_> {
     fn fmt<W: fmt::Write>(&self, f: &mut fmt::Formatter<W>) -> fmt::Result {
         for b in self.0 {
-            write!(f, "{b:02x}")?;
+            f.write_char(DIGITS[usize::from(b / 16)])?;
+            f.write_char(DIGITS[usize::from(b % 16)])?;
         }
         Ok(())
     }
@@ -265,14 +270,15 @@ impl fmt::Display for Hex<'_> {
 
 fn print_line(rt: HostRuntime, runs: Runs, block: Block) -> fmt::Result {
     let mut page = Page::output(rt);
-    listing::print_line(&mut page, runs, block, After::Unasked)?;
+    listing::write_line(&mut page, runs.records, block, After::Unasked)?;
     page.flush()
 }
 
-// A line has 32 bytes.
+// The bytes are a writing of their own, after the batches. A line has 32 of them.
 fn print_block(rt: HostRuntime, runs: Runs, block: Block, bytes: &[u8]) -> fmt::Result {
     let mut page = Page::output(rt);
-    listing::print_block(&mut page, runs, block, After::Unasked)?;
+    listing::write_block(&mut page, runs, block, After::Unasked)?;
+    page.flush()?;
     writeln!(page, "bytes")?;
     for line in bytes.chunks(32) {
         writeln!(page, "{}", Hex(line))?;
@@ -344,31 +350,32 @@ fn batch(
 // ---- a list
 
 fn tell_wrong(rt: HostRuntime, name: &[u8], wrong: Wrong) {
-    console::tell(rt, format_args!("batch: {}: {wrong}\n", quote_name(name)));
+    console::tell_text(rt, format_args!("batch: {}: {wrong}\n", quote_name(name)));
 }
 
 fn tell_refusal(rt: HostRuntime, name: &[u8], refusal: Refusal) {
     let number = refusal.number();
-    console::tell(
+    console::tell_text(
         rt,
         format_args!("batch: {}: refusal {number}: {refusal}\n", quote_name(name)),
     );
 }
 
-// The room for the list's bytes takes the block's in the end.
+// The room for the list's bytes takes the block's in the end. Never drawn into its caller, so that the stack has no room for a list that is not read.
+#[inline(never)]
 fn batch_from<F: Read>(rt: HostRuntime, name: &[u8], file: Option<&[u8]>, from: &mut F) {
     let mut room = space::bytes();
     let mut list = List::new();
     match console::read(from, &mut room) {
         Ok(Filled::Full(_)) => {
-            return console::wrong(rt, "batch", name, "longer than 1048575 bytes");
+            return console::wrong(rt, b"batch", name, b"longer than 1048575 bytes");
         }
         Ok(Filled::Whole(text)) => {
             if let Err(wrong) = read(text, &mut list) {
                 return tell_wrong(rt, name, wrong);
             }
         }
-        Err(error) => return console::fail(rt, "batch", name, error),
+        Err(error) => return console::fail(rt, b"batch", name, error),
     }
     if let Err(refusal) = batch(rt, file, &list, &mut room) {
         tell_refusal(rt, name, refusal);
@@ -378,7 +385,7 @@ fn batch_from<F: Read>(rt: HostRuntime, name: &[u8], file: Option<&[u8]>, from: 
 fn batch_file(rt: HostRuntime, name: &[u8], file: Option<&[u8]>) {
     match console::open(rt, name) {
         Ok(mut from) => batch_from(rt, name, file, &mut from),
-        Err(error) => console::fail(rt, "batch", name, error),
+        Err(error) => console::fail(rt, b"batch", name, error),
     }
 }
 
@@ -389,7 +396,7 @@ const HELP: &str =
 
 // The i-th argument, unless it is empty.
 fn named(rt: HostRuntime, i: usize, room: &mut [u8]) -> Option<&[u8]> {
-    console::argument(rt, i, room).filter(|name| !name.is_empty())
+    console::argument_bytes(rt, i, room).filter(|name| !name.is_empty())
 }
 
 // With both arguments.
@@ -397,7 +404,7 @@ fn to_file(rt: HostRuntime, name: &[u8]) {
     let mut room = [0u8; 4096];
     match named(rt, 2, &mut room) {
         Some(file) => batch_file(rt, name, Some(file)),
-        None => console::tell(rt, "batch: the name FILE is empty or too long\n"),
+        None => console::tell_text(rt, "batch: the name FILE is empty or too long\n"),
     }
 }
 
@@ -407,14 +414,14 @@ fn main(rt: HostRuntime) {
         return batch_from(rt, b"standard input", None, &mut rt.stdin());
     }
     if 3 < count {
-        return console::tell(rt, "usage: batch [LIST [FILE]] (batch --help says more)\n");
+        return console::tell_text(rt, "usage: batch [LIST [FILE]] (batch --help says more)\n");
     }
     let mut room = [0u8; 4096];
     let Some(name) = named(rt, 1, &mut room) else {
-        return console::tell(rt, "batch: the name LIST is empty or too long\n");
+        return console::tell_text(rt, "batch: the name LIST is empty or too long\n");
     };
     if name == b"--help".as_slice() {
-        console::print(rt, HELP);
+        console::print_text(rt, HELP);
     } else if count == 2 {
         batch_file(rt, name, None);
     } else {

@@ -13,7 +13,8 @@ use checks::Arena;
 use op_batch::{Place, RECORD, RecordAt, RecordMut};
 use prefix::{PaddedIndex, RawIndex};
 use refusal::Refusal;
-use std::io;
+use std::fmt;
+use std::fmt::Write;
 use text::Radix;
 
 // ---- the numbers of a text; past the last one come zeros
@@ -65,8 +66,10 @@ impl Numbers<'_> {
     {
         let lent = self.at_most(room.len());
         let listed = self.at_most(1000);
-        for (i, place) in room.iter_mut().enumerate() {
-            *place = item(if i < listed { self.next() } else { 0 });
+        let zero = item(0);
+        word::fill(room, 0, room.len(), zero);
+        for place in room.iter_mut().take(listed) {
+            *place = item(self.next());
         }
         &room[..lent]
     }
@@ -96,45 +99,82 @@ impl Numbers<'_> {
     }
 }
 
-// ---- replies
+// ---- replies, piece by piece: one that standard output does not take is dropped, and what comes after it is tried all the same
 
-fn refused(rt: HostRuntime, refusal: Refusal) -> io::Result<()> {
-    println!(rt; "refused {} {} ", refusal.number(), refusal.place())
+#[derive(Clone, Copy)]
+struct Pieces {
+    rt: HostRuntime,
 }
 
-fn nothing(rt: HostRuntime) -> io::Result<()> {
-    println!(rt; "nothing")
+impl fmt::Write for Pieces {
+    fn write_str(&mut self, text: &str) -> fmt::Result {
+        let _ = self.rt.stdout().write_all(text.as_bytes());
+        Ok(())
+    }
 }
 
-fn show_check(rt: HostRuntime, reply: Result<(), Refusal>) -> io::Result<()> {
+fn show<D: fmt::Display + Drop>(rt: HostRuntime, piece: D) {
+    let mut pieces = Pieces { rt };
+    let _ = pieces.write(piece);
+}
+
+fn show_number(rt: HostRuntime, number: u64) {
+    show(rt, number);
+    show(rt, " ");
+}
+
+fn line(rt: HostRuntime, text: &str) {
+    show(rt, text);
+    show(rt, "\n");
+}
+
+fn refused(rt: HostRuntime, refusal: Refusal) {
+    show(rt, "refused ");
+    show_number(rt, u64::from(refusal.number()));
+    show_number(rt, refusal.place() as u64);
+    line(rt, "");
+}
+
+fn show_check(rt: HostRuntime, reply: Result<(), Refusal>) {
     match reply {
-        Ok(()) => println!(rt; "passed"),
+        Ok(()) => line(rt, "passed"),
         Err(refusal) => refused(rt, refusal),
     }
 }
 
-fn show_table(rt: HostRuntime, reply: Result<usize, Refusal>, out: &[u64]) -> io::Result<()> {
+fn show_table(rt: HostRuntime, reply: Result<usize, Refusal>, out: &[u64]) {
     for entry in out {
-        print!(rt; "{entry} ")?;
+        show_number(rt, *entry);
     }
     match reply {
-        Ok(entries) => println!(rt; "made {entries} "),
+        Ok(entries) => {
+            show(rt, "made ");
+            show_number(rt, entries as u64);
+            line(rt, "");
+        }
         Err(refusal) => refused(rt, refusal),
     }
 }
 
-fn show_place(rt: HostRuntime, reply: Result<Option<Place>, Refusal>) -> io::Result<()> {
+fn show_place(rt: HostRuntime, reply: Result<Option<Place>, Refusal>) {
     match reply {
-        Ok(Some(Place { group, place })) => println!(rt; "{group} {place} "),
-        Ok(None) => nothing(rt),
+        Ok(Some(Place { group, place })) => {
+            show_number(rt, group as u64);
+            show_number(rt, place as u64);
+            line(rt, "");
+        }
+        Ok(None) => line(rt, "nothing"),
         Err(refusal) => refused(rt, refusal),
     }
 }
 
-fn show_number(rt: HostRuntime, reply: Result<Option<usize>, Refusal>) -> io::Result<()> {
+fn show_found(rt: HostRuntime, reply: Result<Option<usize>, Refusal>) {
     match reply {
-        Ok(Some(number)) => println!(rt; "{number} "),
-        Ok(None) => nothing(rt),
+        Ok(Some(number)) => {
+            show_number(rt, number as u64);
+            line(rt, "");
+        }
+        Ok(None) => line(rt, "nothing"),
         Err(refusal) => refused(rt, refusal),
     }
 }
@@ -179,7 +219,7 @@ struct Case<'a> {
     arena: Arena<'a>,
 }
 
-fn run(rt: HostRuntime, case: Case) -> io::Result<()> {
+fn run(rt: HostRuntime, case: Case) {
     let Case {
         what,
         argument,
@@ -205,28 +245,28 @@ fn run(rt: HostRuntime, case: Case) -> io::Result<()> {
             let reply = prefix::padded_to_raw(arena, out);
             show_table(rt, reply, out)
         }
-        What::GroupOfOperation | What::NextGroup if records.len() < RECORD => Ok(()),
+        What::GroupOfOperation | What::NextGroup if records.len() < RECORD => {}
         What::GroupOfOperation => {
             let batch = RecordAt { records, b: 0 }.load();
             show_place(rt, batch.op_idx_in_batch_to_group(argument))
         }
         What::NextGroup => {
             let batch = RecordAt { records, b: 0 }.load();
-            show_number(rt, batch.next_op_group_index(argument))
+            show_found(rt, batch.next_op_group_index(argument))
         }
         What::RawIndex => {
             let raw = prefix::padded_to_raw_index(values, PaddedIndex(argument));
-            show_number(rt, Ok(raw.map(|i| i.0)))
+            show_found(rt, Ok(raw.map(|i| i.0)))
         }
         What::PaddedIndex => {
             let padded = prefix::raw_to_padded_index(values, RawIndex(argument));
-            show_number(rt, Ok(padded.map(|i| i.0)))
+            show_found(rt, Ok(padded.map(|i| i.0)))
         }
     }
 }
 
 // The first number says how many cases there are.
-fn cases(rt: HostRuntime, text: &[u8]) -> io::Result<()> {
+fn cases(rt: HostRuntime, text: &[u8]) {
     let mut table = [0; 128];
     let mut codes = space::codes();
     let mut values = space::values();
@@ -243,33 +283,32 @@ fn cases(rt: HostRuntime, text: &[u8]) -> io::Result<()> {
                 records: numbers.records(&mut records),
             },
         };
-        run(rt, case)?;
+        run(rt, case);
     }
-    Ok(())
 }
 
+const USAGE: &str = "usage: check_cases < CASES\n";
+
 const HELP: &str =
-    "usage: check_cases < CASES\nRuns each line's check, table or lookup and prints the reply; it takes no arguments.\n";
+    "Runs each line's check, table or lookup and prints the reply; it takes no arguments.\n";
 
 fn main(rt: HostRuntime) {
     if 1 < console::arguments(rt) {
-        return console::print(rt, HELP);
+        console::print_text(rt, USAGE);
+        return console::print_text(rt, HELP);
     }
     let mut space = [0u8; 65536];
     let most = space.len();
-    match console::fill(&mut rt.stdin(), &mut space) {
-        Err(error) => console::fail(rt, "check_cases", b"standard input", error),
+    match console::load(&mut rt.stdin(), &mut space) {
+        Err(broken) => console::fail(rt, b"check_cases", b"standard input", broken.error),
         Ok(text) if text.len() == most => {
             console::wrong(
                 rt,
-                "check_cases",
+                b"check_cases",
                 b"standard input",
-                "longer than 65535 bytes",
+                b"longer than 65535 bytes",
             );
         }
-        Ok(text) => {
-            // a write that fails is not told: the program never did
-            let _ = cases(rt, text);
-        }
+        Ok(text) => cases(rt, text),
     }
 }

@@ -5,7 +5,7 @@
 ghost use Rattle.std.specs.Prelude.{◌+◌, ◌<◌, ◌^◌};
 
 use comparison::{Entry, Kind, Refused, Side};
-use console::{Page, counted, quote_name};
+use console::{Count, Page, quote_name};
 use decoder::Decoded;
 use listing::Runs;
 use refusal::Refusal;
@@ -158,9 +158,9 @@ fn print_operation(
     let b = begin.batch;
     let at = begin.at.map(|at| at.wrapping_add(place));
     write!(page, "  batch {b}, its operation {place}:")?;
-    listing::print_op_at(page, blocks.first.runs, at.first)?;
+    listing::write_op_at(page, blocks.first.runs, at.first)?;
     write!(page, " /")?;
-    listing::print_op_at(page, blocks.second.runs, at.second)?;
+    listing::write_op_at(page, blocks.second.runs, at.second)?;
     writeln!(page)
 }
 
@@ -253,7 +253,7 @@ fn print_different(
     entries: usize,
 ) -> fmt::Result {
     let mut page = Page::output(rt);
-    let differences = counted(entries, "difference", "differences");
+    let differences = Count::of(entries, "difference", "differences");
     writeln!(page, "different: {sources}: {differences}")?;
     print_differences(&mut page, blocks, report, entries)?;
     page.flush()
@@ -263,14 +263,14 @@ fn print_different(
 fn print_refused(rt: HostRuntime, block: Named, s: &[u8], refusal: Refusal) -> fmt::Result {
     let mut page = Page::output(rt);
     write!(page, "refused: {block}: ")?;
-    listing::print_numbered(&mut page, s, block.source.at, refusal)?;
+    listing::write_numbered(&mut page, s, block.source.at, refusal)?;
     writeln!(page, ": {refusal}")?;
     page.flush()
 }
 
 // A block that cannot be had, without a number of refusal.
 fn not_had(rt: HostRuntime, block: Named, why: &str) {
-    console::print(rt, format_args!("refused: {block}: {why}\n"));
+    console::print_text(rt, format_args!("refused: {block}: {why}\n"));
 }
 
 // ---- the bytes of two files
@@ -318,7 +318,7 @@ fn compare_in(
         report,
     );
     match compared {
-        Ok(0) => console::print(
+        Ok(0) => console::print_text(
             rt,
             format_args!("same: {sources}: the blocks are the same\n"),
         ),
@@ -335,7 +335,7 @@ fn compare_in(
         Err(Refused::Second(refusal)) => {
             let _ = print_refused(rt, sources.named(Side::Second), bytes.second, refusal);
         }
-        Err(Refused::Report) => console::print(
+        Err(Refused::Report) => console::print_text(
             rt,
             "refused: there is no room for so many differences\n",
         ),
@@ -362,13 +362,13 @@ fn compare_bytes(rt: HostRuntime, sources: Pair<Source>, bytes: Pair<&[u8]>) {
 
 fn has_more(file: &mut File) -> bool {
     let mut next = [0u8; 1];
-    console::fill(file, &mut next).is_ok_and(|read| !read.is_empty())
+    console::fill(file, &mut next).count != 0
 }
 
 // The bytes of a file; none where they are more than the room has.
 fn read<'a>(rt: HostRuntime, path: &[u8], room: &'a mut [u8]) -> io::Result<Option<&'a [u8]>> {
     let mut file = console::open(rt, path)?;
-    let bytes = console::fill(&mut file, room)?;
+    let bytes = console::load(&mut file, room)?;
     Ok(if has_more(&mut file) {
         None
     } else {
@@ -385,22 +385,26 @@ fn had<'a>(rt: HostRuntime, block: Named, room: &'a mut [u8; 1048576]) -> Option
             None
         }
         Err(error) => {
-            not_had(rt, block, console::unread(error));
+            not_had(rt, block, console::why_unread(error));
             None
         }
     }
 }
 
+// Never drawn into its caller, so that its room is cleared only where the first file was read.
+#[inline(never)]
+fn compare_second(rt: HostRuntime, sources: Pair<Source>, first: &[u8]) {
+    let mut room = [0u8; 1048576];
+    if let Some(second) = had(rt, sources.named(Side::Second), &mut room) {
+        compare_bytes(rt, sources, Pair { first, second });
+    }
+}
+
 fn compare_files(rt: HostRuntime, sources: Pair<Source>) {
-    let mut first_room = [0u8; 1048576];
-    let mut second_room = [0u8; 1048576];
-    let Some(first) = had(rt, sources.named(Side::First), &mut first_room) else {
-        return;
-    };
-    let Some(second) = had(rt, sources.named(Side::Second), &mut second_room) else {
-        return;
-    };
-    compare_bytes(rt, sources, Pair { first, second });
+    let mut room = [0u8; 1048576];
+    if let Some(first) = had(rt, sources.named(Side::First), &mut room) {
+        compare_second(rt, sources, first);
+    }
 }
 
 // ---- arguments
@@ -412,11 +416,11 @@ const HELP: &str =
 fn compare_arguments(rt: HostRuntime, names: Pair<usize>, offsets: Pair<Option<usize>>) {
     let mut first_name = [0u8; 4096];
     let mut second_name = [0u8; 4096];
-    let Some(first) = console::argument(rt, names.first, &mut first_name) else {
-        return console::print(rt, "refused: the name of the first file is too long\n");
+    let Some(first) = console::argument_bytes(rt, names.first, &mut first_name) else {
+        return console::print_text(rt, "refused: the name of the first file is too long\n");
     };
-    let Some(second) = console::argument(rt, names.second, &mut second_name) else {
-        return console::print(rt, "refused: the name of the second file is too long\n");
+    let Some(second) = console::argument_bytes(rt, names.second, &mut second_name) else {
+        return console::print_text(rt, "refused: the name of the second file is too long\n");
     };
     let Some(first_at) = offsets.first else {
         return not_offset(rt, Side::First, first);
@@ -449,7 +453,7 @@ fn not_offset(rt: HostRuntime, side: Side, path: &[u8]) {
 // The offset that the i-th argument is.
 fn offset(rt: HostRuntime, i: usize) -> Option<usize> {
     let mut argument = [0u8; 4096];
-    let offset = text::either(console::argument(rt, i, &mut argument)?).ok()?;
+    let offset = text::either(console::argument_bytes(rt, i, &mut argument)?).ok()?;
     Some(offset as usize)
 }
 
@@ -471,13 +475,13 @@ fn compare_four(rt: HostRuntime, i: usize)
 // As replay asks it: two lines, over room of its own.
 fn is_help(rt: HostRuntime) -> bool {
     let mut word = [0u8; 4096];
-    console::argument(rt, 1, &mut word) == Some(b"--help".as_slice())
+    console::argument_bytes(rt, 1, &mut word) == Some(b"--help".as_slice())
 }
 
 // So many arguments, the program's own name not counted.
 fn run(rt: HostRuntime, count: usize) {
     match count {
-        1 if is_help(rt) => console::print(rt, HELP),
+        1 if is_help(rt) => console::print_text(rt, HELP),
         2 => {
             let names = Pair {
                 first: 1,
@@ -494,7 +498,7 @@ fn run(rt: HostRuntime, count: usize) {
                 compare_four(rt, 4 * k + 1);
             }
         }
-        _ => console::tell(
+        _ => console::tell_text(
             rt,
             "usage: compare FILE FILE, or compare FILE OFFSET FILE OFFSET... (compare --help says more)\n",
         ),

@@ -4,14 +4,15 @@
 
 ghost use Rattle.std.specs.Prelude.{◌≤◌, ◌<◌, IfSome};
 
-use console::{Filled, Page, counted, quote_name};
+use console::{Count, Filled, Page, quote_name};
 use listing::{After, Runs};
 use op_batch::OpBatch;
 use refusal::Refusal;
 use space::{List, Room};
 use std::fmt;
 use std::fmt::Write;
-use std::io::Result;
+use std::fs::File;
+use std::io::Error;
 
 // What is said is printed a line at a time to a page, which can fail; a Display would hold the runs, or take a type for each part of a sentence.
 
@@ -104,7 +105,7 @@ fn first_difference(batch: &OpBatch, made: &OpBatch) -> Option<usize>
 // What a group that is there has. That it holds a value alone can't be asked: the groups before it are the same on both sides, and so are their slots.
 impl fmt::Display for Group {
     fn fmt<W: fmt::Write>(&self, f: &mut fmt::Formatter<W>) -> fmt::Result {
-        let operations = counted(self.own, "operation", "operations");
+        let operations = Count::of(self.own, "operation", "operations");
         match (self.own, self.padded) {
             (0, false) => write!(f, "only a value"),
             (0, true) => write!(f, "only a padding"),
@@ -139,7 +140,7 @@ fn print_made(page: &mut Page, made: Group) -> fmt::Result {
 fn print_at(page: &mut Page, batch: &OpBatch, made: &OpBatch, g: usize) -> fmt::Result
     requires { g < 8 }
 {
-    let count = counted(usize::from(batch.count), "group", "groups");
+    let count = Count::of(usize::from(batch.count), "group", "groups");
     let x = Group::at(batch, g);
     let y = Group::at(made, g);
     if !x.there && !y.there {
@@ -251,11 +252,11 @@ fn check_bytes(page: &mut Page, path: &[u8], read: Filled) -> fmt::Result {
     ) {
         Ok(made) => {
             write!(page, "finished {}: ", quote_name(path))?;
-            listing::print_totals(page, Runs::from(&room), made, after(read, made.used))
+            listing::write_totals(page, &room.records, made, after(read, made.used))
         }
         Err(refusal) => {
             write!(page, "not finished {}: ", quote_name(path))?;
-            listing::print_numbered(page, s, 0, refusal)?;
+            listing::write_numbered(page, s, 0, refusal)?;
             match refusal {
                 Refusal::Unfinished { batch } => print_why(page, s, batch, &mut room)?,
                 _ => write!(page, ": {refusal}")?,
@@ -267,22 +268,30 @@ fn check_bytes(page: &mut Page, path: &[u8], read: Filled) -> fmt::Result {
 
 // ---- files
 
-// The first bytes of a file.
-fn read<'a>(rt: HostRuntime, path: &[u8], room: &'a mut [u8]) -> Result<Filled<'a>> {
-    let mut file = console::open(rt, path)?;
-    console::read(&mut file, room)
+// No block is found in it.
+fn unread(page: &mut Page, path: &[u8], error: Error) -> fmt::Result {
+    writeln!(
+        page,
+        "not finished {}: {}",
+        quote_name(path),
+        console::why_unread(error)
+    )
+}
+
+// Never drawn into its caller, so that the room is cleared, and so much of the stack reached, for a file that could be opened and for no other.
+#[inline(never)]
+fn check_open(page: &mut Page, path: &[u8], file: &mut File) -> fmt::Result {
+    let mut room = space::bytes();
+    match console::read(file, &mut room) {
+        Ok(read) => check_bytes(page, path, read),
+        Err(error) => unread(page, path, error),
+    }
 }
 
 fn check_file(rt: HostRuntime, page: &mut Page, path: &[u8]) -> fmt::Result {
-    let mut room = space::bytes();
-    match read(rt, path, &mut room) {
-        Ok(read) => check_bytes(page, path, read),
-        Err(error) => writeln!(
-            page,
-            "not finished {}: {}",
-            quote_name(path),
-            console::unread(error)
-        ),
+    match console::open(rt, path) {
+        Ok(mut file) => check_open(page, path, &mut file),
+        Err(error) => unread(page, path, error),
     }
 }
 
@@ -294,7 +303,7 @@ const HELP: &str =
 // The i-th argument.
 fn check_argument(rt: HostRuntime, page: &mut Page, i: usize) -> fmt::Result {
     let mut name = [0u8; 4096];
-    match console::argument(rt, i, &mut name) {
+    match console::argument_bytes(rt, i, &mut name) {
         None => writeln!(page, "not finished: the name of file {i} is too long"),
         Some(path) if path == b"--help".as_slice() => write!(page, "{HELP}"),
         Some(path) => check_file(rt, page, path),
@@ -312,7 +321,7 @@ fn check_arguments(rt: HostRuntime, page: &mut Page, count: usize) {
 fn main(rt: HostRuntime) {
     let count = console::arguments(rt);
     if count < 2 {
-        return console::tell(rt, "usage: finished FILE... (finished --help says more)\n");
+        return console::tell_text(rt, "usage: finished FILE... (finished --help says more)\n");
     }
     let mut page = Page::output(rt);
     check_arguments(rt, &mut page, count);

@@ -46,8 +46,8 @@ fn encode(case: &mut Case) -> Option<()> {
     let at = case.line.index()?;
     let r = exports::oli_encode(case.table, codes, values, records, out, at);
     case.refusal(r.number, r.place)?;
-    case.is("length", r.length)?;
-    case.run_is("bytes", out)
+    case.is(b"length", r.length)?;
+    case.run_is(b"bytes", out)
 }
 
 fn decode<F>(case: &mut Case, decode: F) -> Option<()>
@@ -66,7 +66,7 @@ where
     let records = case.line.room(&mut records)?;
     let r = decode(case.table, block, at, codes, values, records);
     case.made(r.number, r.place, r.batches, r.operations)?;
-    case.is("bytes used", r.used)?;
+    case.is(b"bytes used", r.used)?;
     case.block_is(codes, values, records)
 }
 
@@ -109,12 +109,12 @@ fn compare(case: &mut Case) -> Option<()> {
         two_records,
         report,
     );
-    case.is("mark", usize::from(r.mark))?;
+    case.is(b"mark", usize::from(r.mark))?;
     case.refusal(r.number, r.place)?;
-    case.is("entries", r.entries)?;
+    case.is(b"entries", r.entries)?;
     case.block_is(codes, values, records)?;
     case.block_is(two_codes, two_values, two_records)?;
-    case.run_is("report", report)
+    case.run_is(b"report", report)
 }
 
 fn check<F>(case: &mut Case, check: F) -> Option<()>
@@ -147,8 +147,8 @@ where
     let out = case.line.room(&mut out)?;
     let r = fill(codes, values, records, out);
     case.refusal(r.number, r.place)?;
-    case.is("entries", r.entries)?;
-    case.run_is("entries", out)
+    case.is(b"entries", r.entries)?;
+    case.run_is(b"entries", out)
 }
 
 fn index<F>(case: &mut Case, find: F) -> Option<()>
@@ -160,8 +160,8 @@ where
     let entries = case.line.run(&mut entries)?;
     let asked = case.line.index()?;
     let r = find(entries, asked);
-    case.is("found", usize::from(r.found))?;
-    case.is("index", r.index)
+    case.is(b"found", usize::from(r.found))?;
+    case.is(b"index", r.index)
 }
 
 fn group(case: &mut Case) -> Option<()> {
@@ -170,9 +170,9 @@ fn group(case: &mut Case) -> Option<()> {
     let asked = case.line.index()?;
     let r = exports::oli_group(record, asked);
     case.refusal(r.number, r.place)?;
-    case.is("found", usize::from(r.found))?;
-    case.is("group", r.group)?;
-    case.is("position", r.position)
+    case.is(b"found", usize::from(r.found))?;
+    case.is(b"group", r.group)?;
+    case.is(b"position", r.position)
 }
 
 fn next_group(case: &mut Case) -> Option<()> {
@@ -181,8 +181,8 @@ fn next_group(case: &mut Case) -> Option<()> {
     let asked = case.line.index()?;
     let r = exports::oli_next_group(record, asked);
     case.refusal(r.number, r.place)?;
-    case.is("found", usize::from(r.found))?;
-    case.is("group", r.group)
+    case.is(b"found", usize::from(r.found))?;
+    case.is(b"group", r.group)
 }
 
 fn run(case: &mut Case) -> Option<()> {
@@ -369,7 +369,7 @@ fn print_total(rt: HostRuntime, counts: &Counts) {
 // The file that an argument names.
 fn argument(rt: HostRuntime, i: usize, counts: &mut Counts) {
     let mut path = [0u8; 4096];
-    let path = console::argument(rt, i, &mut path).unwrap_or_default();
+    let path = console::argument_bytes(rt, i, &mut path).unwrap_or_default();
     file(rt, path, counts);
 }
 
@@ -381,13 +381,13 @@ const HELP: &str =
 // As compare asks it: two lines, over room of its own.
 fn asked_for_help(rt: HostRuntime) -> bool {
     let mut word = [0u8; 4096];
-    console::argument(rt, 1, &mut word) == Some(b"--help".as_slice())
+    console::argument_bytes(rt, 1, &mut word) == Some(b"--help".as_slice())
 }
 
 fn main(rt: HostRuntime) {
     let count = console::arguments(rt);
     if count < 2 {
-        return console::tell(rt, "usage: replay FILE.. (replay --help says more)\n");
+        return console::tell_text(rt, "usage: replay FILE.. (replay --help says more)\n");
     }
     if asked_for_help(rt) {
         return print_pieces(rt, format_args!("{USAGE}{HELP}"));

@@ -30,7 +30,7 @@ fn print_refusal(
         "show: {}: refusal {number}: {refusal}",
         quote_name(path)
     )?;
-    if let Some(byte) = listing::place_byte(s, 0, refusal) {
+    if let Some(byte) = listing::refusal_byte(s, 0, refusal) {
         let what = match refusal {
             Refusal::CutShort { .. } => "in the item that starts at byte",
             _ => "at byte",
@@ -57,7 +57,7 @@ fn after(last: usize, end: Option<usize>, read: usize, used: usize) -> After {
 
 fn print_block(rt: HostRuntime, runs: Runs, block: Block, rest: After) -> fmt::Result {
     let mut page = Page::output(rt);
-    listing::print_block(&mut page, runs, block, rest)?;
+    listing::write_block(&mut page, runs, block, rest)?;
     page.flush()
 }
 
@@ -121,7 +121,7 @@ fn offset(rt: HostRuntime, count: usize) -> std::result::Result<u64, NotNumber> 
         return Ok(0);
     }
     let mut argument = [0u8; 4096];
-    text::either(console::argument(rt, 2, &mut argument).unwrap_or_default())
+    text::either(console::argument_bytes(rt, 2, &mut argument).unwrap_or_default())
 }
 
 const HELP: &str =
@@ -130,19 +130,19 @@ const HELP: &str =
 fn main(rt: HostRuntime) {
     let count = console::arguments(rt);
     if count < 2 || 3 < count {
-        return console::tell(rt, "usage: show FILE [OFFSET] (show --help says more)\n");
+        return console::tell_text(rt, "usage: show FILE [OFFSET] (show --help says more)\n");
     }
     let mut name = [0u8; 4096];
-    let Some(path) = console::argument(rt, 1, &mut name) else {
-        return console::tell(rt, "show: the name of the file is too long\n");
+    let Some(path) = console::argument_bytes(rt, 1, &mut name) else {
+        return console::tell_text(rt, "show: the name of the file is too long\n");
     };
     if path == b"--help".as_slice() {
-        return console::print(rt, HELP);
+        return console::print_text(rt, HELP);
     }
     let Ok(at) = offset(rt, count) else {
-        return console::tell(rt, "show: OFFSET is not a number of bytes\n");
+        return console::tell_text(rt, "show: OFFSET is not a number of bytes\n");
     };
     if let Err(error) = show_file(rt, path, at as usize) {
-        console::fail(rt, "show", path, error);
+        console::fail(rt, b"show", path, error);
     }
 }
